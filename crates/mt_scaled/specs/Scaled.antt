@@ -1,0 +1,35 @@
+-- Dimensions in scaled points, and the four bytes by which a font gives one.
+use Rattle.std.specs.Prelude.{ℕ, ◌+◌, ◌*◌, ◌/◌, ℤ, pos, negsuc, ◌≤ℤ◌, ◌-ℤ◌, nat_abs, Option, Some, None, nat_le, if◌then◌else◌, ◌==◌}
+
+-- at most 2^30 - 1 in size
+abbrev pub InRange : ℤ → Type 0
+InRange x = (negsuc 1073741822 ≤ℤ x) × (x ≤ℤ pos 1073741823)
+
+-- one turn: a size of 2^23 or more is halved, and its alpha doubled
+abbrev pub halved_size : ℕ → ℕ
+halved_size size = if nat_le 8388608 size then size / 2 else size
+
+abbrev pub halved_alpha : ℕ → ℕ → ℕ
+halved_alpha size alpha = if nat_le 8388608 size then 2 * alpha else alpha
+
+-- the last three bytes at a size
+abbrev pub carried : ℕ → ℕ → ℕ → ℕ → ℕ
+carried b c d size = ((d * size) / 256 + c * size) / 256 + b * size
+
+-- at a size below 2^23, where the first byte is the sign
+abbrev pub fixed_at : ℕ → ℕ → ℕ → ℕ → ℕ → ℕ → Option ℤ
+fixed_at a b c d size alpha =
+    if a == 0 then Some (pos (carried b c d size / (256 / alpha)))
+    else (if a == 255 then Some (pos (carried b c d size / (256 / alpha)) -ℤ pos (alpha * size)) else None)
+
+-- four turns bring a size below 2^27 below 2^23
+abbrev pub fixed : ℕ → ℕ → ℕ → ℕ → ℤ → Option ℤ
+fixed a b c d z =
+    let s0 = nat_abs z in
+    let s1 = halved_size s0 in
+    let s2 = halved_size s1 in
+    let s3 = halved_size s2 in
+    let a1 = halved_alpha s0 16 in
+    let a2 = halved_alpha s1 a1 in
+    let a3 = halved_alpha s2 a2 in
+    fixed_at a b c d (halved_size s3) (halved_alpha s3 a3)
