@@ -1,9 +1,5 @@
--- Dimensions in scaled points, and the four bytes by which a font gives one.
-use Rattle.std.specs.Prelude.{ℕ, ◌+◌, ◌*◌, ◌/◌, ℤ, pos, negsuc, ◌≤ℤ◌, ◌-ℤ◌, nat_abs, Option, Some, None, nat_le, if◌then◌else◌, ◌==◌}
-
--- at most 2^30 - 1 in size
-abbrev pub InRange : ℤ → Type 0
-InRange x = (negsuc 1073741822 ≤ℤ x) × (x ≤ℤ pos 1073741823)
+-- The four bytes by which a font file gives a dimension, at the font's size.
+use Rattle.std.specs.Prelude.{ℕ, ◌+◌, ◌*◌, ◌/◌, ℤ, pos, ◌-ℤ◌, nat_abs, Option, Some, None, nat_le, if◌then◌else◌, ◌==◌}
 
 -- one turn: a size of 2^23 or more is halved, and its alpha doubled
 abbrev pub halved_size : ℕ → ℕ
