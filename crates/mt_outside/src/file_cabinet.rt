@@ -1,0 +1,93 @@
+//! A cabinet over the files of a system. What a file holds is not told.
+ghost use Rattle.std.specs.Prelude.{◌≡◌, ◌<◌, ◌≤◌, ◌^◌, vec_len, IfOk, None};
+
+use crate::copies::copy_name;
+use crate::{Cabinet, FetchError};
+use mt_scaled::{Bytes, Name};
+use std::alloc::Global;
+use std::fs;
+use std::io::Read;
+use std::marker::Model;
+use std::rt::Files;
+
+/// The files of a system, by their paths. Contracts see its count of faults and the name of the last one.
+#[derive(Drop)]
+pub struct FileCabinet<'a, R: Files> {
+    rt: &'a R,
+    faults: u64,
+    lost: Option<Name>,
+}
+
+impl<'a, R: Files> Model for FileCabinet<'a, R> {
+    ghost use Rattle.mt_outside.specs.Memory.{FaultState};
+
+    ghost Value = { FaultState };
+
+    ghost view = { λ c. record { faults = c.faults; lost = c.lost } };
+}
+
+impl<'a, R: Files> FileCabinet<'a, R> {
+    /// A cabinet of the files that `rt` can open. Takes no memory.
+    pub fn new(rt: &'a R) -> Self
+        ensures { result ≡ record { faults = 0; lost = None } }
+    {
+        FileCabinet {
+            rt,
+            faults: 0,
+            lost: None,
+        }
+    }
+}
+
+// Reads a file to its end, if it has no more than `limit` bytes.
+fn read_within<R: Files>(
+    rt: &R,
+    alloc: Global,
+    name: &str,
+    limit: u64,
+) -> Result<Vec<u8>, FetchError>
+    requires { limit < 2 ^ 40 }
+    ensures { IfOk result (λ bytes. vec_len bytes ≤ limit) }
+{
+    let mut file = match fs::open(rt, name) {
+        Ok(file) => file,
+        Err(_) => return Err(FetchError::Failed),
+    };
+    let mut bytes = Vec::new(alloc);
+    let mut buffer = [0u8; 4096];
+    for _ in 0..=limit {
+        let count = match file.read(&mut buffer) {
+            Ok(count) => count,
+            Err(_) => return Err(FetchError::Failed),
+        };
+        if count == 0 {
+            return Ok(bytes);
+        }
+        bytes.extend_from_slice(&buffer[..count])?;
+        if bytes.len() as u64 > limit {
+            return Err(FetchError::TooLong);
+        }
+    }
+    Err(FetchError::TooLong)
+}
+
+impl<R: Files> Cabinet for FileCabinet<'_, R> {
+    ghost holds = { λ c. None };
+
+    ghost faults = { λ c. c.faults };
+
+    ghost lost = { λ c. c.lost };
+
+    fn fetch(&mut self, alloc: Global, name: &str, limit: u64) -> Result<Bytes, FetchError> {
+        let lost = copy_name(alloc, name)?;
+        match read_within(self.rt, alloc, name, limit) {
+            Ok(bytes) => Ok(Bytes::from_vec(bytes)),
+            Err(FetchError::Failed) => {
+                self.faults = self.faults.saturating_add(1);
+                self.lost = Some(lost);
+                Err(FetchError::Failed)
+            }
+            Err(error) => Err(error),
+        }
+    }
+}

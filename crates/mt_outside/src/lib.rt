@@ -1,0 +1,26 @@
+//! Where files come from and where bytes go: cabinets and sinks, in memory and over the system's.
+//!
+//! What a cabinet holds and what a sink has taken are told where they can be known, so that contracts can speak of
+//! them. A real file or stream tells nothing. Each failure is counted, so that none can be passed over.
+#![tactic(auto)]
+
+mod cabinet;
+mod copies;
+mod file_cabinet;
+mod files;
+mod memory_cabinet;
+mod memory_sink;
+mod sink;
+mod steady_cabinet;
+mod steady_sink;
+mod stream_sink;
+
+pub use cabinet::{Cabinet, FetchError};
+pub use file_cabinet::FileCabinet;
+pub use files::{CallList, FileList, Held};
+pub use memory_cabinet::MemoryCabinet;
+pub use memory_sink::MemorySink;
+pub use sink::{PutError, Sink, write_all};
+pub use steady_cabinet::SteadyCabinet;
+pub use steady_sink::SteadySink;
+pub use stream_sink::StreamSink;
