@@ -1,0 +1,64 @@
+//! The tokens of a whole source.
+ghost use Rattle.std.specs.Prelude.{◌≡◌, ◌≤◌, ◌++◌, ◌∷◌, [], length, drop, IfOk, OnOk};
+ghost use Rattle.mt_token.specs.Tokens.{lexed, Lexes, SpansInOrder};
+
+use crate::piece::{Piece, State, next_piece};
+use crate::token::{Token, TokenError, TokenList};
+use std::alloc::{AllocError, Global};
+
+/// The greatest number of bytes of a source.
+const MAX_SOURCE: usize = 4_194_304;
+
+fn from(bytes: &[u8], at: usize) -> &[u8]
+    requires { at ≤ length bytes.now }
+    ensures { result.now ≡ drop at bytes.now }
+{
+    &bytes[at..]
+}
+
+fn push_token(list: &mut Vec<Token>, token: Token) -> Result<(), AllocError>
+    ensures { OnOk result (list.new.items ≡ list.old.items ++ token ∷ []) }
+{
+    list.push(token)?;
+    Ok(())
+}
+
+/// The tokens of a source, in order, each with the offsets of its first byte and past its last one.
+///
+/// Bytes that are skipped (blanks, comments) belong to no token.
+///
+/// # Errors
+///
+/// `TooLong` exactly above 4,194,304 bytes. Otherwise `NotAscii` or `BadByte` with the offset of the first byte at fault: `NotAscii` at a byte above 127 outside a comment, `BadByte` at any other byte that cannot stand there, at a `\` that nothing or a blank follows, and at the second `^` of `^^`. `OutOfMemory` where memory ran out.
+pub fn tokens(alloc: Global, bytes: &[u8]) -> Result<TokenList, TokenError>
+    ensures is { Lexes result (lexed bytes.now) }
+    ensures ordered { IfOk result (λ list. SpansInOrder 0 list (length bytes.now)) }
+{
+    if bytes.len() > MAX_SOURCE {
+        return Err(TokenError::TooLong);
+    }
+    let mut list = Vec::new(alloc);
+    let mut state = State::New;
+    let mut at = 0;
+    while at < bytes.len() {
+        match next_piece(alloc, state, from(bytes, at))? {
+            Piece::Passed(count, next) => {
+                at += count;
+                state = next;
+            }
+            Piece::Made(kind, count, next) => {
+                let token = Token {
+                    kind,
+                    start: at as u32,
+                    end: (at + count) as u32,
+                };
+                push_token(&mut list, token)?;
+                at += count;
+                state = next;
+            }
+            Piece::NotAscii(on) => return Err(TokenError::NotAscii((at + on) as u32)),
+            Piece::BadByte(on) => return Err(TokenError::BadByte((at + on) as u32)),
+        }
+    }
+    Ok(TokenList::from_vec(list))
+}

@@ -1,0 +1,14 @@
+//! Tokens: the source's bytes as TeX's eyes read them.
+//!
+//! The rules are those of The TeXbook, chapter 8, and of tex.web part 24 (§§343 to 356), with plain TeX's category codes. What this crate refuses is listed in docs/RULES.md.
+#![tactic(auto)]
+
+mod lexer;
+mod piece;
+mod token;
+
+pub use lexer::tokens;
+pub use token::{Token, TokenError, TokenKind, TokenList};
+
+#[cfg(test)]
+mod tests;

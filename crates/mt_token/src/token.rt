@@ -1,0 +1,92 @@
+//! Tokens, and why a source has none.
+ghost use Rattle.std.specs.Prelude.{◌≡◌, ◌<◌, IfOk};
+ghost use Rattle.mt_token.specs.declared.token.TokenError.TheVariants.{OutOfMemory};
+
+use mt_scaled::{Items, Name};
+use std::alloc::{AllocError, Global};
+use thiserror::Error;
+
+/// What a token is.
+#[derive(Debug, Drop)]
+pub enum TokenKind {
+    /// A control word or a control symbol, by its name without the `\`; `par` at an empty line.
+    Control(Name),
+    /// A character other than a blank, by its ASCII code.
+    Char(u8),
+    /// The space that a run of blanks, or the end of a line, stands for.
+    Space,
+}
+
+/// A token, with the offsets in the source of its first byte and past its last one.
+///
+/// The code of a `Char` is below 128.
+#[derive(Debug, Drop)]
+pub struct Token {
+    /// What the token is.
+    pub kind: TokenKind,
+    /// The offset of its first byte.
+    pub start: u32,
+    /// The offset past its last byte.
+    pub end: u32,
+    ghost ascii: { character_of kind < 128 },
+}
+
+ghost use Rattle.mt_token.specs.Character.{character_of};
+
+/// A list of tokens.
+pub type TokenList = Items<Token>;
+
+/// Why a source has no tokens. The offset is that of the first byte at fault, counted from 0.
+#[derive(Clone, Copy, Debug, PartialEq, Eq, Error)]
+pub enum TokenError {
+    /// A byte above 127 outside a comment.
+    #[error("byte {0} is not ASCII")]
+    NotAscii(u32),
+    /// Another byte that cannot stand there.
+    #[error("byte {0} cannot stand there")]
+    BadByte(u32),
+    /// The source has more than 4,194,304 bytes.
+    #[error("the source is too long")]
+    TooLong,
+    /// Memory ran out.
+    #[error("out of memory")]
+    OutOfMemory,
+}
+
+impl From<AllocError> for TokenError {
+    ghost from_gives = { λ _ e. e ≡ OutOfMemory };
+
+    fn from(_: AllocError) -> Self {
+        TokenError::OutOfMemory
+    }
+}
+
+impl TokenKind {
+    /// The same kind once more, in memory of its own.
+    pub fn copied(&self, alloc: Global) -> Result<TokenKind, AllocError>
+        ensures { IfOk result (λ kind. kind ≡ self.now) }
+    {
+        match self {
+            TokenKind::Control(name) => {
+                let mut bytes = Vec::new(alloc);
+                bytes.extend_from_slice(name.as_slice())?;
+                Ok(TokenKind::Control(Name::from_vec(bytes)))
+            }
+            TokenKind::Char(c) => Ok(TokenKind::Char(*c)),
+            TokenKind::Space => Ok(TokenKind::Space),
+        }
+    }
+}
+
+impl Token {
+    /// The same token once more, in memory of its own.
+    pub fn copied(&self, alloc: Global) -> Result<Token, AllocError>
+        ensures { IfOk result (λ token. token ≡ self.now) }
+    {
+        Ok(Token {
+            kind: self.kind.copied(alloc)?,
+            start: self.start,
+            end: self.end,
+        })
+    }
+}
