@@ -1,0 +1,165 @@
+//! The forms of a line of a font list.
+ghost use Rattle.std.specs.Prelude.{◌≡◌, ◌≤◌, IfOk, IfSome, option_map};
+ghost use Rattle.mt_family.specs.declared.line.Said.TheVariants.{Family};
+ghost use Rattle.mt_family.specs.Lines.{ranged, dashed, font_said, family_said, fields_said, line_said, starts_blank, ends_blank, is_comment};
+
+use crate::fields::{fields, is_name, number};
+use crate::list::FontLine;
+use mt_scaled::Name;
+use std::alloc::{AllocError, Global};
+
+/// What a line says: nothing (it is empty or a comment), a font, or a family.
+#[derive(Drop)]
+pub enum Said {
+    Nothing,
+    Font(FontLine),
+    Family(FamilySaid),
+}
+
+/// A family line, its font numbers as they are written.
+#[derive(Clone, Copy)]
+pub struct FamilySaid {
+    pub fam: u8,
+    pub text: Option<u64>,
+    pub script: Option<u64>,
+    pub scriptscript: Option<u64>,
+}
+
+// A number within bounds.
+fn ranged(low: u64, high: u64, field: &[u8]) -> Option<u64>
+    ensures is { result ≡ ranged low high field.now }
+    ensures high { IfSome result (λ n. n ≤ high) }
+{
+    match number(field) {
+        Some(n) if low <= n && n <= high => Some(n),
+        _ => None,
+    }
+}
+
+// A number up to a bound, or a dash. `None` is neither.
+fn dashed(high: u64, field: &[u8]) -> Option<Option<u64>>
+    ensures is { result ≡ dashed high field.now }
+    ensures high { IfSome result (λ one. IfSome one (λ n. n ≤ high)) }
+{
+    if field == b"-".as_slice() {
+        return Some(None);
+    }
+    match ranged(0, high, field) {
+        Some(n) => Some(Some(n)),
+        None => None,
+    }
+}
+
+fn copied(alloc: Global, name: &[u8]) -> Result<Name, AllocError>
+    ensures { IfOk result (λ copy. copy ≡ name.now) }
+{
+    let mut bytes = Vec::new(alloc);
+    bytes.extend_from_slice(name)?;
+    Ok(Name::from_vec(bytes))
+}
+
+fn font_said(
+    alloc: Global,
+    name: &[u8],
+    size: &[u8],
+    skew: &[u8],
+) -> Result<Option<Said>, AllocError>
+    ensures { IfOk result (λ said. said ≡ font_said name.now size.now skew.now) }
+{
+    if !is_name(name) {
+        return Ok(None);
+    }
+    match (ranged(1, 134_217_727, size), dashed(255, skew)) {
+        (Some(at), Some(skew)) => {
+            let name = copied(alloc, name)?;
+            Ok(Some(Said::Font(FontLine {
+                name,
+                at: at as i64,
+                skew: narrow(skew),
+            })))
+        }
+        _ => Ok(None),
+    }
+}
+
+fn narrow(skew: Option<u64>) -> Option<u8>
+    requires { IfSome skew (λ n. n ≤ 255) }
+    ensures { result ≡ skew }
+{
+    match skew {
+        Some(n) => Some(n as u8),
+        None => None,
+    }
+}
+
+fn family_said(fam: &[u8], text: &[u8], script: &[u8], small: &[u8]) -> Option<FamilySaid>
+    ensures { option_map Family result ≡ family_said fam.now text.now script.now small.now }
+{
+    let fam = ranged(0, 15, fam)?;
+    let text = dashed(9_999_999_999, text)?;
+    let script = dashed(9_999_999_999, script)?;
+    let scriptscript = dashed(9_999_999_999, small)?;
+    Some(FamilySaid {
+        fam: fam as u8,
+        text,
+        script,
+        scriptscript,
+    })
+}
+
+fn fields_said(alloc: Global, fields: &[Name]) -> Result<Option<Said>, AllocError>
+    ensures { IfOk result (λ said. said ≡ fields_said fields.now) }
+{
+    match fields {
+        [kind, a, b, c] if kind.as_slice() == b"font".as_slice() => {
+            font_said(alloc, a.as_slice(), b.as_slice(), c.as_slice())
+        }
+        [kind, a, b, c, d] if kind.as_slice() == b"family".as_slice() => {
+            Ok(family_said(a.as_slice(), b.as_slice(), c.as_slice(), d.as_slice()).map(
+                Said::Family,
+            ))
+        }
+        _ => Ok(None),
+    }
+}
+
+fn is_comment(line: &[u8]) -> bool
+    ensures { result ≡ is_comment line.now }
+{
+    match line {
+        [b, ..] => *b == b'%',
+        [] => true,
+    }
+}
+
+fn starts_blank(line: &[u8]) -> bool
+    ensures { result ≡ starts_blank line.now }
+{
+    match line {
+        [b, ..] => *b == b' ',
+        [] => false,
+    }
+}
+
+fn ends_blank(line: &[u8]) -> bool
+    ensures { result ≡ ends_blank line.now }
+{
+    match line {
+        [.., b] => *b == b' ',
+        [] => false,
+    }
+}
+
+/// What a line after the first says; `None` is a line that has none of the forms.
+pub fn line_said(alloc: Global, line: &[u8]) -> Result<Option<Said>, AllocError>
+    ensures { IfOk result (λ said. said ≡ line_said line.now) }
+{
+    if is_comment(line) {
+        return Ok(Some(Said::Nothing));
+    }
+    if starts_blank(line) || ends_blank(line) {
+        return Ok(None);
+    }
+    let fields = fields(alloc, line)?;
+    fields_said(alloc, &fields)
+}

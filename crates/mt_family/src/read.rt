@@ -1,0 +1,154 @@
+//! A font list, line by line.
+ghost use Rattle.std.specs.Prelude.{◌≡◌, ◌≤◌, ◌<◌, ◌^◌, ◌⊎◌, Ok, Err, IfOk, IfErr, length, true, vec_len};
+ghost use Rattle.mt_family.specs.declared.error.ListError.TheVariants.{OutOfMemory};
+ghost use Rattle.mt_family.specs.ListFacts.{IsFontList};
+ghost use Rattle.mt_family.specs.Reads.{Adds, list_of};
+ghost use Rattle.mt_family.specs.Lists.{has_font, has_family, is_known, with_font, with_family, with_said, with_line, list_from, font_list};
+
+use crate::error::ListError;
+use crate::line::{FamilySaid, Said, line_said};
+use crate::list::{FamilyLine, FamilyLines, FontLine, FontLines, FontList};
+use std::alloc::{AllocError, Global};
+
+fn has_font(lines: &[FontLine], line: &FontLine) -> bool
+    ensures { result ≡ has_font lines.now line.now }
+{
+    lines.iter().any(|other| other.name.as_slice() == line.name.as_slice() && other.at == line.at)
+}
+
+fn has_family(families: &[FamilyLine], fam: u8) -> bool
+    ensures { result ≡ has_family families.now fam }
+{
+    families.iter().any(|other| other.fam == fam)
+}
+
+fn is_known(count: usize, number: Option<u64>) -> bool
+    ensures { result ≡ is_known count number }
+{
+    match number {
+        Some(n) => n < count as u64,
+        None => true,
+    }
+}
+
+// A number of a font, which is known.
+fn known(count: usize, number: Option<u64>) -> Option<u16>
+    requires few { count < 65536 }
+    requires known { is_known count number ≡ true }
+    ensures { result ≡ number }
+{
+    match number {
+        Some(n) => Some(n as u16),
+        None => None,
+    }
+}
+
+/// A font list that is being read.
+#[derive(Drop)]
+pub struct Reading {
+    pub lines: Vec<FontLine>,
+    pub families: Vec<FamilyLine>,
+}
+
+fn add_font(number: u32, reading: &mut Reading, line: FontLine) -> Result<(), ListError>
+    requires { vec_len reading.old.lines < 49 }
+    ensures is { Adds (with_font number (list_of reading.old) line) reading.new result }
+    ensures few { vec_len reading.new.lines < 49 }
+{
+    if has_font(&reading.lines, &line) {
+        return Err(ListError::Repeated(number));
+    }
+    if reading.lines.len() >= 48 {
+        return Err(ListError::TooMany(number));
+    }
+    reading.lines.push(line).map_err(AllocError::from)?;
+    Ok(())
+}
+
+fn add_family(number: u32, reading: &mut Reading, line: FamilySaid) -> Result<(), ListError>
+    requires { vec_len reading.old.lines < 49 }
+    ensures is { Adds (with_family number (list_of reading.old) line) reading.new result }
+    ensures few { vec_len reading.new.lines < 49 }
+{
+    if has_family(&reading.families, line.fam) {
+        return Err(ListError::Repeated(number));
+    }
+    let count = reading.lines.len();
+    if !(is_known(count, line.text)
+        && is_known(count, line.script)
+        && is_known(count, line.scriptscript))
+    {
+        return Err(ListError::UnknownFont(number));
+    }
+    let known = FamilyLine {
+        fam: line.fam,
+        fonts: [
+            known(count, line.text),
+            known(count, line.script),
+            known(count, line.scriptscript),
+        ],
+    };
+    reading.families.push(known).map_err(AllocError::from)?;
+    Ok(())
+}
+
+fn add_line(alloc: Global, number: u32, reading: &mut Reading, line: &[u8]) -> Result<(), ListError>
+    requires { vec_len reading.old.lines < 49 }
+    ensures is { Adds (with_line number (list_of reading.old) line.now) reading.new result }
+    ensures few { vec_len reading.new.lines < 49 }
+{
+    if number == 1 {
+        if line == b"mathset fonts 1".as_slice() {
+            return Ok(());
+        }
+        return Err(ListError::BadLine(1));
+    }
+    match line_said(alloc, line)? {
+        None => Err(ListError::BadLine(number)),
+        Some(Said::Nothing) => Ok(()),
+        Some(Said::Font(font)) => add_font(number, reading, font),
+        Some(Said::Family(family)) => add_family(number, reading, family),
+    }
+}
+
+// The lines of a list.
+fn read_lines(alloc: Global, bytes: &[u8]) -> Result<Reading, ListError>
+    requires { length bytes.now ≤ 2 ^ 31 }
+    ensures ok { IfOk result (λ reading. font_list bytes.now ≡ Ok (list_of reading)) }
+    ensures err { IfErr result (λ e. (e ≡ OutOfMemory) ⊎ (font_list bytes.now ≡ Err e)) }
+{
+    let mut reading = Reading {
+        lines: Vec::new(alloc),
+        families: Vec::new(alloc),
+    };
+    let mut number = 1;
+    let mut line = Vec::new(alloc);
+    for byte in bytes {
+        if *byte == b'\n' {
+            add_line(alloc, number, &mut reading, &line)?;
+            number += 1;
+            line.clear();
+        } else {
+            line.push(*byte).map_err(AllocError::from)?;
+        }
+    }
+    if number == 1 || !line.is_empty() {
+        add_line(alloc, number, &mut reading, &line)?;
+    }
+    Ok(reading)
+}
+
+/// Reads a font list of version 1: ASCII lines ended by LF, of which the first is
+/// `mathset fonts 1`. Takes at most 2^31 bytes. An error has the first line at fault.
+pub fn read_font_list(alloc: Global, bytes: &[u8]) -> Result<FontList, ListError>
+    requires { length bytes.now ≤ 2 ^ 31 }
+    ensures ok { IfOk result (λ list. font_list bytes.now ≡ Ok list) }
+    ensures facts { IfOk result (λ list. IsFontList list) }
+    ensures err { IfErr result (λ e. (e ≡ OutOfMemory) ⊎ (font_list bytes.now ≡ Err e)) }
+{
+    let reading = read_lines(alloc, bytes)?;
+    Ok(FontList {
+        lines: FontLines::from_vec(reading.lines),
+        families: FamilyLines::from_vec(reading.families),
+    })
+}
