@@ -29,6 +29,9 @@ pub fn xn_over_d(x: i64, n: i64, d: i64) -> i64
     requires d { pos 1 ≤ℤ d }
     ensures is { result ≡ int_div (x *ℤ n) d }
     ensures small { Within (2 ^ 60) result }
+
+    // A fraction of x is no greater than x.
+    ensures fraction { (m : ℕ) → n ≤ℤ d → Within m x → Within m result }
 {
     x * n / d
 }

@@ -1,5 +1,5 @@
 //! Math units: 18 of them make a quad, and what one is depends on the font.
-ghost use Rattle.std.specs.Prelude.{◌≡◌, ◌^◌, ◌≤ℤ◌, pos, ℕ, int_div};
+ghost use Rattle.std.specs.Prelude.{◌≡◌, ◌^◌, ◌*◌, ◌+◌, ◌/◌, ◌≤ℤ◌, pos, ℕ, int_div};
 ghost use Rattle.mt_scaled.specs.Number.{Within, mu_product, whole_of, part_of};
 
 use crate::{x_over_n, xn_over_d};
@@ -17,7 +17,8 @@ pub fn mu_of_quad(quad: i64) -> i64
 pub fn mu_mult(x: i64, mu: i64) -> i64
     requires x { Within (2 ^ 30) x }
     requires mu { Within (2 ^ 31) mu }
-    ensures { result ≡ mu_product x mu }
+    ensures is { result ≡ mu_product x mu }
+    ensures small { (m n : ℕ) → Within m x → Within n mu → Within (m * (n / 65536 + 2)) result }
 {
     let whole = whole(mu);
     let part = part(mu);
