@@ -1,4 +1,5 @@
 use super::*;
+use std::alloc::AllocError;
 
 #[test]
 fn scales_a_fix_word(rt: HostRuntime) {
@@ -13,14 +14,13 @@ fn rounds_decimals(rt: HostRuntime) {
 
 #[test]
 fn has_an_inch_and_a_millimetre(rt: HostRuntime) {
-    for (unit, want) in [(Unit::In, 4736286), (Unit::Mm, 186467)] {
-        let (n, d) = unit_factor(unit).unwrap_or((1, 1));
-        let size = match d {
-            100 => 65536 * (n / 100) + 65536 * (n % 100) / 100,
-            _ => 65536 * (n / 2540) + 65536 * (n % 2540) / 2540,
-        };
-        assert_eq!(rt; size, want);
-    }
+    assert_eq!(rt; unit_factor(Unit::In), Some((7227, 100)));
+    assert_eq!(rt; 65536 * (7227 / 100) + 65536 * (7227 % 100) / 100, 4736286);
+    assert_eq!(rt; unit_factor(Unit::Mm), Some((7227, 2540)));
+    assert_eq!(rt;
+        65536 * (7227 / 2540) + 65536 * (7227 % 2540) / 2540,
+        186467
+    );
 }
 
 #[test]
@@ -37,4 +37,18 @@ fn divides(rt: HostRuntime) {
     assert_eq!(rt; xn_over_d(-7, 3, 2), -10);
     assert_eq!(rt; round_ratio(-5, 1, 2), -3);
     assert!(rt; in_range(MAX_DIMEN) && !in_range(-MAX_DIMEN - 1));
+}
+
+#[test]
+fn keeps_lists(rt: HostRuntime) -> Result<(), AllocError> {
+    let list: Items<i64> = Items::from_vec(vec![in rt.alloc(); 5, 6]?);
+    assert!(rt; list.len() == 2 && !list.is_empty());
+    assert_eq!(rt; list.as_slice(), [5, 6].as_slice());
+    assert!(rt; list.get(1) == Some(&6) && list.get(2).is_none());
+    let name = Name::from_vec(vec![in rt.alloc(); 97, 98]?);
+    assert!(rt; name.len() == 2 && !name.is_empty());
+    assert!(rt; name.get(0) == Some(&97) && name.as_slice() == [97, 98].as_slice());
+    let bytes: Bytes = Items::from_vec(name.into_vec());
+    assert_eq!(rt; bytes.into_vec().len(), 2);
+    Ok(())
 }
