@@ -1,5 +1,5 @@
 //! The fonts of a list, by number and by family and size.
-ghost use Rattle.std.specs.Prelude.{◌≡◌, ◌≤◌, ◌<◌, ◌⊎◌, ℕ, length, map, slice_get, IfOk, IfErr, OnOk, Some, None, true, IfSome, find};
+ghost use Rattle.std.specs.Prelude.{◌≡◌, ◌≤◌, ◌<◌, ◌⊎◌, ◌↔◌, IsTrue, ℕ, length, map, slice_get, IfOk, IfErr, OnOk, Some, None, true, IfSome, find};
 ghost use Rattle.std.specs.Option.{option_copied};
 ghost use Rattle.std.specs.Result.{result_err};
 ghost use Rattle.mt_family.specs.declared.error.SetError.TheVariants.{OutOfMemory};
@@ -173,6 +173,21 @@ impl FontSet {
             fonts,
             table,
         })
+    }
+
+    /// How many fonts there are: those with the numbers below this.
+    pub fn len(&self) -> usize
+        ensures is { result ≡ length self.now.fonts }
+        ensures facts { IsSet self.now }
+    {
+        self.fonts.len()
+    }
+
+    /// Whether there is no font. There always is one, since families 2 and 3 have theirs.
+    pub fn is_empty(&self) -> bool
+        ensures { IsTrue result ↔ (length self.now.fonts ≡ 0) }
+    {
+        self.fonts.is_empty()
     }
 
     /// The number of the font that a family has at a size.
