@@ -1,0 +1,10 @@
+pub mod Sequence
+pub mod Steps
+pub mod Rows
+pub mod View
+pub mod Facts
+pub mod Falls
+pub mod RowsFall
+pub mod Styles
+pub mod Classes
+pub mod Spaces

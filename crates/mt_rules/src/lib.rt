@@ -1,0 +1,21 @@
+//! Math lists and what stands in them, styles and classes, and the rules by which formulas are set.
+//!
+//! The rules themselves are the definitions in `specs/`, which the contracts of the crates above cite. They follow
+//! The TeXbook, chapters 17 and 18 and Appendix G.
+#![tactic(auto)]
+
+mod class;
+mod document;
+mod kind;
+mod list;
+mod part_error;
+mod style;
+mod symbol;
+
+pub use class::Class;
+pub use document::{Document, Formula, Page, Tag};
+pub use kind::{Kind, Limits};
+pub use list::{Atom, Choice, Field, Fraction, Item, MathList, RowList};
+pub use part_error::PartError;
+pub use style::Style;
+pub use symbol::{Delim, Glue, Symbol};

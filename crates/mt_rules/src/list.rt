@@ -1,0 +1,265 @@
+//! Math lists, which hold one another.
+ghost use Rattle.std.specs.Prelude.{◌≡◌, ◌↔◌, IsTrue, slice_get};
+ghost use Rattle.std.specs.Option.{option_copied, option_map};
+ghost use Rattle.mt_rules.specs.Facts.{IsMathList};
+ghost use Rattle.mt_rules.specs.Sequence.{End, NoRows, element_at, row_at, rows_length, sequence_length};
+ghost use Rattle.mt_rules.specs.View.{element_of, rows_of, sequence_of};
+
+use crate::{Delim, Glue, Kind, Limits, Style, Symbol};
+use std::marker::Model;
+
+/// A math list: the items of a formula or of a part of one, in order (The TeXbook, Appendix G).
+///
+/// A left boundary stands only first and a right one only last, both or neither; the four lists of a [`Choice`] have
+/// neither. The nucleus of a vcenter atom is rows, and rows stand nowhere else.
+#[cycle(list)]
+#[derive(Drop)]
+pub struct MathList {
+    items: Vec<Item>,
+}
+
+/// Math lists one below another.
+#[cycle(list)]
+#[derive(Drop)]
+pub struct RowList {
+    rows: Vec<MathList>,
+}
+
+/// What stands in a math list. Lengths are scaled points, or 65536ths of a math unit (mu) where the name says so.
+#[cycle(list)]
+#[derive(Drop)]
+pub enum Item {
+    /// An atom.
+    Atom(Box<Atom>),
+    /// A fraction, which is spaced as an inner formula.
+    Fraction(Box<Fraction>),
+    /// A left boundary, as of `\left`.
+    Left(Delim),
+    /// A right boundary, as of `\right`.
+    Right(Delim),
+    /// The style of what follows in the list.
+    Style(Style),
+    /// Four lists of which the style chooses one.
+    Choice(Box<Choice>),
+    /// A space in mu.
+    MuSpace(Glue),
+    /// A space.
+    Space(Glue),
+    /// A kern in mu.
+    MuKern(i64),
+    /// A kern.
+    Kern(i64),
+    /// Takes away the next item in script styles, where it is a space or a kern.
+    Nonscript,
+}
+
+/// A nucleus with its scripts.
+#[cycle(list)]
+#[derive(Drop)]
+pub struct Atom {
+    /// How it is built.
+    pub kind: Kind,
+    /// Where the scripts of an operator stand.
+    pub limits: Limits,
+    /// The nucleus.
+    pub nucleus: Field,
+    /// The superscript.
+    pub sup: Field,
+    /// The subscript.
+    pub sub: Field,
+}
+
+/// What the nucleus or a script of an atom holds.
+#[cycle(list)]
+#[derive(Drop)]
+pub enum Field {
+    /// Nothing.
+    Empty,
+    /// A character.
+    Sym(Symbol),
+    /// A formula.
+    List(MathList),
+    /// Formulas one below another.
+    Rows(RowList),
+}
+
+/// One formula over another.
+#[cycle(list)]
+#[derive(Drop)]
+pub struct Fraction {
+    /// The thickness of the rule in scaled points; `None` for that of the font.
+    pub thickness: Option<i64>,
+    /// The delimiter before it.
+    pub left: Delim,
+    /// The delimiter after it.
+    pub right: Delim,
+    /// The numerator.
+    pub num: MathList,
+    /// The denominator.
+    pub den: MathList,
+}
+
+/// Four lists, for display, text, script and scriptscript style.
+#[cycle(list)]
+#[derive(Drop)]
+pub struct Choice {
+    /// For display style.
+    pub display: MathList,
+    /// For text style.
+    pub text: MathList,
+    /// For script style.
+    pub script: MathList,
+    /// For scriptscript style.
+    pub small: MathList,
+}
+
+impl Model for MathList {
+    ghost use Rattle.mt_rules.specs.Sequence.{Sequence};
+
+    ghost Value = { Sequence };
+
+    ghost use Rattle.mt_rules.specs.Steps.{Step, steps, sequence_from, sequence_from-steps};
+    ghost use Rattle.std.specs.Prelude.{List};
+    ghost use Rattle.std.specs.Coded.{codes, code_by, coded_list};
+
+    ghost coded = { code_by (List Step) (coded_list (Prim.hlevel codes)) steps sequence_from sequence_from-steps };
+
+    ghost use Rattle.mt_rules.specs.View.{sequence_of};
+    ghost use Rattle.mt_rules.specs.Facts.{IsMathList};
+
+    ghost view = { λ l. sequence_of l.items.items };
+
+    ghost invariant = { λ l. IsMathList (sequence_of l.items.items) };
+
+    ghost use Rattle.mt_rules.specs.Sequence.{sequence_size};
+
+    ghost size = { sequence_size };
+
+    ghost use Rattle.mt_rules.specs.Falls.{falls};
+
+    ghost size_decreases = { λ l h. falls l.items.items };
+}
+
+impl Model for RowList {
+    ghost use Rattle.mt_rules.specs.Sequence.{Rows};
+
+    ghost Value = { Rows };
+
+    ghost use Rattle.mt_rules.specs.Steps.{Step, steps_of_rows, rows_from, rows_from-steps};
+    ghost use Rattle.std.specs.Prelude.{List};
+    ghost use Rattle.std.specs.Coded.{codes, code_by, coded_list};
+
+    ghost coded = { code_by (List Step) (coded_list (Prim.hlevel codes)) steps_of_rows rows_from rows_from-steps };
+
+    ghost use Rattle.mt_rules.specs.Rows.{rows_of};
+
+    ghost view = { λ l. rows_of l.rows.items };
+
+    ghost use Rattle.mt_rules.specs.Sequence.{rows_size};
+
+    ghost size = { rows_size };
+
+    ghost use Rattle.mt_rules.specs.RowsFall.{rows_fall};
+
+    ghost size_decreases = { λ l h. rows_fall l.rows.items };
+}
+
+// The item at an index.
+fn item_at<T>(items: &[T], i: usize) -> Option<&T>
+    ensures { option_copied result ≡ slice_get items.now i }
+{
+    items.get(i)
+}
+
+impl MathList {
+    /// The list of these items, which are to keep the facts of the type. Takes no memory.
+    pub fn from_vec(items: Vec<Item>) -> Self
+        requires { IsMathList (sequence_of items.items) }
+        ensures { result ≡ sequence_of items.items }
+    {
+        MathList { items }
+    }
+
+    /// The vector of the items. Takes no memory.
+    pub fn into_vec(self) -> Vec<Item>
+        ensures items { sequence_of result.items ≡ self }
+        ensures facts { IsMathList self }
+    {
+        self.items
+    }
+
+    /// The number of items at the outermost level.
+    #[tactic(auto, using(crate::proofs::Lists::sequence_length_of))]
+    pub fn len(&self) -> usize
+        ensures { result ≡ sequence_length self.now }
+    {
+        self.items.len()
+    }
+
+    /// Whether there is no item.
+    pub fn is_empty(&self) -> bool
+        ensures { IsTrue result ↔ (self.now ≡ End) }
+    {
+        self.items.is_empty()
+    }
+
+    /// The items as a slice.
+    pub fn as_slice(&self) -> &[Item]
+        ensures items { sequence_of result.now ≡ self.now }
+        ensures facts { IsMathList self.now }
+    {
+        &self.items
+    }
+
+    /// The item at an index, counted from 0; `None` past the last one.
+    pub fn get(&self, i: usize) -> Option<&Item>
+        ensures { option_map element_of (option_copied result) ≡ element_at self.now i }
+    {
+        item_at(&self.items, i)
+    }
+}
+
+impl RowList {
+    /// The list of these rows. Takes no memory.
+    pub fn from_vec(rows: Vec<MathList>) -> Self
+        ensures { result ≡ rows_of rows.items }
+    {
+        RowList { rows }
+    }
+
+    /// The vector of the rows. Takes no memory.
+    pub fn into_vec(self) -> Vec<MathList>
+        ensures { rows_of result.items ≡ self }
+    {
+        self.rows
+    }
+
+    /// The number of rows.
+    #[tactic(auto, using(crate::proofs::Lists::rows_length_of))]
+    pub fn len(&self) -> usize
+        ensures { result ≡ rows_length self.now }
+    {
+        self.rows.len()
+    }
+
+    /// Whether there is no row.
+    pub fn is_empty(&self) -> bool
+        ensures { IsTrue result ↔ (self.now ≡ NoRows) }
+    {
+        self.rows.is_empty()
+    }
+
+    /// The rows as a slice.
+    pub fn as_slice(&self) -> &[MathList]
+        ensures { rows_of result.now ≡ self.now }
+    {
+        &self.rows
+    }
+
+    /// The row at an index, counted from 0; `None` past the last one.
+    pub fn get(&self, i: usize) -> Option<&MathList>
+        ensures { option_copied result ≡ row_at self.now i }
+    {
+        item_at(&self.rows, i)
+    }
+}

@@ -1,0 +1,29 @@
+//! Why a part of a formula was not set.
+
+use std::alloc::AllocError;
+use thiserror::Error;
+
+/// Why a part of a formula was not set.
+#[derive(Clone, Copy, Debug, PartialEq, Eq, Error)]
+pub enum PartError {
+    /// This extent of what was made, in scaled points, is greater than 2^30 - 1 in size.
+    #[error("a part has an extent of {0}sp")]
+    Overflow(i64),
+    /// A delimiter would need this many repeats of its middle piece.
+    #[error("a delimiter needs {0} repeats")]
+    TooTall(u64),
+    /// There is no memory left.
+    #[error("out of memory")]
+    OutOfMemory,
+}
+
+impl From<AllocError> for PartError {
+    ghost use Rattle.std.specs.Prelude.{◌≡◌};
+    ghost use Rattle.mt_rules.specs.declared.part_error.PartError.TheVariants.{OutOfMemory};
+
+    ghost from_gives = { λ _ e. e ≡ OutOfMemory };
+
+    fn from(_: AllocError) -> Self {
+        PartError::OutOfMemory
+    }
+}
