@@ -1,0 +1,75 @@
+use super::*;
+use std::alloc::{AllocError, Global};
+use std::test::Fail;
+
+// The one character 97, half as wide and half as high as the font's size.
+const FONT: [u8; 60] = [
+    0x00, 0x0F, 0x00, 0x02, 0x00, 0x61, 0x00, 0x61, 0x00, 0x02, 0x00, 0x02, 0x00, 0x01, 0x00, 0x01,
+    0x00, 0x00, 0x00, 0x00, 0x00, 0x00, 0x00, 0x00, 0x00, 0x00, 0x00, 0x00, 0x00, 0xA0, 0x00, 0x00,
+    0x01, 0x10, 0x00, 0x00, 0x00, 0x00, 0x00, 0x00, 0x00, 0x08, 0x00, 0x00, 0x00, 0x00, 0x00, 0x00,
+    0x00, 0x08, 0x00, 0x00, 0x00, 0x00, 0x00, 0x00, 0x00, 0x00, 0x00, 0x00,
+];
+
+// The font with bytes changed, and a word after it.
+fn changed(alloc: Global, changes: &[(usize, u8)], word: &[u8]) -> Result<Vec<u8>, AllocError> {
+    let mut bytes = FONT.to_vec(alloc)?;
+    for (place, value) in changes {
+        if let Some(byte) = bytes.get_mut(*place) {
+            *byte = *value;
+        }
+    }
+    bytes.extend_from_slice(word)?;
+    Ok(bytes)
+}
+
+#[test]
+fn reads_a_font_of_one_character(rt: HostRuntime) -> Result<(), Fail> {
+    let font = read_tfm(rt.alloc(), &FONT, 655360, None)?;
+    assert!(rt; font.exists(97) && !font.exists(98));
+    assert_eq!(rt; font.width(97), 327680);
+    assert_eq!(rt; font.height(97), 327680);
+    assert_eq!(rt; font.depth(97), 0);
+    assert_eq!(rt; font.italic(97), 0);
+    assert!(rt; font.bare(97));
+    assert_eq!(rt; font.larger(97), None);
+    assert_eq!(rt; font.recipe(97), None);
+    assert_eq!(rt; font.pair(97, 97), Pair::None);
+    assert_eq!(rt; font.skew_of(97), 0);
+    assert_eq!(rt; (font.params(), font.param(1)), (0, 0));
+    assert_eq!(rt; font.checksum(), 0);
+    assert_eq!(rt; (font.design(), font.at()), (655360, 655360));
+    Ok(())
+}
+
+#[test]
+fn a_font_cut_short_is_truncated(rt: HostRuntime) -> Result<(), Fail> {
+    for length in 0..60usize {
+        let fault = read_tfm(rt.alloc(), &FONT[..length], 655360, None).err();
+        assert_eq!(rt; fault, Some(TfmError::Truncated));
+    }
+    Ok(())
+}
+
+#[test]
+fn each_check_has_its_fault(rt: HostRuntime) -> Result<(), Fail> {
+    let faults: [(&[(usize, u8)], &[u8], TfmError); 8] = [
+        (&[(3, 1)], &[], TfmError::BadCounts),
+        (&[(28, 128)], &[], TfmError::BadHeader),
+        (&[(33, 0x20)], &[], TfmError::BadIndex(97)),
+        (&[(34, 2), (35, 97)], &[], TfmError::ChainCycle(97)),
+        (&[(40, 1)], &[], TfmError::BadFix { table: 1, n: 1 }),
+        (&[(47, 1)], &[], TfmError::BadZero(2)),
+        (
+            &[(1, 16), (17, 1)],
+            &[0, 98, 0, 97],
+            TfmError::BadProgram(0),
+        ),
+        (&[(1, 16), (21, 1)], &[0, 0, 0, 98], TfmError::BadRecipe(0)),
+    ];
+    for (changes, word, want) in faults {
+        let bytes = changed(rt.alloc(), changes, word)?;
+        let fault = read_tfm(rt.alloc(), &bytes, 655360, None).err();
+        assert_eq!(rt; fault, Some(want));
+    }
+    Ok(())
+}
