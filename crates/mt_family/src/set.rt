@@ -1,10 +1,10 @@
 //! The fonts of a list, by number and by family and size.
-ghost use Rattle.std.specs.Prelude.{◌≡◌, ◌≤◌, ◌<◌, ◌⊎◌, ◌↔◌, IsTrue, ℕ, length, map, slice_get, IfOk, IfErr, OnOk, Some, None, true, IfSome, find};
+ghost use Rattle.std.specs.Prelude.{◌≡◌, ◌≤◌, ◌<◌, ◌^◌, ◌⊎◌, ◌↔◌, IsTrue, ℕ, length, map, slice_get, IfOk, IfErr, OnOk, Some, None, true, IfSome, find};
 ghost use Rattle.std.specs.Option.{option_copied};
 ghost use Rattle.std.specs.Result.{result_err};
 ghost use Rattle.mt_family.specs.declared.error.SetError.TheVariants.{OutOfMemory};
 ghost use Rattle.mt_family.specs.declared.list.FamilyLine.{FamilyLine};
-ghost use Rattle.mt_tfm.specs.Font.{IsModest};
+ghost use Rattle.mt_scaled.specs.Number.{Within};
 ghost use Rattle.mt_family.specs.ListFacts.{is_family};
 ghost use Rattle.mt_family.specs.SetValue.{number_in, number_by, numbers_of, numbers_by, table_of, font_at, font_in, name_in, named, has_params, HasParams, AreLoaded, IsSet};
 ghost use Rattle.mt_family.specs.Sets.{size_fault, family_fault, set_fault, param_in, units_of, sy as sy_of, ex as ex_of};
@@ -235,7 +235,7 @@ impl FontSet {
     // A parameter of a family at a size, 0 without a font.
     fn param(&self, fam: u8, i: u16, size: Size) -> i64
         ensures is { result ≡ param_in i (font_in self.now.families self.now.fonts fam size) }
-        ensures small { IsModest result }
+        ensures small { Within (2 ^ 31) result }
         ensures facts { IsSet self.now }
     {
         match self.font_of(fam, size) {
@@ -251,7 +251,7 @@ impl FontSet {
         requires high { i ≤ 22 }
         ensures is { result ≡ sy_of self.now i size }
         ensures there { has_params i (font_in self.now.families self.now.fonts 2 size) ≡ true }
-        ensures small { IsModest result }
+        ensures small { Within (2 ^ 31) result }
     {
         self.param(2, i, size)
     }
@@ -264,7 +264,7 @@ impl FontSet {
         requires high { i ≤ 13 }
         ensures is { result ≡ ex_of self.now i size }
         ensures there { has_params i (font_in self.now.families self.now.fonts 3 size) ≡ true }
-        ensures small { IsModest result }
+        ensures small { Within (2 ^ 31) result }
     {
         self.param(3, i, size)
     }
@@ -273,7 +273,7 @@ impl FontSet {
     /// font of family 0, 0 without one.
     pub fn units(&self) -> Units
         ensures is { result ≡ units_of self.now }
-        ensures small { IsModest result.em × IsModest result.ex }
+        ensures small { Within (2 ^ 31) result.em × Within (2 ^ 31) result.ex }
     {
         Units {
             em: self.param(0, 6, Size::Text),
