@@ -1,0 +1,10 @@
+use Rattle.std.proofs.Common.{◌∙◌}
+use Rattle.mt_dvi.specs.Marks.{lower_edge}
+use Rattle.mt_dvi.proofs.Greatest.{greatest_page}
+use Rattle.mt_dvi.proofs.edges.tallest.Goals as goal
+
+pub loop-page-preserved : goal.loop-page-preserved
+loop-page-preserved c = record {
+  is = greatest_page (lower_edge c.args.fonts.now) _ _ c.args.pages.now c.loop-page.page-index c.page-item.result _ c.loop-page-test.true (c.as_slice.ensures ∙ c.page-item.is) c.tallest_of-most.ensures.is ∙ c.loop-page.invariant.is;
+  small = c.tallest_of-most.ensures.small;
+}

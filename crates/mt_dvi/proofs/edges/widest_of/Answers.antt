@@ -1,0 +1,12 @@
+use Rattle.std.proofs.Common.{◌≡◌, arith, to_z, of_z, w64, ◌∙◌}
+use Rattle.mt_dvi.specs.Marks.{right_edge}
+use Rattle.std.proofs.lemmas.Int.{ints}
+use Rattle.mt_dvi.proofs.Greatest.{greatest_step}
+use Rattle.mt_dvi.proofs.edges.widest_of.Goals as goal
+
+pub loop-place-preserved : goal.loop-place-preserved
+loop-place-preserved c =
+    let s : to_z w64 (of_z w64 c.right_edge.result) ≡ c.right_edge.result = omega (arith, ints, c.right_edge.ensures.small) in record {
+      is = greatest_step (right_edge c.args.fonts.now) _ _ c.args.page.now c.loop-place.place-index _ _ c.loop-place-test.true c.greater-most.ensures.is (s ∙ c.right_edge.ensures.is) ∙ c.loop-place.invariant.is;
+      small = c.greater-most.ensures.small;
+    }

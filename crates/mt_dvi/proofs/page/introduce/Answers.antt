@@ -1,0 +1,12 @@
+use Rattle.std.proofs.Common.{◌≡◌, ◌∙◌, ◌++◌, ◌∷◌, [], false}
+use Rattle.mt_dvi.specs.LeadsTo.{is_among}
+use Rattle.mt_dvi.proofs.FontLemmas.{introduced, added_new}
+use Rattle.mt_dvi.proofs.page.introduce.Goals as goal
+
+pub returns-in_ok-push-clause-leads : goal.returns-in_ok-push-clause-leads
+returns-in_ok-push-clause-leads c =
+    let fresh : is_among c.args.defined.now.items c.args.n ≡ false = cc in
+    let e : c.push.new.self.items ≡ c.args.defined.now.items ++ c.args.n ∷ [] = c.in_ok-push.ensures.items in (
+      e ∙ added_new _ _ fresh,
+      λ file cursor leads. rw e (introduced c.args.fonts.now _ _ c.args.defined.now.items c.args.n c.in_ok-define.ensures fresh file cursor leads),
+    )

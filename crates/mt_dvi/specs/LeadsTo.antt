@@ -1,0 +1,67 @@
+-- Where the machine stands after the first bytes of a file, as a writer needs it.
+use Rattle.std.specs.Prelude.{◌≡◌, ℕ, ◌+◌, pos, ◌-ℤ◌, List, [], ◌∷◌, ◌++◌, length, map, Option, Some, None, Bool, ◌==◌, if◌then◌else◌, ⊤}
+use Rattle.std.specs.List.{list_any}
+use Rattle.mt_family.specs.SetValue.{SetValue}
+use Rattle.mt_box.specs.Places.{h_of, v_of}
+use Rattle.mt_box.specs.declared.place.Place.{Place}
+use Rattle.mt_box.specs.declared.place.Place.TheVariants.{Glyph, Rule}
+use Rattle.mt_dvi.specs.Fonts.{definition_of}
+use Rattle.mt_dvi.specs.Machine.{Machine, Mark}
+use Rattle.mt_dvi.specs.File.{File, InPage, read, reading}
+use Rattle.mt_dvi.specs.Emits.{FitsFourBytes}
+use Rattle.mt_dvi.specs.Marks.{right_edge}
+use Rattle.mt_dvi.specs.declared.page.Cursor.{Cursor}
+
+-- whatever follows these bytes is read from this state on
+abbrev pub LeadsTo : SetValue → List ℕ → File → Type 0
+LeadsTo fonts out file = (rest : List ℕ) → read fonts (out ++ rest) ≡ reading fonts (record file { at = length out }) 0 rest
+
+abbrev pub machine_at : Cursor → Machine
+machine_at c = record { now = record { h = c.h; v = c.v; w = pos 0; x = pos 0; y = pos 0; z = pos 0 }; saved = []; font = c.font }
+
+-- in a page, at a cursor, where nothing was ever pushed
+abbrev pub in_page : File → Cursor → File
+in_page file c = record file { phase = InPage; machine = machine_at c; deepest = 0 }
+
+abbrev pub at_origin : Cursor
+at_origin = record { h = pos 0; v = pos 0; font = None }
+
+-- these fonts are defined, and no others
+abbrev pub with_fonts : SetValue → File → List ℕ → File
+with_fonts fonts file numbers = record file { fonts = map (definition_of fonts) numbers; again = [] }
+
+abbrev pub is_among : List ℕ → ℕ → Bool
+is_among numbers n = list_any (λ (m : ℕ). m == n) numbers
+
+abbrev pub with_number : List ℕ → ℕ → List ℕ
+with_number numbers n = if is_among numbers n then numbers else numbers ++ n ∷ []
+
+-- the fonts that are defined after a mark
+abbrev pub used_by : List ℕ → Place → List ℕ
+used_by numbers (Glyph n code h v) = with_number numbers n
+used_by numbers (Rule h v height width) = numbers
+
+abbrev pub used_by_all : List ℕ → List Place → List ℕ
+used_by_all numbers [] = numbers
+used_by_all numbers (place ∷ places) = used_by_all (used_by numbers place) places
+
+-- more marks
+abbrev pub with_marks : File → List Mark → File
+with_marks file marks = record file { marked = file.marked + length marks; page = record (file.page) { marks = file.page.marks ++ marks } }
+
+-- one mark more
+abbrev pub with_mark : File → Place → Bool → File
+with_mark file place put = record file { marked = file.marked + 1; page = record (file.page) { marks = file.page.marks ++ record { place = place; put = put } ∷ [] } }
+
+abbrev pub font_after : Place → Option ℕ → Option ℕ
+font_after (Glyph n code h v) font = Some n
+font_after (Rule h v height width) font = font
+
+-- where the machine stands after a mark
+abbrev pub cursor_after : SetValue → Place → Bool → Cursor → Cursor
+cursor_after fonts place put c = record { h = if put then h_of place else right_edge fonts place; v = v_of place; font = font_after place c.font }
+
+-- one move to the right leads to the next mark
+abbrev pub IsReachable : Cursor → Option Place → Type 0
+IsReachable c None = ⊤
+IsReachable c (Some place) = FitsFourBytes (h_of place -ℤ c.h)

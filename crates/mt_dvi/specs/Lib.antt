@@ -1,0 +1,12 @@
+pub mod Opcodes
+pub mod Codes
+pub mod Fonts
+pub mod Machine
+pub mod File
+pub mod Marks
+pub mod Written
+pub mod Refusal
+pub mod Emits
+pub mod LeadsTo
+pub mod Distinct
+pub mod Pages

@@ -1,0 +1,165 @@
+//! A whole file: its pages, and what stands round them.
+ghost use Rattle.std.specs.Prelude.{◌≡◌, ◌<◌, ◌≤◌, ◌+◌, ◌*◌, ◌++◌, ◌∷◌, [], length, List, ℕ, All, OnOk, IfOk, pos, ℤ, min, ◌^◌, ◌-◌, Ok};
+ghost use Rattle.mt_family.specs.SetValue.{IsSet};
+ghost use Rattle.mt_dvi.specs.Codes.{Postamble};
+ghost use Rattle.mt_dvi.specs.File.{Page, pages_of};
+ghost use Rattle.mt_dvi.specs.Emits.{FitsFourBytes};
+ghost use Rattle.mt_dvi.specs.Marks.{IsWritable, all_marks, numbered_pages, page_of};
+ghost use Rattle.mt_dvi.specs.Written.{Written};
+ghost use Rattle.mt_dvi.specs.Refusal.{refusal_of, refused_by};
+ghost use Rattle.mt_dvi.specs.LeadsTo.{LeadsTo, used_by_all};
+ghost use Rattle.mt_dvi.specs.Pages.{IsTail, PagesWritten, after_post, between_pages};
+
+use crate::edges::{tallest, widest};
+use crate::emit;
+use crate::error::DviWriteError;
+use crate::fonts::define;
+use crate::page::write_marks;
+use mt_box::{PageList, Place, PlaceList};
+use mt_family::FontSet;
+use mt_scaled::Items;
+use std::alloc::{AllocError, Global};
+
+/// The bytes of a DVI file.
+pub type DviBytes = Items<u8>;
+
+// A page, where last is the offset of the page before.
+#[tactic(auto, using(crate::proofs::Prefix::longer))]
+fn write_page(
+    out: &mut Vec<u8>,
+    defined: &mut Vec<u16>,
+    fonts: &FontSet,
+    number: u32,
+    last: i64,
+    page: &[Place],
+) -> Result<(), AllocError>
+    requires set { IsSet fonts.now }
+    requires can { All (IsWritable fonts.now) page.now }
+    requires last { FitsFourBytes last }
+    ensures leads { OnOk result ((defined.new.items ≡ used_by_all defined.old.items page.now) × ((pages : List Page) → (marked : ℕ) → marked + length page.now ≤ 2000000 → LeadsTo fonts.now out.old.items (between_pages fonts.now defined.old.items pages last marked) → LeadsTo fonts.now out.new.items (between_pages fonts.now defined.new.items (pages ++ page_of fonts.now number page.now ∷ []) (pos (length out.old.items)) (marked + length page.now)))) }
+    ensures long { OnOk result (length out.new.items + 271 * length defined.old.items ≤ length out.old.items + 271 * length defined.new.items + 19 * length page.now + 46) }
+{
+    emit::bop(out, number, last)?;
+    write_marks(out, defined, fonts, page)?;
+    emit::eop(out)?;
+    Ok(())
+}
+
+// All pages. The answer is the offset of the last one, or -1.
+fn write_pages(
+    out: &mut Vec<u8>,
+    defined: &mut Vec<u16>,
+    fonts: &FontSet,
+    pages: &[PlaceList],
+) -> Result<i64, AllocError>
+    requires set { IsSet fonts.now }
+    requires can { All (λ page. All (IsWritable fonts.now) page) pages.now }
+    requires few { length pages.now ≤ 65535 }
+    requires marks { length (all_marks pages.now) ≤ 2000000 }
+    requires first { length out.old.items ≤ 15 }
+    requires none { defined.old.items ≡ [] }
+    ensures { IfOk result (λ last. PagesWritten fonts.now out.old.items out.new.items defined.new.items last pages.now) }
+{
+    let mut last = -1;
+    let mut number: u32 = 0;
+    for page in pages {
+        number += 1;
+        let start = out.len() as i64;
+        write_page(out, defined, fonts, number, last, page.as_slice())?;
+        last = start;
+    }
+    Ok(last)
+}
+
+// The definitions again, after post.
+fn define_again(out: &mut Vec<u8>, defined: &[u16], fonts: &FontSet) -> Result<(), AllocError>
+    requires set { IsSet fonts.now }
+    requires there { All (λ n. n < length fonts.now.fonts) defined.now }
+    ensures leads { OnOk result ((pages : List Page) → (last : ℤ) → (marked : ℕ) → (post : Postamble) → (post_at : ℕ) → LeadsTo fonts.now out.old.items (after_post fonts.now defined.now [] pages last marked post post_at) → LeadsTo fonts.now out.new.items (after_post fonts.now defined.now defined.now pages last marked post post_at)) }
+    ensures long { OnOk result (length out.new.items ≤ length out.old.items + 271 * length defined.now) }
+{
+    for n in defined {
+        define(out, fonts, *n)?;
+    }
+    Ok(())
+}
+
+// Four to seven bytes 223 at the end of a file of so many bytes.
+fn tail(long: usize) -> &'static [u8]
+    ensures { IsTail long result.now }
+{
+    match long % 4 {
+        0 => &[223, 223, 223, 223],
+        1 => &[223, 223, 223, 223, 223, 223, 223],
+        2 => &[223, 223, 223, 223, 223, 223],
+        _ => &[223, 223, 223, 223, 223],
+    }
+}
+
+// The number of marks, or the greatest usize.
+fn count_marks(pages: &[PlaceList]) -> usize
+    ensures { result ≡ min (length (all_marks pages.now)) (2 ^ 64 - 1) }
+{
+    let mut count: usize = 0;
+    for page in pages {
+        count = count.saturating_add(page.as_slice().len());
+    }
+    count
+}
+
+// The file of pages that are few enough.
+fn write_file(alloc: Global, fonts: &FontSet, pages: &[PlaceList]) -> Result<Vec<u8>, AllocError>
+    requires can { All (λ page. All (IsWritable fonts.now) page) pages.now }
+    requires few { length pages.now ≤ 65535 }
+    requires marks { length (all_marks pages.now) ≤ 2000000 }
+    ensures { IfOk result (λ bytes. Written fonts.now bytes.items pages.now) }
+{
+    let mut out = Vec::new(alloc);
+    let mut defined = Vec::with_capacity(alloc, fonts.len())?;
+    emit::pre(&mut out)?;
+    let last = write_pages(&mut out, &mut defined, fonts, pages)?;
+    let start = out.len() as u32;
+    emit::post(
+        &mut out,
+        last,
+        tallest(fonts, pages),
+        widest(fonts, pages),
+        pages.len() as u16,
+    )?;
+    define_again(&mut out, &defined, fonts)?;
+    emit::post_post(&mut out, start)?;
+    let end = tail(out.len());
+    out.extend_from_slice(end)?;
+    Ok(out)
+}
+
+/// The DVI file of pages of marks.
+///
+/// It is a file of the format's identifier 2, in scaled points, with the magnification 1000. Its k-th page has k in
+/// count 0. The fonts that are used are defined before their first use and once more after the pages; a font's number
+/// is that in the set. The pages are refused where there are more than 65,535 of them, and then where they have more
+/// than 2,000,000 marks together; the number given with the latter is at most 2^64 - 1.
+///
+/// The coordinates of the marks and the extents of their glyphs and rules are at most 2^30 - 1 scaled points in size,
+/// each glyph exists in its font, and each rule has a positive height and a positive width.
+pub fn write_dvi(
+    alloc: Global,
+    fonts: &FontSet,
+    pages: &PageList,
+) -> Result<DviBytes, DviWriteError>
+    requires can { All (λ page. All (IsWritable fonts.now) page) pages.now }
+    ensures written { IfOk result (λ bytes. Written fonts.now bytes pages.now) }
+    ensures read_back { IfOk result (λ bytes. pages_of fonts.now bytes ≡ Ok pages.now) }
+    ensures refused { refused_by result ≡ refusal_of pages.now }
+{
+    let pages = pages.as_slice();
+    if pages.len() > 65535 {
+        return Err(DviWriteError::TooManyPages(pages.len() as u64));
+    }
+    let count = count_marks(pages);
+    if count > 2000000 {
+        return Err(DviWriteError::TooManyPlaces(count as u64));
+    }
+    let bytes = write_file(alloc, fonts, pages)?;
+    Ok(Items::from_vec(bytes))
+}

@@ -1,0 +1,12 @@
+//! DVI files (tex.web, part 31): what their bytes mean, as a definition, and a writer of them.
+#![tactic(auto)]
+
+mod edges;
+mod emit;
+mod error;
+mod file;
+mod fonts;
+mod page;
+
+pub use error::DviWriteError;
+pub use file::{DviBytes, write_dvi};

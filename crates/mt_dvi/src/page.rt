@@ -1,0 +1,314 @@
+//! The marks of a page, and the moves between them.
+ghost use Rattle.std.specs.Prelude.{◌≡◌, ◌<◌, ◌≤◌, ◌+◌, ◌*◌, ◌-ℤ◌, List, ℕ, All, OnOk, IsSomeAnd, length, nat_abs, true, Some};
+ghost use Rattle.mt_box.specs.Places.{h_of, v_of};
+ghost use Rattle.mt_family.specs.SetValue.{IsSet, SetValue};
+ghost use Rattle.mt_dvi.specs.Fonts.{metrics_at};
+ghost use Rattle.mt_dvi.specs.Machine.{is_far};
+ghost use Rattle.mt_dvi.specs.File.{File};
+ghost use Rattle.mt_dvi.specs.Emits.{FitsFourBytes};
+ghost use Rattle.mt_dvi.specs.Marks.{HasGlyph, InRange, IsWritable, first_of, lower_edge, marks_of, must_put, right_edge};
+ghost use Rattle.mt_dvi.specs.LeadsTo.{LeadsTo, at_origin, cursor_after, in_page, is_among, used_by, used_by_all, with_fonts, with_mark, with_marks, with_number};
+
+use crate::emit;
+use crate::fonts::{define, depth, is_defined, width};
+use mt_box::Place;
+use mt_family::FontSet;
+use std::alloc::AllocError;
+
+/// Where the machine stands in a page, and the font that is selected.
+#[derive(Clone, Copy, Debug)]
+pub struct Cursor {
+    pub h: i64,
+    pub v: i64,
+    pub font: Option<u16>,
+}
+
+// Moves to a mark's place: to the right, and then down.
+fn move_to(out: &mut Vec<u8>, cursor: Cursor, place: Place) -> Result<(), AllocError>
+    requires right { FitsFourBytes (h_of place -ℤ cursor.h) }
+    requires down { FitsFourBytes (v_of place -ℤ cursor.v) }
+    requires h { InRange (h_of place) }
+    requires v { InRange (v_of place) }
+    requires from { FitsFourBytes cursor.v }
+    ensures leads { OnOk result (
+        (fonts : SetValue) → (file : File) → LeadsTo fonts out.old.items (in_page file cursor) →
+        LeadsTo fonts out.new.items (in_page file (record cursor { h = h_of place; v = v_of place }))) }
+    ensures long { OnOk result (length out.new.items ≤ length out.old.items + 10) }
+{
+    move_right(out, cursor, place)?;
+    move_down(out, cursor, place)?;
+    Ok(())
+}
+
+#[tactic(auto, using(crate::proofs::Prefix::longer))]
+fn move_right(out: &mut Vec<u8>, cursor: Cursor, place: Place) -> Result<(), AllocError>
+    requires right { FitsFourBytes (h_of place -ℤ cursor.h) }
+    requires h { InRange (h_of place) }
+    requires from { FitsFourBytes cursor.v }
+    ensures leads { OnOk result (
+        (fonts : SetValue) → (file : File) → LeadsTo fonts out.old.items (in_page file cursor) →
+        LeadsTo fonts out.new.items (in_page file (record cursor { h = h_of place }))) }
+    ensures long { OnOk result (length out.new.items ≤ length out.old.items + 5) }
+{
+    let h = place.h();
+    if h != cursor.h {
+        emit::right(out, h - cursor.h)?;
+    }
+    Ok(())
+}
+
+#[tactic(auto, using(crate::proofs::Prefix::longer))]
+fn move_down(out: &mut Vec<u8>, cursor: Cursor, place: Place) -> Result<(), AllocError>
+    requires down { FitsFourBytes (v_of place -ℤ cursor.v) }
+    requires h { InRange (h_of place) }
+    requires v { InRange (v_of place) }
+    ensures leads { OnOk result (
+        (fonts : SetValue) → (file : File) → LeadsTo fonts out.old.items (in_page file (record cursor { h = h_of place })) →
+        LeadsTo fonts out.new.items (in_page file (record cursor { h = h_of place; v = v_of place }))) }
+    ensures long { OnOk result (length out.new.items ≤ length out.old.items + 5) }
+{
+    let v = place.v();
+    if v != cursor.v {
+        emit::down(out, v - cursor.v)?;
+    }
+    Ok(())
+}
+
+// Defines a font, unless it is defined.
+#[tactic(auto, using(crate::proofs::Prefix::longer))]
+fn introduce(
+    out: &mut Vec<u8>,
+    defined: &mut Vec<u16>,
+    fonts: &FontSet,
+    n: u16,
+) -> Result<(), AllocError>
+    requires there { n < length fonts.now.fonts }
+    requires set { IsSet fonts.now }
+    ensures leads { OnOk result ((defined.new.items ≡ with_number defined.old.items n) × (
+        (file : File) → (c : Cursor) → LeadsTo fonts.now out.old.items (in_page (with_fonts fonts.now file defined.old.items) c) →
+        LeadsTo fonts.now out.new.items (in_page (with_fonts fonts.now file defined.new.items) c))) }
+    ensures long { OnOk result (length out.new.items + 271 * length defined.old.items ≤ length out.old.items + 271 * length defined.new.items + 0) }
+{
+    if !is_defined(defined, n) {
+        define(out, fonts, n)?;
+        defined.push(n)?;
+    }
+    Ok(())
+}
+
+// Selects a font that is defined, unless it is selected.
+#[tactic(auto, using(crate::proofs::Prefix::longer))]
+fn select(out: &mut Vec<u8>, fonts: &FontSet, cursor: Cursor, n: u16) -> Result<(), AllocError>
+    requires there { n < length fonts.now.fonts }
+    requires set { IsSet fonts.now }
+    requires h { InRange cursor.h }
+    requires v { InRange cursor.v }
+    ensures leads { OnOk result (
+        (file : File) → (numbers : List ℕ) → is_among numbers n ≡ true →
+        LeadsTo fonts.now out.old.items (in_page (with_fonts fonts.now file numbers) cursor) →
+        LeadsTo fonts.now out.new.items (in_page (with_fonts fonts.now file numbers) (record cursor { font = Some n }))) }
+    ensures long { OnOk result (length out.new.items ≤ length out.old.items + 1) }
+{
+    if cursor.font != Some(n) {
+        emit::select(out, n as u8)?;
+    }
+    Ok(())
+}
+
+/// Where a mark ends to the right, in scaled points.
+pub fn right_edge(fonts: &FontSet, place: Place) -> i64
+    requires can { IsWritable fonts.now place }
+    ensures is { result ≡ right_edge fonts.now place }
+    ensures small { nat_abs result ≤ 2147483646 }
+{
+    match place {
+        Place::Glyph { font, code, h, .. } => h + width(fonts, font, code),
+        Place::Rule { h, width, .. } => h + width,
+    }
+}
+
+/// Where a mark ends below, in scaled points.
+pub fn lower_edge(fonts: &FontSet, place: Place) -> i64
+    requires can { IsWritable fonts.now place }
+    ensures is { result ≡ lower_edge fonts.now place }
+    ensures small { nat_abs result ≤ 2147483646 }
+{
+    match place {
+        Place::Glyph { font, code, v, .. } => v + depth(fonts, font, code),
+        Place::Rule { v, .. } => v,
+    }
+}
+
+// Whether a mark is put, and not set: the next one is too far from its right edge.
+fn must_put(fonts: &FontSet, place: Place, later: &[Place]) -> bool
+    requires can { IsWritable fonts.now place }
+    requires next { All (IsWritable fonts.now) later.now }
+    ensures { result ≡ must_put fonts.now place (first_of later.now) }
+{
+    match later {
+        [next, ..] => is_apart(next.h(), right_edge(fonts, place)),
+        [] => false,
+    }
+}
+
+fn is_apart(h: i64, edge: i64) -> bool
+    requires h { InRange h }
+    requires edge { nat_abs edge ≤ 2147483646 }
+    ensures { result ≡ is_far (h -ℤ edge) }
+{
+    is_far(h - edge)
+}
+
+fn is_far(amount: i64) -> bool
+    requires { nat_abs amount < 4294967296 }
+    ensures { result ≡ is_far amount }
+{
+    amount > 2147483647 || amount < -2147483647
+}
+
+// Where the machine stands after a mark.
+fn cursor_after(fonts: &FontSet, place: Place, put: bool, cursor: Cursor) -> Cursor
+    requires can { IsWritable fonts.now place }
+    ensures { result ≡ cursor_after fonts.now place put cursor }
+{
+    Cursor {
+        h: if put {
+            place.h()
+        } else {
+            right_edge(fonts, place)
+        },
+        v: place.v(),
+        font: match place {
+            Place::Glyph { font, .. } => Some(font),
+            Place::Rule { .. } => cursor.font,
+        },
+    }
+}
+
+// Writes a glyph where the machine stands: the definition of its font, the selection, and the mark.
+#[tactic(auto, using(crate::proofs::Prefix::longer))]
+fn write_glyph(
+    out: &mut Vec<u8>,
+    defined: &mut Vec<u16>,
+    fonts: &FontSet,
+    cursor: Cursor,
+    n: u16,
+    code: u8,
+    put: bool,
+) -> Result<(), AllocError>
+    requires set { IsSet fonts.now }
+    requires can { IsSomeAnd (metrics_at fonts.now n) (λ metrics. HasGlyph metrics code) }
+    requires h { InRange cursor.h }
+    requires v { InRange cursor.v }
+    ensures leads { OnOk result ((defined.new.items ≡ with_number defined.old.items n) × (
+        (file : File) → file.marked < 2000000 →
+        LeadsTo fonts.now out.old.items (in_page (with_fonts fonts.now file defined.old.items) cursor) →
+        LeadsTo fonts.now out.new.items (in_page (with_fonts fonts.now (with_mark file (Place.Glyph n code cursor.h cursor.v) put) defined.new.items)
+        (cursor_after fonts.now (Place.Glyph n code cursor.h cursor.v) put cursor)))) }
+    ensures long { OnOk result (length out.new.items + 271 * length defined.old.items ≤ length out.old.items + 271 * length defined.new.items + 3) }
+{
+    introduce(out, defined, fonts, n)?;
+    select(out, fonts, cursor, n)?;
+    emit::char(out, put, code)?;
+    Ok(())
+}
+
+// Writes a rule where the machine stands.
+#[tactic(auto, using(crate::proofs::Prefix::longer))]
+fn write_rule(
+    out: &mut Vec<u8>,
+    fonts: &FontSet,
+    cursor: Cursor,
+    height: i64,
+    width: i64,
+    put: bool,
+) -> Result<(), AllocError>
+    requires can { IsWritable fonts.now (Place.Rule cursor.h cursor.v height width) }
+    ensures leads { OnOk result (
+        (file : File) → file.marked < 2000000 →
+        LeadsTo fonts.now out.old.items (in_page file cursor) →
+        LeadsTo fonts.now out.new.items (in_page (with_mark file (Place.Rule cursor.h cursor.v height width) put)
+        (cursor_after fonts.now (Place.Rule cursor.h cursor.v height width) put cursor))) }
+    ensures long { OnOk result (length out.new.items ≤ length out.old.items + 9) }
+{
+    emit::rule(out, put, height, width)?;
+    Ok(())
+}
+
+// Writes a mark, with the moves to it.
+fn write_mark(
+    out: &mut Vec<u8>,
+    defined: &mut Vec<u16>,
+    fonts: &FontSet,
+    cursor: Cursor,
+    place: Place,
+    put: bool,
+) -> Result<(), AllocError>
+    requires set { IsSet fonts.now }
+    requires can { IsWritable fonts.now place }
+    requires reach { FitsFourBytes (h_of place -ℤ cursor.h) }
+    requires v { InRange cursor.v }
+    ensures leads { OnOk result ((defined.new.items ≡ used_by defined.old.items place) × (
+        (file : File) → file.marked < 2000000 →
+        LeadsTo fonts.now out.old.items (in_page (with_fonts fonts.now file defined.old.items) cursor) →
+        LeadsTo fonts.now out.new.items (in_page (with_fonts fonts.now (with_mark file place put) defined.new.items) (cursor_after fonts.now place put cursor)))) }
+    ensures long { OnOk result (length out.new.items + 271 * length defined.old.items ≤ length out.old.items + 271 * length defined.new.items + 19) }
+{
+    move_to(out, cursor, place)?;
+    let selected = cursor.font;
+    match place {
+        Place::Glyph { font, code, h, v } => {
+            let there = Cursor {
+                h,
+                v,
+                font: selected,
+            };
+            write_glyph(out, defined, fonts, there, font, code, put)?;
+            Ok(())
+        }
+        Place::Rule {
+            h,
+            v,
+            height,
+            width,
+        } => {
+            let there = Cursor {
+                h,
+                v,
+                font: selected,
+            };
+            write_rule(out, fonts, there, height, width, put)?;
+            Ok(())
+        }
+    }
+}
+
+/// Writes the marks of a page that has begun, and defines the fonts that they use first.
+pub fn write_marks(
+    out: &mut Vec<u8>,
+    defined: &mut Vec<u16>,
+    fonts: &FontSet,
+    page: &[Place],
+) -> Result<(), AllocError>
+    requires set { IsSet fonts.now }
+    requires can { All (IsWritable fonts.now) page.now }
+    ensures leads { OnOk result ((defined.new.items ≡ used_by_all defined.old.items page.now) × (
+        (file : File) → file.marked + length page.now ≤ 2000000 →
+        LeadsTo fonts.now out.old.items (in_page (with_fonts fonts.now file defined.old.items) at_origin) →
+        (end : Cursor) × LeadsTo fonts.now out.new.items (in_page (with_fonts fonts.now (with_marks file (marks_of fonts.now page.now)) defined.new.items) end))) }
+    ensures long { OnOk result (length out.new.items + 271 * length defined.old.items ≤ length out.old.items + 271 * length defined.new.items + 19 * length page.now) }
+{
+    let mut cursor = Cursor {
+        h: 0,
+        v: 0,
+        font: None,
+    };
+    let mut rest = page;
+    while let [place, later @ ..] = rest {
+        let put = must_put(fonts, *place, later);
+        write_mark(out, defined, fonts, cursor, *place, put)?;
+        cursor = cursor_after(fonts, *place, put, cursor);
+        rest = later;
+    }
+    Ok(())
+}
