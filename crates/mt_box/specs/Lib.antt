@@ -1,1 +1,12 @@
 pub mod Places
+pub mod Layout
+pub mod Tree
+pub mod Falls
+pub mod Marks
+pub mod Pack
+pub mod Pen
+pub mod Packs
+pub mod Columns
+pub mod Boxes
+pub mod Edge
+pub mod Placing

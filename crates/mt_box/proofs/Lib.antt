@@ -1,0 +1,9 @@
+pub mod Lists
+pub mod Equalities
+pub mod Moved
+pub mod Measuring
+pub mod Packing
+pub mod Pushed
+pub mod Placed
+pub mod Stacking
+pub mod Recentred

@@ -1,0 +1,158 @@
+//! The marks of a box on a page.
+ghost use Rattle.std.specs.Prelude.{◌≡◌, ◌≤◌, ◌^◌, length, ◌+ℤ◌, ◌-ℤ◌, [], ◌∷◌, if◌then◌else◌, Some, None};
+ghost use Rattle.mt_box.specs.declared.place.Place.TheVariants.{Glyph, Rule};
+ghost use Rattle.mt_scaled.specs.Number.{Within, is_in_range};
+ghost use Rattle.mt_box.specs.Tree.{places_of_node};
+ghost use Rattle.mt_box.specs.Placing.{all_lowered, reach, IsReached, Puts, Placed};
+
+use crate::packed::Node;
+use crate::{Packed, Place, PlaceError, PlaceList};
+use mt_scaled::{Items, MAX_DIMEN};
+use std::alloc::{AllocError, Global};
+
+/// The places of a box whose reference point is at h and v.
+pub fn places(
+    alloc: Global,
+    body: &Packed,
+    h: i64,
+    v: i64,
+    room: u64,
+) -> Result<PlaceList, PlaceError>
+    requires h { Within (2 ^ 60) h }
+    requires v { Within (2 ^ 60) v }
+    ensures { Placed room (all_lowered h v body.now.places) result }
+{
+    let mut places = Vec::new(alloc);
+    put_box(
+        &mut places,
+        body,
+        Point {
+            h: h as i128,
+            v: v as i128,
+        },
+        room,
+    )?;
+    Ok(Items::from_vec(places))
+}
+
+/// A point of a page, however far out.
+#[derive(Clone, Copy)]
+struct Point {
+    h: i128,
+    v: i128,
+}
+
+impl Point {
+    fn moved(self, x: &i64, y: &i64) -> Point
+        requires h { Within (2 ^ 90) self.h }
+        requires v { Within (2 ^ 90) self.v }
+        ensures { result ≡ record { h = self.h +ℤ x.now; v = self.v -ℤ y.now } }
+    {
+        Point {
+            h: self.h + *x as i128,
+            v: self.v - *y as i128,
+        }
+    }
+}
+
+/// Puts the places of a box that stands there after the others.
+#[cycle(placing)]
+fn put_box(places: &mut Vec<Place>, body: &Packed, at: Point, room: u64) -> Result<(), PlaceError>
+    requires h { Within (reach body.now.level) at.h }
+    requires v { Within (reach body.now.level) at.v }
+    requires room { length places.old.items ≤ room }
+    ensures { Puts room places.old.items (all_lowered at.h at.v body.now.places) result places.new.items }
+{
+    let at = at.moved(&body.shift, &0);
+    for node in body.nodes.as_slice() {
+        put_node(places, node, at, room)?;
+    }
+    Ok(())
+}
+
+#[cycle(placing)]
+fn put_node(places: &mut Vec<Place>, node: &Node, at: Point, room: u64) -> Result<(), PlaceError>
+    requires h { Within (2 ^ 90) at.h }
+    requires v { Within (2 ^ 90) at.v }
+    requires near { IsReached at node.now }
+    requires room { length places.old.items ≤ room }
+    ensures { Puts room places.old.items (all_lowered at.h at.v (places_of_node node.now)) result places.new.items }
+{
+    match node {
+        Node::GlyphNode(x, y, font, code) => put_glyph(places, at.moved(x, y), *font, *code, room),
+        Node::RuleNode(x, y, height, width) => put_rule(
+            places,
+            at.moved(x, y),
+            *height,
+            *width,
+            room,
+        ),
+        Node::BoxNode(x, y, body) => put_box(places, body, at.moved(x, y), room),
+    }
+}
+
+fn put_glyph(
+    places: &mut Vec<Place>,
+    at: Point,
+    font: u16,
+    code: u8,
+    room: u64,
+) -> Result<(), PlaceError>
+    requires room { length places.old.items ≤ room }
+    ensures { Puts room places.old.items (Glyph font code at.h at.v ∷ []) result places.new.items }
+{
+    let Some(h) = coordinate(at) else {
+        return Err(PlaceError::OutOfRange(at.h));
+    };
+    let Some(v) = coordinate(Point { h: at.v, v: 0 }) else {
+        return Err(PlaceError::OutOfRange(at.v));
+    };
+    if places.len() as u64 == room {
+        return Err(PlaceError::TooMany);
+    }
+    places
+        .push(Place::Glyph { font, code, h, v })
+        .map_err(AllocError::from)?;
+    Ok(())
+}
+
+fn put_rule(
+    places: &mut Vec<Place>,
+    at: Point,
+    height: i64,
+    width: i64,
+    room: u64,
+) -> Result<(), PlaceError>
+    requires room { length places.old.items ≤ room }
+    ensures { Puts room places.old.items (Rule at.h at.v height width ∷ []) result places.new.items }
+{
+    let Some(h) = coordinate(at) else {
+        return Err(PlaceError::OutOfRange(at.h));
+    };
+    let Some(v) = coordinate(Point { h: at.v, v: 0 }) else {
+        return Err(PlaceError::OutOfRange(at.v));
+    };
+    if places.len() as u64 == room {
+        return Err(PlaceError::TooMany);
+    }
+    places
+        .push(Place::Rule {
+            h,
+            v,
+            height,
+            width,
+        })
+        .map_err(AllocError::from)?;
+    Ok(())
+}
+
+/// The horizontal coordinate, if it is in range.
+fn coordinate(at: Point) -> Option<i64>
+    ensures { result ≡ (if is_in_range at.h then Some at.h else None) }
+{
+    if -(MAX_DIMEN as i128) <= at.h && at.h <= MAX_DIMEN as i128 {
+        Some(at.h as i64)
+    } else {
+        None
+    }
+}

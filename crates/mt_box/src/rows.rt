@@ -1,0 +1,207 @@
+//! Rows: measured and packed (tex.web §649 to §652).
+ghost use Rattle.std.specs.Prelude.{◌≡◌, ◌<◌, ◌≤◌, ◌^◌, ◌+◌, ◌++◌, ◌+ℤ◌, length, max, ℕ, IfOk, IfSome, OnOk};
+ghost use Rattle.std.specs.Int.{int_max};
+ghost use Rattle.mt_scaled.specs.Number.{Within};
+ghost use Rattle.mt_box.specs.Tree.{AllFit, places_of_nodes, ExtentsInRange, FitsIn, places_of_option};
+ghost use Rattle.mt_box.specs.Marks.{mark_of, marks_of, mark_width, mark_height, mark_depth, mark_shrink, mark_places, marks_width, marks_height, marks_depth, marks_shrink, pack};
+ghost use Rattle.mt_box.specs.Pen.{pen_extents};
+ghost use Rattle.mt_box.specs.Packs.{Packs};
+ghost use Rattle.mt_box.specs.Pack.{level_of_piece, row_level, IsModest, AllModest};
+
+use crate::packed::{Node, seal};
+use crate::{Extents, PackError, Packed, Piece, Row};
+use mt_scaled::Length;
+use std::alloc::{AllocError, Global};
+
+/// The row packed: the box of its pieces, each directly to the right of the one before it.
+///
+/// Its width is the sum of the widths; its height and depth are the greatest of 0 and of those of the pieces, where a
+/// box that is raised counts with its raise. The row has at most 2^21 pieces, and each number in it is at most 2^40 in
+/// size.
+pub fn hpack(alloc: Global, row: Row) -> Result<Packed, PackError>
+    requires few { length row ≤ 2 ^ 21 }
+    requires modest { AllModest row }
+    ensures packs { Packs (pack (marks_of row)) result }
+    ensures level { IfOk result (λ b. b.level ≡ row_level row) }
+    ensures in_range { IfOk result (λ b. ExtentsInRange b.extents) }
+{
+    let mut nodes = Vec::new(alloc);
+    let mut pen = Pen::START;
+    for piece in row.into_vec() {
+        let next = pen.after(&piece);
+        push_node(&mut nodes, pen, piece)?;
+        pen = next;
+    }
+    pen.finish(nodes)
+}
+
+/// How far a row reaches, in scaled points, with its spaces as they are. Its box, if it is in range, has these extents.
+pub fn row_extents(row: &Row) -> Extents
+    requires few { length row.now ≤ 2 ^ 21 }
+    requires modest { AllModest row.now }
+    ensures width { result.width ≡ marks_width (marks_of row.now) }
+    ensures height { result.height ≡ marks_height (marks_of row.now) }
+    ensures depth { result.depth ≡ marks_depth (marks_of row.now) }
+    ensures wide { Within (2 ^ 61) result.width }
+    ensures high { Within (2 ^ 41) result.height }
+    ensures deep { Within (2 ^ 41) result.depth }
+{
+    let mut pen = Pen::START;
+    for piece in row.as_slice() {
+        pen = pen.after(piece);
+    }
+    pen.extents()
+}
+
+/// How much all spaces of a row may shrink together, in scaled points.
+pub fn shrink_of(row: &Row) -> i64
+    requires few { length row.now ≤ 2 ^ 21 }
+    requires modest { AllModest row.now }
+    ensures is { result ≡ marks_shrink (marks_of row.now) }
+    ensures small { Within (2 ^ 61) result }
+{
+    let mut total = Length { sp: 0 };
+    for piece in row.as_slice() {
+        total = with_shrink(total, piece);
+    }
+    total.sp
+}
+
+#[tactic(auto, using(std::proofs::lemmas::Int::ints))]
+fn with_shrink(total: Length, piece: &Piece) -> Length
+    requires modest { IsModest piece.now }
+    requires total { Within (2 ^ 61) total.sp }
+    ensures is { result.sp ≡ total.sp +ℤ mark_shrink (mark_of piece.now) }
+{
+    match piece {
+        Piece::Space { shrink, .. } => Length {
+            sp: total.sp + *shrink,
+        },
+        _ => total,
+    }
+}
+
+// Where the next piece stands, and what the pieces so far reach.
+#[derive(Clone, Copy)]
+struct Pen {
+    x: i64,
+    height: i64,
+    depth: i64,
+    level: u32,
+}
+
+impl Pen {
+    const START: Pen = Pen {
+        x: 0,
+        height: 0,
+        depth: 0,
+        level: 1,
+    };
+
+    // The pen behind a piece.
+    #[tactic(auto, using(std::proofs::lemmas::Int::ints))]
+    fn after(self, piece: &Piece) -> Pen
+        requires modest { IsModest piece.now }
+        requires x { Within (2 ^ 61) self.x }
+        ensures x { result.x ≡ self.x +ℤ mark_width (mark_of piece.now) }
+        ensures height { result.height ≡ int_max self.height (mark_height (mark_of piece.now)) }
+        ensures depth { result.depth ≡ int_max self.depth (mark_depth (mark_of piece.now)) }
+        ensures level { result.level ≡ max self.level (level_of_piece piece.now + 1) }
+        ensures wide { Within (2 ^ 40) (mark_width (mark_of piece.now)) }
+        ensures high { Within (2 ^ 41) (mark_height (mark_of piece.now)) }
+        ensures deep { Within (2 ^ 41) (mark_depth (mark_of piece.now)) }
+    {
+        let measures = measure(piece);
+        Pen {
+            x: self.x + measures.width,
+            height: self.height.max(measures.height),
+            depth: self.depth.max(measures.depth),
+            level: self.level.max(level_of(piece) + 1),
+        }
+    }
+
+    fn extents(self) -> Extents
+        ensures { result ≡ pen_extents self }
+    {
+        Extents {
+            width: self.x,
+            height: self.height,
+            depth: self.depth,
+        }
+    }
+
+    // The box of these nodes, which the pieces so far put.
+    fn finish(self, nodes: Vec<Node>) -> Result<Packed, PackError>
+        requires level { self.level ≤ 2 ^ 20 }
+        requires fit { AllFit self.level nodes.items }
+        ensures packs { Packs (record { extents = pen_extents self; places = places_of_nodes nodes.items }) result }
+        ensures level { IfOk result (λ b. b.level ≡ self.level) }
+        ensures in_range { IfOk result (λ b. ExtentsInRange b.extents) }
+    {
+        seal(self.extents(), self.level, nodes)
+    }
+}
+
+fn push_node(nodes: &mut Vec<Node>, pen: Pen, piece: Piece) -> Result<(), AllocError>
+    requires x { Within (2 ^ 61) pen.x }
+    requires modest { IsModest piece }
+    ensures places { OnOk result (places_of_nodes nodes.new.items ≡ places_of_nodes nodes.old.items ++ mark_places pen.x (mark_of piece)) }
+    ensures fits { OnOk result ((level : ℕ) → level_of_piece piece < level → AllFit level nodes.old.items → AllFit level nodes.new.items) }
+{
+    if let Some(node) = node_at(pen, piece) {
+        nodes.push(node)?;
+    }
+    Ok(())
+}
+
+// How far a piece reaches from the row's baseline.
+#[tactic(auto, using(std::proofs::lemmas::Int::ints))]
+fn measure(piece: &Piece) -> Extents
+    requires { IsModest piece.now }
+    ensures width { result.width ≡ mark_width (mark_of piece.now) }
+    ensures height { result.height ≡ mark_height (mark_of piece.now) }
+    ensures depth { result.depth ≡ mark_depth (mark_of piece.now) }
+    ensures wide { Within (2 ^ 40) result.width }
+    ensures high { Within (2 ^ 41) result.height }
+    ensures deep { Within (2 ^ 41) result.depth }
+{
+    match piece {
+        Piece::Glyph { extents, .. } => *extents,
+        Piece::Boxed { raise, body } => {
+            let inner = body.extents();
+            Extents {
+                width: inner.width,
+                height: inner.height + *raise,
+                depth: inner.depth - *raise,
+            }
+        }
+        Piece::Kern(width) | Piece::Space { width, .. } => Extents {
+            width: *width,
+            height: 0,
+            depth: 0,
+        },
+    }
+}
+
+fn level_of(piece: &Piece) -> u32
+    requires { IsModest piece.now }
+    ensures { result ≡ level_of_piece piece.now }
+{
+    match piece {
+        Piece::Boxed { body, .. } => body.level(),
+        _ => 0,
+    }
+}
+
+fn node_at(pen: Pen, piece: Piece) -> Option<Node>
+    requires x { Within (2 ^ 61) pen.x }
+    requires modest { IsModest piece }
+    ensures places { places_of_option result ≡ mark_places pen.x (mark_of piece) }
+    ensures fits { IfSome result (λ n. (level : ℕ) → level_of_piece piece < level → FitsIn level n) }
+{
+    match piece {
+        Piece::Glyph { font, code, .. } => Some(Node::GlyphNode(pen.x, 0, font, code)),
+        Piece::Boxed { raise, body } => Some(Node::BoxNode(pen.x, raise, body)),
+        _ => None,
+    }
+}
