@@ -8,7 +8,9 @@ use Rattle.mt_token.specs.declared.piece.State.TheVariants.{New}
 use Rattle.mt_token.specs.declared.piece.Piece.TheVariants.{Passed, Made}
 use Rattle.mt_token.specs.declared.piece.Piece.{Piece}
 use Rattle.mt_token.specs.Pieces.{piece, Fits}
-use Rattle.mt_token.specs.Tokens.{Mark, mark_of, Answer, before, at_piece, lex, SpansInOrder}
+use Rattle.mt_token.specs.Tokens.{Mark, mark_of, Answer, before, at_piece, lex, lexed, SpansInOrder, IsUnique}
+use Rattle.mt_token.proofs.Same.{same_tokens}
+use Rattle.std.specs.Prelude.{nat_lt, false}
 
 -- passing over the bytes of a piece
 skips : (state : State) (at skip : ℕ) (xs : List ℕ) → skip ≤ length xs → lex state at skip xs ≡ lex state (at + skip) 0 (drop skip xs)
@@ -91,3 +93,11 @@ going_end bytes state at list g h = g.is ∙ ap (λ xs. before (map mark_of list
 -- the spans of the whole
 pub going_ordered : (bytes : List ℕ) (state : State) (at : ℕ) (list list' : List Token) → Going bytes state at list → list' ≡ list → SpansInOrder 0 list' (length bytes)
 going_ordered bytes state at list list' g e = subst (λ (xs : List Token). SpansInOrder 0 xs (length bytes)) (sym e) (spans_on 0 at (length bytes) list g.ordered g.within)
+
+same_answer : (xs ys : List Mark) → (let a : Answer = Ok xs in a) ≡ Ok ys → xs ≡ ys
+same_answer xs ys e = cc
+
+pub going_unique : (bytes : List ℕ) (state : State) (at : ℕ) (list list' : List Token) → Going bytes state at list → length bytes ≤ at → list' ≡ list → nat_lt 4194304 (length bytes) ≡ false → IsUnique (lexed bytes) list'
+going_unique bytes state at list list' g end e small = λ other o.
+    let whole : lexed bytes ≡ Ok (map mark_of list) = rw small (going_end bytes state at list g end) in
+    same_tokens other list (same_answer _ _ (sym o ∙ whole)) ∙ sym e

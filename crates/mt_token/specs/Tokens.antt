@@ -56,3 +56,7 @@ Lexes (Err (FaultBadByte n)) a = a ≡ Err (FaultBadByte n)
 abbrev pub SpansInOrder : ℕ → List Token → ℕ → Type 0
 SpansInOrder from [] to = from ≤ to
 SpansInOrder from (t ∷ ts) to = (from ≤ t.start) × (t.start < t.end) × SpansInOrder t.end ts to
+
+-- no other list of tokens is an answer
+abbrev pub IsUnique : Answer → List Token → Type 0
+IsUnique a list = (other : List Token) → a ≡ Ok (map mark_of other) → other ≡ list

@@ -1,6 +1,6 @@
 //! The tokens of a whole source.
 ghost use Rattle.std.specs.Prelude.{◌≡◌, ◌≤◌, ◌++◌, ◌∷◌, [], length, drop, IfOk, OnOk};
-ghost use Rattle.mt_token.specs.Tokens.{lexed, Lexes, SpansInOrder};
+ghost use Rattle.mt_token.specs.Tokens.{lexed, Lexes, SpansInOrder, IsUnique};
 
 use crate::piece::{Piece, State, next_piece};
 use crate::token::{Token, TokenError, TokenList};
@@ -33,6 +33,7 @@ fn push_token(list: &mut Vec<Token>, token: Token) -> Result<(), AllocError>
 pub fn tokens(alloc: Global, bytes: &[u8]) -> Result<TokenList, TokenError>
     ensures is { Lexes result (lexed bytes.now) }
     ensures ordered { IfOk result (λ list. SpansInOrder 0 list (length bytes.now)) }
+    ensures unique { IfOk result (IsUnique (lexed bytes.now)) }
 {
     if bytes.len() > MAX_SOURCE {
         return Err(TokenError::TooLong);

@@ -1,5 +1,6 @@
-use Rattle.std.proofs.Common.{refl}
-use Rattle.mt_token.proofs.Lexed.{going_passed, going_made, going_ordered}
+use Rattle.std.proofs.Common.{refl, arith}
+use Rattle.std.proofs.lemmas.Bool.Decides.{nat_tests}
+use Rattle.mt_token.proofs.Lexed.{going_passed, going_made, going_ordered, going_unique}
 use Rattle.mt_token.proofs.lexer.tokens.Goals as goal
 
 pub loop-at-preserved-in-Passed : goal.loop-at-preserved-in-Passed
@@ -10,3 +11,6 @@ loop-at-preserved c = going_made _ c.from.result.now _ _ _ _ _ _ _ _ c.loop-at.i
 
 pub returns-clause-ordered : goal.returns-clause-ordered
 returns-clause-ordered c = going_ordered _ _ _ _ _ c.loop-at.invariant c.from_vec.ensures
+
+pub returns-clause-unique : goal.returns-clause-unique
+returns-clause-unique c = going_unique _ _ _ _ _ c.loop-at.invariant (omega arith) c.from_vec.ensures (grind (arith, nat_tests))
