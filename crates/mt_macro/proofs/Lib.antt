@@ -1,0 +1,6 @@
+pub mod Places
+pub mod Unmatched
+pub mod Named
+pub mod Hashes
+pub mod Taking
+pub mod Running

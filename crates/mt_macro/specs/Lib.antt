@@ -1,0 +1,6 @@
+pub mod Braces
+pub mod Parameters
+pub mod Table
+pub mod Definition
+pub mod Arguments
+pub mod Expansion

@@ -1,0 +1,104 @@
+//! The arguments of a macro.
+ghost use Rattle.std.specs.Prelude.{◌≡◌, ◌<◌, ◌≤◌, ◌+◌, ◌^◌, ◌==◌, ◌&&◌, ◌++◌, ◌∷◌, [], IfOk, IfSome, OnOk, length, map, sum_by, get_or, All, List};
+ghost use Rattle.std.specs.Option.{option_map};
+ghost use Rattle.mt_macro.specs.Braces.{group};
+ghost use Rattle.mt_macro.specs.Arguments.{is_space, argument, arguments, lent, Takes, TakesAll, lent_lists, Short};
+
+use crate::braces::{closes_none, is_close, is_open, level_after};
+use crate::inputs::Inputs;
+use mt_scaled::Items;
+use mt_token::{Token, TokenKind};
+use std::alloc::{AllocError, Global};
+
+/// The tokens of an argument.
+pub type Argument<'a> = Items<&'a Token>;
+
+/// Whether a token is a Space.
+pub fn is_space(token: &Token) -> bool
+    ensures { result ≡ is_space token.now }
+{
+    matches!(token.kind, TokenKind::Space)
+}
+
+pub fn push_lent<'a>(list: &mut Vec<&'a Token>, token: &'a Token) -> Result<(), AllocError>
+    ensures { OnOk result (lent list.new.items ≡ lent list.old.items ++ token.now ∷ []) }
+{
+    list.push(token)?;
+    Ok(())
+}
+
+// The rest of a group, up to its brace.
+fn take_group<'a>(alloc: Global, rest: &mut Inputs<'a>) -> Result<Option<Argument<'a>>, AllocError>
+    requires { length rest.old < 2 ^ 31 }
+    ensures short { IfOk result (λ taken. IfSome taken (λ a. length a ≤ length rest.old)) }
+    ensures takes { IfOk result (λ taken. Takes (option_map (λ v. lent v) taken) (group 0 rest.old) rest.new) }
+    ensures falls { length rest.new ≤ length rest.old }
+{
+    let mut inside = Vec::new(alloc);
+    let mut level = 0;
+    while let Some(token) = rest.pop() {
+        if closes_none(level, token) {
+            return Ok(Some(Argument::from_vec(inside)));
+        }
+        level = level_after(level, token);
+        push_lent(&mut inside, token)?;
+    }
+    Ok(None)
+}
+
+// Spaces, and then a token or a group.
+fn take_argument<'a>(
+    alloc: Global,
+    rest: &mut Inputs<'a>,
+) -> Result<Option<Argument<'a>>, AllocError>
+    requires { length rest.old < 2 ^ 31 }
+    ensures short { IfOk result (λ taken. IfSome taken (λ a. length a ≤ length rest.old)) }
+    ensures takes { IfOk result (λ taken. Takes (option_map (λ v. lent v) taken) (argument rest.old) rest.new) }
+    ensures falls { length rest.new ≤ length rest.old }
+{
+    while let Some(token) = rest.pop() {
+        if is_open(token) {
+            return take_group(alloc, rest);
+        }
+        if is_close(token) {
+            return Ok(None);
+        }
+        if !is_space(token) {
+            let mut one = Vec::new(alloc);
+            push_lent(&mut one, token)?;
+            return Ok(Some(Argument::from_vec(one)));
+        }
+    }
+    Ok(None)
+}
+
+// So many arguments.
+pub fn take_arguments<'a>(
+    alloc: Global,
+    rest: &mut Inputs<'a>,
+    params: u8,
+) -> Result<Option<Vec<Argument<'a>>>, AllocError>
+    requires { length rest.old < 2 ^ 31 }
+    ensures short { IfOk result (λ taken. IfSome taken (λ all. All Short all.items)) }
+    ensures takes { IfOk result (λ taken. TakesAll (option_map (λ v. lent_lists v.items) taken) (arguments params rest.old) rest.new) }
+    ensures falls { length rest.new ≤ length rest.old }
+{
+    let mut taken = Vec::new(alloc);
+    let mut left = params;
+    while left > 0 {
+        left -= 1;
+        match take_argument(alloc, rest)? {
+            Some(argument) => push_argument(&mut taken, argument)?,
+            None => return Ok(None),
+        }
+    }
+    Ok(Some(taken))
+}
+
+fn push_argument<'a>(list: &mut Vec<Argument<'a>>, argument: Argument<'a>) -> Result<(), AllocError>
+    ensures short { All Short list.old.items → Short argument.entry → OnOk result (All Short list.new.items) }
+    ensures is { OnOk result (lent_lists list.new.items ≡ lent_lists list.old.items ++ lent argument.entry ∷ []) }
+{
+    list.push(argument)?;
+    Ok(())
+}

@@ -1,0 +1,137 @@
+//! Expansion: macros are replaced, one step after another, until none is left.
+ghost use Rattle.std.specs.Prelude.{◌≡◌, ◌<◌, ◌≤◌, ◌+◌, ◌*◌, ◌^◌, ◌++◌, ◌∷◌, [], IfOk, OnOk, length, map, All, get_or, IsTrue, List, ℕ};
+ghost use Rattle.mt_macro.specs.Table.{macro_at, IsShort};
+ghost use Rattle.mt_macro.specs.Arguments.{fill, lent, lent_lists, arguments};
+ghost use Rattle.mt_macro.specs.Expansion.{run, expansion, Expands, Runs, Replaces, replaced};
+ghost use Rattle.mt_macro.specs.declared.expansion.ExpandError.TheVariants.{OutOfMemory};
+
+use crate::arguments::{Argument, push_lent, take_arguments};
+use crate::braces::first_unmatched;
+use crate::filling::{filled, filled_len};
+use crate::inputs::Inputs;
+use crate::table::{Macro, Macros};
+use mt_token::{Token, TokenList};
+use std::alloc::{AllocError, Global};
+use thiserror::Error;
+
+/// Why a list was not expanded.
+#[derive(Clone, Copy, Debug, PartialEq, Eq, Error)]
+pub enum ExpandError {
+    #[error("too many steps or tokens")]
+    Budget { steps: u32, length: u64 },
+    #[error("the macro at {0} lacks an argument")]
+    MissingArgument(u32),
+    #[error("the brace at {0} has no partner")]
+    Unbalanced(u32),
+    #[error("the list is too long")]
+    TooLong,
+    #[error("out of memory")]
+    OutOfMemory,
+}
+
+impl From<AllocError> for ExpandError {
+    ghost from_gives = { λ _ e. e ≡ OutOfMemory };
+
+    fn from(_: AllocError) -> Self {
+        ExpandError::OutOfMemory
+    }
+}
+
+const MAX_TOKENS: usize = 50_000;
+
+const MAX_STEPS: u32 = 20_000;
+
+/// The list with no macro left in it, or the first fault.
+pub fn expand(alloc: Global, macros: &Macros, list: &[Token]) -> Result<TokenList, ExpandError>
+    ensures { Expands result (expansion macros.now list.now) }
+{
+    if list.len() > MAX_TOKENS {
+        return Err(ExpandError::TooLong);
+    }
+    if let Some(place) = first_unmatched(list) {
+        return Err(ExpandError::Unbalanced(place as u32));
+    }
+    let passed = run_steps(alloc, macros, list)?;
+    Ok(lent_tokens(alloc, passed.as_slice())?)
+}
+
+// Lent tokens, in memory of their own.
+fn lent_tokens(alloc: Global, list: &[&Token]) -> Result<TokenList, AllocError>
+    ensures { IfOk result (λ tokens. tokens ≡ lent list.now) }
+{
+    let mut tokens = Vec::new(alloc);
+    for token in list {
+        tokens.push(token.copied(alloc)?)?;
+    }
+    Ok(TokenList::from_vec(tokens))
+}
+
+/// What became of a macro and its arguments.
+#[derive(Clone, Copy, Debug)]
+enum Replacement {
+    NoArgument,
+    TooLong(u64),
+    Done,
+}
+
+// The macro's body with its arguments goes before the rest, if there is room beside what is passed.
+fn replace<'a>(
+    alloc: Global,
+    found: &'a Macro,
+    rest: &mut Inputs<'a>,
+    passed: usize,
+) -> Result<Replacement, AllocError>
+    requires rest { passed + length rest.old ≤ 50000 }
+    requires body { IsShort found.now }
+    ensures { IfOk result (λ r. Replaces passed r (replaced (found.now) (arguments found.now.params rest.old)) rest.new) }
+{
+    let Some(arguments) = take_arguments(alloc, rest, found.params)? else {
+        return Ok(Replacement::NoArgument);
+    };
+    let text = found.body.as_slice();
+    let given = arguments.as_slice();
+    let length = (passed + rest.len()) as u64 + filled_len(text, given);
+    if length > MAX_TOKENS as u64 {
+        return Ok(Replacement::TooLong(length));
+    }
+    let body = filled(alloc, text, given)?;
+    rest.push_all(body.as_slice())?;
+    Ok(Replacement::Done)
+}
+
+fn run_steps<'a>(
+    alloc: Global,
+    macros: &'a Macros,
+    list: &'a [Token],
+) -> Result<Argument<'a>, ExpandError>
+    requires { length list.now ≤ 50000 }
+    ensures { Runs result (run macros.now 20000 0 list.now) }
+{
+    let mut passed = Vec::new(alloc);
+    let mut rest = Inputs::of(alloc, list)?;
+    let mut steps = 0;
+    while let Some(token) = rest.pop() {
+        match macros.named_by(token) {
+            None => push_lent(&mut passed, token)?,
+            Some(found) => {
+                if steps == MAX_STEPS {
+                    return Err(ExpandError::Budget {
+                        steps,
+                        length: (passed.len() + rest.len() + 1) as u64,
+                    });
+                }
+                steps += 1;
+                match replace(alloc, found, &mut rest, passed.len())? {
+                    Replacement::NoArgument => {
+                        return Err(ExpandError::MissingArgument(passed.len() as u32));
+                    }
+                    Replacement::TooLong(length) => {
+                        return Err(ExpandError::Budget { steps, length });
+                    }
+                    Replacement::Done => {}
+                }
+            }
+        }
+    }
+    Ok(Argument::from_vec(passed))
+}

@@ -1,0 +1,99 @@
+//! A body with arguments in place of its parameters.
+ghost use Rattle.std.specs.Prelude.{◌≡◌, ◌<◌, ◌≤◌, ◌+◌, ◌-◌, ◌*◌, ◌^◌, ◌++◌, ◌∷◌, [], IfOk, OnOk, length, map, All, get_or, List};
+ghost use Rattle.mt_token.specs.Character.{character_of};
+ghost use Rattle.mt_macro.specs.Arguments.{fill, lent, lent_lists, Short};
+ghost use Rattle.std.specs.Borrow.{Bor};
+
+use crate::arguments::Argument;
+use crate::braces::character;
+use crate::parameters::is_hash;
+use mt_token::Token;
+use std::alloc::{AllocError, Global};
+
+// How long the argument of a digit is, 0 where there is none.
+fn argument_len(arguments: &[Argument], digit: &Token) -> usize
+    requires { All Short arguments.now }
+    ensures is { result ≡ length (get_or (lent_lists arguments.now) (character_of digit.now.kind - 49) []) }
+    ensures short { result < 2 ^ 31 }
+{
+    match arguments.get(usize::from(character(digit).saturating_sub(49))) {
+        Some(argument) => argument.len(),
+        None => 0,
+    }
+}
+
+/// How many tokens a body has with its arguments in it.
+pub fn filled_len(body: &[Token], arguments: &[Argument]) -> u64
+    requires body { length body.now ≤ 2 ^ 32 }
+    requires arguments { All Short arguments.now }
+    ensures is { result ≡ length (fill (lent_lists arguments.now) body.now) }
+    ensures small { result ≤ 2 ^ 63 }
+{
+    let mut count = 0;
+    let mut rest = body;
+    loop {
+        match rest {
+            [hash, digit, after @ ..] if is_hash(hash) => {
+                count += argument_len(arguments, digit) as u64;
+                rest = after;
+            }
+            [_, after @ ..] => {
+                count += 1;
+                rest = after;
+            }
+            [] => return count,
+        }
+    }
+}
+
+/// A body with its arguments in it.
+pub fn filled<'a>(
+    alloc: Global,
+    body: &'a [Token],
+    arguments: &[Argument<'a>],
+) -> Result<Vec<&'a Token>, AllocError>
+    ensures { IfOk result (λ tokens. lent tokens.items ≡ fill (lent_lists arguments.now) body.now) }
+{
+    let mut tokens = Vec::new(alloc);
+    let mut rest = body;
+    loop {
+        match rest {
+            [hash, digit, after @ ..] if is_hash(hash) => {
+                push_argument(&mut tokens, arguments, digit)?;
+                rest = after;
+            }
+            [token, after @ ..] => {
+                push_token(&mut tokens, token)?;
+                rest = after;
+            }
+            [] => return Ok(tokens),
+        }
+    }
+}
+
+fn push_token<'a>(tokens: &mut Vec<&'a Token>, token: &'a Token) -> Result<(), AllocError>
+    ensures { OnOk result (lent tokens.new.items ≡ lent tokens.old.items ++ token.now ∷ []) }
+{
+    tokens.push(token)?;
+    Ok(())
+}
+
+fn push_argument<'a>(
+    tokens: &mut Vec<&'a Token>,
+    arguments: &[Argument<'a>],
+    digit: &Token,
+) -> Result<(), AllocError>
+    ensures { OnOk result (lent tokens.new.items ≡ lent tokens.old.items ++ get_or (lent_lists arguments.now) (character_of digit.now.kind - 49) []) }
+{
+    match arguments.get(usize::from(character(digit).saturating_sub(49))) {
+        Some(argument) => push_slice(tokens, argument.as_slice()),
+        None => Ok(()),
+    }
+}
+
+fn push_slice<'a>(tokens: &mut Vec<&'a Token>, more: &[&'a Token]) -> Result<(), AllocError>
+    ensures { OnOk result (lent tokens.new.items ≡ lent tokens.old.items ++ lent more.now) }
+{
+    tokens.extend_from_slice(more)?;
+    Ok(())
+}

@@ -1,0 +1,19 @@
+//! Macros and their expansion, as TeX does it for macros with undelimited parameters (The TeXbook, chapter 20; tex.web part 25).
+#![tactic(auto)]
+
+mod arguments;
+mod braces;
+mod definition;
+mod expansion;
+mod filling;
+mod inputs;
+mod parameters;
+mod table;
+
+pub use definition::MacroError;
+pub use expansion::{ExpandError, expand};
+pub use parameters::first_bad_parameter;
+pub use table::Macros;
+
+#[cfg(test)]
+mod tests;

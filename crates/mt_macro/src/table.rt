@@ -1,0 +1,149 @@
+//! The macros by their names.
+ghost use Rattle.std.specs.Prelude.{◌≡◌, ◌≤◌, ◌^◌, ◌<◌, ◌+◌, ◌||◌, ◌&&◌, not, if◌then◌else◌, [], true, false, length, IfOk, IfSome, OnOk, OnErr};
+ghost use Rattle.std.specs.Option.{option_copied};
+ghost use Rattle.mt_macro.specs.Table.{macro_of, macro_at, is_own, own_count, with_macro, IsShort};
+
+use mt_scaled::Name;
+use mt_token::{Token, TokenKind, TokenList};
+use std::alloc::{AllocError, Global};
+use std::collections::BTreeMap;
+use std::marker::Model;
+
+/// What a name stands for.
+#[derive(Drop)]
+pub struct Macro {
+    /// Whether the name is the user's own.
+    pub own: bool,
+    /// The number of parameters.
+    pub params: u8,
+    /// The tokens that it is replaced by, in which `#` and a digit stand for a parameter.
+    pub body: TokenList,
+}
+
+/// Macros: a finite map from names to their numbers of parameters and bodies, with a mark on each name that is the user's own.
+///
+/// A name is the user's own from its first [`Macros::define`] on.
+#[derive(Drop)]
+pub struct Macros {
+    alloc: Global,
+    by_name: BTreeMap<Vec<u8>, Macro>,
+    own_names: usize,
+}
+
+impl Model for Macros {
+    ghost use Rattle.std.specs.Prelude.{List, map};
+    ghost use Rattle.mt_macro.specs.Table.{Table, IsKept};
+
+    ghost Value = { Table };
+
+    ghost view = { λ m. map (λ e. (e.0.items, e.1)) m.by_name.entries };
+
+    ghost invariant = { λ m. IsKept (map (λ e. (e.0.items, e.1)) m.by_name.entries) m.own_names };
+}
+
+impl Macros {
+    /// No macros. Takes no memory; what is defined later is kept by this allocator.
+    pub fn empty(alloc: Global) -> Macros
+        ensures { result ≡ [] }
+    {
+        Macros {
+            alloc,
+            by_name: BTreeMap::new(alloc),
+            own_names: 0,
+        }
+    }
+
+    /// The macro of a name.
+    pub(crate) fn named(&self, name: &[u8]) -> Option<&Macro>
+        ensures is { option_copied result ≡ macro_of self.now name.now }
+        ensures short { IfSome result (λ m. IsShort m.now) }
+    {
+        self.by_name.get(name)
+    }
+
+    /// The macro that a token names.
+    pub(crate) fn named_by(&self, token: &Token) -> Option<&Macro>
+        ensures is { option_copied result ≡ macro_at self.now token.now }
+        ensures short { IfSome result (λ m. IsShort m.now) }
+    {
+        match &token.kind {
+            TokenKind::Control(name) => self.named(name.as_slice()),
+            _ => None,
+        }
+    }
+
+    /// Whether a name is the user's own.
+    pub(crate) fn is_own(&self, name: &[u8]) -> bool
+        ensures { result ≡ is_own (macro_of self.now name.now) }
+    {
+        match self.named(name) {
+            Some(found) => found.own,
+            None => false,
+        }
+    }
+
+    /// How many names are the user's own.
+    pub(crate) fn own_names(&self) -> usize
+        ensures { result ≡ own_count self.now }
+    {
+        self.own_names
+    }
+
+    /// Puts a macro under a name, in place of an older one. The name is the user's own where it is marked or was so before.
+    pub(crate) fn put(
+        &mut self,
+        name: &Name,
+        mark: bool,
+        params: u8,
+        body: &[Token],
+    ) -> Result<(), AllocError>
+        requires short { length body.now ≤ 2 ^ 32 }
+        requires room { mark ≡ true → is_own (macro_of self.old name.now) ≡ false → own_count self.old < 1000 }
+        ensures ok { OnOk result (self.new ≡ with_macro self.old name.now (record { own = mark || is_own (macro_of self.old name.now); params = params; body = body.now })) }
+        ensures err { OnErr result (self.new ≡ self.old) }
+    {
+        let was_own = self.is_own(name.as_slice());
+        let key = bytes_of(self.alloc, name.as_slice())?;
+        let entry = Macro {
+            own: either(mark, was_own),
+            params,
+            body: copied(self.alloc, body)?,
+        };
+        self.by_name.insert(key, entry)?;
+        self.own_names = own_names_after(self.own_names, mark, was_own);
+        Ok(())
+    }
+}
+
+fn either(one: bool, other: bool) -> bool
+    ensures { result ≡ one || other }
+{
+    one || other
+}
+
+// How many names are the user's own, after a name is marked.
+fn own_names_after(count: usize, mark: bool, was_own: bool) -> usize
+    requires { mark ≡ true → was_own ≡ false → count < 1000 }
+    ensures { result ≡ (if mark && not was_own then count + 1 else count) }
+{
+    if mark && !was_own { count + 1 } else { count }
+}
+
+fn bytes_of(alloc: Global, bytes: &[u8]) -> Result<Vec<u8>, AllocError>
+    ensures { IfOk result (λ v. v.items ≡ bytes.now) }
+{
+    let mut copy = Vec::new(alloc);
+    copy.extend_from_slice(bytes)?;
+    Ok(copy)
+}
+
+/// The same tokens once more, in memory of their own.
+fn copied(alloc: Global, list: &[Token]) -> Result<TokenList, AllocError>
+    ensures { IfOk result (λ tokens. tokens ≡ list.now) }
+{
+    let mut tokens = Vec::new(alloc);
+    for token in list {
+        tokens.push(token.copied(alloc)?)?;
+    }
+    Ok(TokenList::from_vec(tokens))
+}
