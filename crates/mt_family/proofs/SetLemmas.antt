@@ -1,17 +1,19 @@
 -- The table of the families' numbers.
-use Rattle.std.proofs.Common.{◌≡◌, ◌≤◌, ◌<◌, ◌+◌, ◌∙◌, ℕ, List, [], ◌∷◌, ◌++◌, length, map, Bool, true, false, Option, Some, None, unwrap_or, All, refl, arith, ap, sym, nat_eq, nat_lt, if◌then◌else◌, inl, inr, subst}
+use Rattle.std.proofs.Common.{◌≡◌, ◌≤◌, ◌<◌, ◌+◌, ◌∙◌, ℕ, List, [], ◌∷◌, ◌++◌, length, map, Bool, true, false, Option, Some, None, unwrap_or, All, refl, arith, ap, sym, nat_eq, nat_lt, if◌then◌else◌, inl, inr, subst, length-append}
 use Rattle.std.specs.List.{find, slice_get, range_with_len}
 use Rattle.std.proofs.lemmas.Bool.Decides.{nat_tests}
 use Rattle.std.proofs.lemmas.List.Elements.{All-head, All-tail, All-weaker, All-get_or}
 use Rattle.std.proofs.lemmas.List.FromFn.{map-range_with_len_more, get_or-map-range_with_len, length-map-range_with_len}
 use Rattle.std.proofs.lemmas.Option.{slice_get-get_or, slice_get_past, slice_get_cases}
+use Rattle.std.proofs.lemmas.List.{map-append}
+use Rattle.mt_family.specs.declared.list.FontLine.{FontLine}
 use Rattle.mt_family.specs.declared.list.FamilyLine.{FamilyLine}
 use Rattle.mt_family.specs.declared.size.Size.{Size}
 use Rattle.mt_family.specs.Sizes.{font_at_size, index_of}
 use Rattle.mt_family.specs.ListFacts.{is_family, IsFamilyLine, IsKnown}
 use Rattle.mt_family.specs.declared.size.Size.TheVariants.{Text, Script, Scriptscript}
 use Rattle.mt_tfm.specs.Font.{Metrics}
-use Rattle.mt_family.specs.SetValue.{SetValue, IsSet, HasParams, has_params, font_in, numbers_of, numbers_by, table_of, number_in, number_by}
+use Rattle.mt_family.specs.SetValue.{SetValue, IsSet, AreLoaded, HasParams, has_params, font_in, numbers_of, numbers_by, table_of, number_in, number_by}
 
 pub table_more : (families : List FamilyLine) (count : ℕ) → table_of families (count + 1) ≡ table_of families count ++ numbers_of families count ∷ []
 unfolding table_of
@@ -96,3 +98,11 @@ pub has_each : (families : List FamilyLine) (fonts : List Metrics) (fam least i 
 has_each families fonts fam least i Text h le = fewer least i (font_in families fonts fam Text) h.text le
 has_each families fonts fam least i Script h le = fewer least i (font_in families fonts fam Script) h.script le
 has_each families fonts fam least i Scriptscript h le = fewer least i (font_in families fonts fam Scriptscript) h.small le
+
+-- a font that was read for the next line
+pub loaded_more : (lines : List FontLine) (fonts : List Metrics) (line : FontLine) (m : Metrics) → AreLoaded lines fonts → m.at ≡ line.at → m.skew ≡ line.skew → AreLoaded (lines ++ line ∷ []) (fonts ++ m ∷ [])
+loaded_more lines fonts line m l at skew = record {
+  count = rw (length-append lines (line ∷ []), length-append fonts (m ∷ []), l.count) refl;
+  sizes = rw (map-append (λ (f : FontLine). f.at) lines (line ∷ []), map-append (λ (x : Metrics). x.at) fonts (m ∷ []), l.sizes, at) refl;
+  skews = rw (map-append (λ (f : FontLine). f.skew) lines (line ∷ []), map-append (λ (x : Metrics). x.skew) fonts (m ∷ []), l.skews, skew) refl;
+}

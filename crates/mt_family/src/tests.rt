@@ -1,0 +1,143 @@
+ghost use Rattle.std.specs.Prelude.{◌<◌, IfOk, All};
+ghost use Rattle.mt_family.specs.ListFacts.{IsFontLine};
+ghost use Rattle.mt_family.specs.SetValue.{AreLoaded};
+
+use super::*;
+use mt_tfm::read_tfm;
+use std::alloc::{AllocError, Global};
+use std::test::Fail;
+
+const FAULTS: [(&str, ListError); 10] = [
+    ("", ListError::BadLine(1)),
+    ("x", ListError::BadLine(1)),
+    ("mathset fonts 1\nfont a/b 9 -", ListError::BadLine(2)),
+    ("mathset fonts 1\nfont a 0 -", ListError::BadLine(2)),
+    ("mathset fonts 1\nfont a 9 256", ListError::BadLine(2)),
+    ("mathset fonts 1\n font a 9 -", ListError::BadLine(2)),
+    ("mathset fonts 1\nfamily 16 - - -", ListError::BadLine(2)),
+    (
+        "mathset fonts 1\n%\n\nfont a 9 -\nfont  a 09 127\n",
+        ListError::Repeated(5),
+    ),
+    (
+        "mathset fonts 1\nfamily 0 - - -\nfamily 0 - - -",
+        ListError::Repeated(3),
+    ),
+    (
+        "mathset fonts 1\nfont a 9 -\nfamily 0 0 - 1",
+        ListError::UnknownFont(3),
+    ),
+];
+
+fn read(alloc: Global, text: &[u8]) -> Result<FontList, ListError> {
+    if text.len() > 65536 {
+        return Err(ListError::OutOfMemory);
+    }
+    read_font_list(alloc, text)
+}
+
+#[test]
+fn each_fault_has_its_line(rt: HostRuntime) -> Result<(), Fail> {
+    for (text, want) in FAULTS {
+        assert_eq!(rt; read(rt.alloc(), text.as_bytes()).err(), Some(want));
+    }
+    Ok(())
+}
+
+#[test]
+fn a_list_has_at_most_48_fonts(rt: HostRuntime) -> Result<(), Fail> {
+    let alloc = rt.alloc();
+    let mut text = b"mathset fonts 1".to_vec(alloc)?;
+    for last in 0..48u8 {
+        text.extend_from_slice(b"\nfont a 1")?;
+        text.push(b'0' + last / 10)?;
+        text.push(b'0' + last % 10)?;
+        text.extend_from_slice(b" -")?;
+    }
+    assert_eq!(rt; read(alloc, &text)?.lines.len(), 48);
+    text.extend_from_slice(b"\nfont a 9 -")?;
+    assert_eq!(rt; read(alloc, &text).err(), Some(ListError::TooMany(50)));
+    Ok(())
+}
+
+// A font of one character with so many parameters, of which parameter 5 is a quarter of the size.
+fn font_file(alloc: Global, params: u8) -> Result<Vec<u8>, AllocError>
+    requires { params < 100 }
+{
+    let mut bytes = Vec::new(alloc);
+    bytes.extend_from_slice(&[0, 15 + params, 0, 2, 0, 97, 0, 97])?;
+    bytes.extend_from_slice(&[0, 2, 0, 2, 0, 1, 0, 1, 0, 0, 0, 0, 0, 0, 0, params])?;
+    bytes.extend_from_slice(&[0, 0, 0, 0, 0, 0xA0, 0, 0, 1, 0x10, 0, 0])?;
+    bytes.extend_from_slice(&[0, 0, 0, 0, 0, 8, 0, 0, 0, 0, 0, 0, 0, 8, 0, 0])?;
+    bytes.extend_from_slice(&[0; 8])?;
+    for number in 1..=params {
+        let quarter = if number == 5 { 4 } else { 0 };
+        bytes.extend_from_slice(&[0, quarter, 0, 0])?;
+    }
+    Ok(bytes)
+}
+
+// Each font of a list has this file.
+fn loaded(alloc: Global, lines: &[FontLine], file: &[u8]) -> Result<Fonts, Fail>
+    requires { All IsFontLine lines.now }
+    ensures { IfOk result (λ fonts. AreLoaded lines.now fonts) }
+{
+    let mut fonts = Vec::new(alloc);
+    for line in lines {
+        fonts.push(read_tfm(alloc, file, line.at, line.skew)?)?;
+    }
+    Ok(Fonts::from_vec(fonts))
+}
+
+fn set(alloc: Global, text: &str, params: u8) -> Result<Result<FontSet, SetError>, Fail>
+    requires { params < 100 }
+{
+    let list = read(alloc, text.as_bytes())?;
+    let file = font_file(alloc, params)?;
+    let fonts = loaded(alloc, list.lines.as_slice(), &file)?;
+    Ok(FontSet::build(alloc, list, fonts))
+}
+
+const TWO: &str = "mathset fonts 1\nfont a 655360 -\nfont b 327680 97\nfamily 2 0 1 1\n";
+
+const ALL: &str =
+    "mathset fonts 1\nfont a 655360 -\nfont b 327680 97\nfamily 2 0 1 1\nfamily 3 0 0 0\nfamily 0 1 - -\n";
+
+#[test]
+fn a_set_looks_fonts_up(rt: HostRuntime) -> Result<(), Fail> {
+    let set = set(rt.alloc(), ALL, 22)??;
+    assert_eq!(rt; set.number_of(2, Size::Text), Some(0));
+    assert_eq!(rt; set.number_of(2, Size::Script), Some(1));
+    assert_eq!(rt; set.number_of(0, Size::Script), None);
+    assert_eq!(rt; set.number_of(16, Size::Text), None);
+    assert_eq!(rt;
+        set.font_of(2, Size::Scriptscript).map(|font| font.at()),
+        Some(327680)
+    );
+    assert_eq!(rt; set.font(0).map(|font| font.at()), Some(655360));
+    assert_eq!(rt; set.name(1).map(|name| name.len()), Some(1));
+    assert_eq!(rt; (set.len(), set.is_empty()), (2, false));
+    assert_eq!(rt; set.find(b"b", 327680), Some(1));
+    assert_eq!(rt; set.find(b"b", 655360), None);
+    assert_eq!(rt; set.sy(5, Size::Script), 81920);
+    assert_eq!(rt; set.ex(5, Size::Script), 163840);
+    assert_eq!(rt; (set.units().em, set.units().ex), (0, 81920));
+    Ok(())
+}
+
+#[test]
+fn a_set_needs_families_2_and_3(rt: HostRuntime) -> Result<(), Fail> {
+    let alloc = rt.alloc();
+    let fam = 3;
+    let size = Size::Text;
+    assert_eq!(rt;
+        set(alloc, TWO, 22)?.err(),
+        Some(SetError::NoMathFamily { fam, size })
+    );
+    let fam = 2;
+    assert_eq!(rt;
+        set(alloc, ALL, 21)?.err(),
+        Some(SetError::FewParameters { fam, size })
+    );
+    Ok(())
+}
