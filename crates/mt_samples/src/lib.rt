@@ -1,0 +1,65 @@
+//! Sample input: four small fonts, with the parameters and the characters that math needs, and a font
+//! list that names them.
+#![tactic(auto)]
+
+ghost use Rattle.std.specs.Prelude.{◌≡◌, IfOk, Ok};
+ghost use Rattle.mt_samples.specs.Which.{toy_of};
+ghost use Rattle.mt_family.specs.Lists.{font_list};
+ghost use Rattle.mt_samples.specs.Lists.{toy_list};
+ghost use Rattle.mt_samples.specs.Tables.{ReadsAs};
+
+mod fonts;
+#[cfg(test)]
+mod tests;
+
+use fonts::{extension_font, italic_font, roman_font, symbols_font};
+use mt_scaled::Bytes;
+use std::alloc::{AllocError, Global};
+
+const LIST: &str = "mathset fonts 1
+font toyr 655360 -
+font toyr 458752 -
+font toyr 327680 -
+font toym 655360 127
+font toym 458752 127
+font toym 327680 127
+font toys 655360 -
+font toys 458752 -
+font toys 327680 -
+font toyx 655360 -
+family 0 0 1 2
+family 1 3 4 5
+family 2 6 7 8
+family 3 9 9 9
+";
+
+/// The toy fonts, of families 0 to 3: upright letters, slanted letters, symbols, and characters that
+/// grow. Their files are named toyr, toym, toys and toyx.
+#[derive(Clone, Copy, Debug, PartialEq, Eq)]
+pub enum Toy {
+    Roman,
+    Italic,
+    Symbols,
+    Extension,
+}
+
+/// The TFM file of a toy font. It reads as the font's table says at each of the sizes 10pt, 7pt and 5pt.
+pub fn toy_tfm(alloc: Global, which: Toy) -> Result<Bytes, AllocError>
+    ensures { IfOk result (λ bytes. ReadsAs bytes (toy_of which)) }
+{
+    match which {
+        Toy::Roman => roman_font(alloc),
+        Toy::Italic => italic_font(alloc),
+        Toy::Symbols => symbols_font(alloc),
+        Toy::Extension => extension_font(alloc),
+    }
+}
+
+/// The toy font list: toyr, toym and toys at 10pt, 7pt and 5pt, toyx at 10pt, and families 0 to 3.
+pub fn toy_list(alloc: Global) -> Result<Bytes, AllocError>
+    ensures { IfOk result (λ bytes. font_list bytes ≡ Ok toy_list) }
+{
+    let mut bytes = Vec::new(alloc);
+    bytes.extend_from_slice(LIST.as_bytes())?;
+    Ok(Bytes::from_vec(bytes))
+}

@@ -1,0 +1,45 @@
+use super::*;
+use mt_family::read_font_list;
+use mt_tfm::{Font, Pair, Recipe, read_tfm};
+use std::test::Fail;
+
+fn font(alloc: Global, which: Toy, skew: Option<u8>) -> Result<Font, Fail> {
+    let bytes = toy_tfm(alloc, which)?;
+    Ok(read_tfm(alloc, bytes.as_slice(), 655360, skew)?)
+}
+
+#[test]
+fn the_toy_fonts_have_their_tables(rt: HostRuntime) -> Result<(), Fail> {
+    let alloc = rt.alloc();
+    let roman = font(alloc, Toy::Roman, None)?;
+    assert_eq!(rt; roman.pair(102, 105), Pair::Join(12));
+    assert_eq!(rt; roman.pair(102, 102), Pair::Kern(-40960));
+    assert_eq!(rt; roman.pair(102, 108), Pair::Smart);
+    assert_eq!(rt; roman.param(2), 204800);
+    let italic = font(alloc, Toy::Italic, Some(127))?;
+    assert_eq!(rt; italic.skew_of(102), 40960);
+    let symbols = font(alloc, Toy::Symbols, None)?;
+    assert_eq!(rt; (symbols.params(), symbols.param(21)), (22, 655360));
+    let extension = font(alloc, Toy::Extension, None)?;
+    assert_eq!(rt; extension.larger(0), Some(16));
+    let (top, middle, bottom, repeat) = (56, 60, 58, 62);
+    assert_eq!(rt;
+        extension.recipe(56),
+        Some(Recipe {
+            top,
+            middle,
+            bottom,
+            repeat
+        })
+    );
+    Ok(())
+}
+
+#[test]
+fn the_toy_list_has_ten_fonts(rt: HostRuntime) -> Result<(), Fail> {
+    let bytes = toy_list(rt.alloc())?;
+    assert!(rt; bytes.len() < 65536);
+    let list = read_font_list(rt.alloc(), bytes.as_slice())?;
+    assert_eq!(rt; (list.lines.len(), list.families.len()), (10, 4));
+    Ok(())
+}
