@@ -11,6 +11,8 @@ mod list;
 mod part_error;
 mod style;
 mod symbol;
+#[cfg(test)]
+mod tests;
 
 pub use class::Class;
 pub use document::{Document, Formula, Page, Tag};

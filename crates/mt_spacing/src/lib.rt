@@ -4,6 +4,8 @@
 
 mod classes;
 mod gap;
+#[cfg(test)]
+mod tests;
 
 pub use classes::{forward, set_final_classes, settled};
 pub use gap::{Gap, math_glue, space_between};
