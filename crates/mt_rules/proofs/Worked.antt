@@ -1,11 +1,10 @@
 -- Worked cases: styles, final classes and spaces of known formulas.
-use Rattle.std.proofs.Common.{◌≡◌, List, [], ◌∷◌, refl, true}
-use Rattle.std.specs.Prelude.{pos}
-use Rattle.mt_rules.specs.declared.class.Class.TheVariants.{Ord, Op, Bin, Rel, Open, Close, Punct, Inner}
-use Rattle.mt_rules.specs.declared.style.Style.TheVariants.{D, Dc, T, Tc, S, Sc, Ss, Ssc}
+use Rattle.std.proofs.Common.{◌≡◌, [], ◌∷◌, refl, true}
+use Rattle.mt_rules.specs.declared.class.Class.TheVariants.{Ord, Op, Bin, Rel, Open, Close, Punct}
+use Rattle.mt_rules.specs.declared.style.Style.TheVariants.{D, T, S, Sc, Ss}
 use Rattle.mt_rules.specs.Classes.{final_classes}
 use Rattle.mt_rules.specs.Styles.{sup_of, sub_of, num_of, den_of}
-use Rattle.mt_rules.specs.Spaces.{never_meet, spacing, spacing_glue, NoSpacing, ThinSpacing, MediumSpacing, ThickSpacing}
+use Rattle.mt_rules.specs.Spaces.{never_meet, spacing, NoSpacing, ThinSpacing, MediumSpacing}
 
 -- a + b keeps its sum, + b and a + = b have none, and (-a, b+) has two signs
 a_plus_b : final_classes (Ord ∷ Bin ∷ Ord ∷ []) ≡ Ord ∷ Bin ∷ Ord ∷ []

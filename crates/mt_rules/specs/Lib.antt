@@ -8,3 +8,4 @@ pub mod RowsFall
 pub mod Styles
 pub mod Classes
 pub mod Spaces
+pub mod PartErrors

@@ -39,30 +39,31 @@ mutual
 abbrev mutual
   pub sequence_size : Sequence → ℕ
   sequence_size End = 1
-  sequence_size (More a b) = element_size a + sequence_size b
+  sequence_size (More first rest) = element_size first + sequence_size rest
 
   pub element_size : Element → ℕ
-  element_size (AtomElement a b c d e) = part_size c + part_size d + part_size e + 1
-  element_size (FractionElement a b c d e) = sequence_size d + sequence_size e + 1
-  element_size (LeftElement a) = 1
-  element_size (RightElement a) = 1
-  element_size (StyleElement a) = 1
-  element_size (ChoiceElement a b c d) = sequence_size a + sequence_size b + sequence_size c + sequence_size d + 1
-  element_size (MuSpaceElement a) = 1
-  element_size (SpaceElement a) = 1
-  element_size (MuKernElement a) = 1
-  element_size (KernElement a) = 1
+  element_size (AtomElement kind limits nucleus sup sub) = part_size nucleus + part_size sup + part_size sub + 1
+  element_size (FractionElement thickness left right num den) = sequence_size num + sequence_size den + 1
+  element_size (LeftElement delim) = 1
+  element_size (RightElement delim) = 1
+  element_size (StyleElement style) = 1
+  element_size (ChoiceElement display text script small) =
+      sequence_size display + sequence_size text + sequence_size script + sequence_size small + 1
+  element_size (MuSpaceElement glue) = 1
+  element_size (SpaceElement glue) = 1
+  element_size (MuKernElement amount) = 1
+  element_size (KernElement amount) = 1
   element_size NonscriptElement = 1
 
   pub part_size : Part → ℕ
   part_size EmptyPart = 0
-  part_size (SymbolPart a) = 0
-  part_size (ListPart a) = sequence_size a + 1
-  part_size (RowsPart a) = rows_size a + 1
+  part_size (SymbolPart symbol) = 0
+  part_size (ListPart list) = sequence_size list + 1
+  part_size (RowsPart rows) = rows_size rows + 1
 
   pub rows_size : Rows → ℕ
   rows_size NoRows = 1
-  rows_size (MoreRows a b) = sequence_size a + rows_size b + 1
+  rows_size (MoreRows first rest) = sequence_size first + rows_size rest + 1
 
 -- the number of elements at the outermost level
 abbrev pub sequence_length : Sequence → ℕ

@@ -3,10 +3,10 @@
 use crate::MathList;
 use mt_scaled::Items;
 
-/// The number of a displayed formula.
+/// What is set at the side of a displayed formula, as its number.
 #[derive(Drop)]
 pub struct Tag {
-    /// The number as a formula, which is set in text style.
+    /// A formula in text style.
     pub body: MathList,
     /// Whether it stands at the left.
     pub left: bool,
@@ -21,7 +21,7 @@ pub struct Formula {
     pub display: bool,
     /// What is set.
     pub body: MathList,
-    /// Its tag, which only a displayed formula has.
+    /// The number that is set beside it, if it has one.
     pub tag: Option<Tag>,
 }
 

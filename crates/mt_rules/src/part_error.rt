@@ -1,5 +1,6 @@
 //! Why a part of a formula was not set.
 
+use mt_box::PackError;
 use std::alloc::AllocError;
 use thiserror::Error;
 
@@ -25,5 +26,18 @@ impl From<AllocError> for PartError {
 
     fn from(_: AllocError) -> Self {
         PartError::OutOfMemory
+    }
+}
+
+impl From<PackError> for PartError {
+    ghost use Rattle.mt_rules.specs.PartErrors.{FromPacking};
+
+    ghost from_gives = { FromPacking };
+
+    fn from(error: PackError) -> Self {
+        match error {
+            PackError::Overflow(value) => PartError::Overflow(value),
+            PackError::OutOfMemory => PartError::OutOfMemory,
+        }
     }
 }
