@@ -49,7 +49,7 @@ pub enum Item {
     MuKern(i64),
     /// A kern.
     Kern(i64),
-    /// Takes away the next item in script styles, where it is a space or a kern.
+    /// At script and scriptscript size it takes away the next item, where that is a space, a kern or another of these.
     Nonscript,
 }
 

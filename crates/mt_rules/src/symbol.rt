@@ -3,7 +3,7 @@
 /// A character of a family: of the font that the family has at the size of its place.
 #[derive(Clone, Copy, Debug, PartialEq, Eq)]
 pub struct Symbol {
-    /// The number of the family, 0 to 15.
+    /// The number of the family.
     pub fam: u8,
     /// The code of the character in its font.
     pub code: u8,
