@@ -1,8 +1,9 @@
 -- Bytes that are one operation.
-use Rattle.std.proofs.Common.{◌≡◌, ℕ, ◌+◌, ◌*◌, ◌/◌, ◌%◌, ◌<◌, ◌≤◌, List, [], ◌∷◌, ◌++◌, refl, ◌∙◌, ap, arith, length, append_assoc, length-append}
+use Rattle.std.proofs.Common.{◌^◌, ◌≡◌, ℕ, ◌+◌, ◌*◌, ◌/◌, ◌%◌, ◌<◌, ◌≤◌, List, [], ◌∷◌, ◌++◌, refl, ◌∙◌, ap, arith, length, append_assoc, length-append}
 use Rattle.std.specs.Prelude.{ℤ, true, false, Bool}
 use Rattle.std.proofs.lemmas.Bool.Decides.{nat_tests}
 use Rattle.std.specs.Prelude.{if◌then◌else◌}
+use Rattle.std.specs.Int.{to_be_bytes, w32}
 use Rattle.mt_dvi.specs.Codes.{Bop, Char, Define, Down, Eop, Operation, Post, PostPost, Pre, Right, Rule, Select, operand_size, operation, signed_of, unsigned}
 use Rattle.mt_dvi.specs.Emits.{Emits, IsCode, four_bytes, own_postamble, own_preamble}
 use Rattle.mt_dvi.specs.Marks.{page_counts}
@@ -10,6 +11,12 @@ use Rattle.mt_dvi.specs.Marks.{page_counts}
 -- the four bytes are the number
 pub whole : (x : ℕ) → unsigned (four_bytes x) ≡ x
 whole x = omega arith
+
+-- the four bytes as std gives them
+pub high_first : (x : ℕ) → x < 2 ^ 32 → to_be_bytes w32 x ≡ four_bytes x
+high_first x lt =
+    let highest : x / 16777216 % 256 ≡ x / 16777216 = omega (arith, lt) in
+    rw highest refl
 
 pub code_right : (x : ℕ) (by : ℤ) → signed_of 4 x ≡ by → IsCode (146 ∷ four_bytes x) (Right by)
 unfolding operation operand_size

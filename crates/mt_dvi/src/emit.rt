@@ -4,20 +4,21 @@ ghost use Rattle.mt_dvi.specs.Codes.{Operation, Char, Rule, Right, Down, Select,
 ghost use Rattle.mt_dvi.specs.Emits.{four_bytes, Emits, AppendsSigned, FitsFourBytes, own_preamble, own_postamble};
 ghost use Rattle.mt_dvi.specs.Marks.{page_counts};
 
+use crate::opcode::{
+    BOP, DOWN4, EOP, FNT_DEF1, FNT_NUM_0, IDENTIFIER, POST, POST_POST, PRE, PUT_RULE, PUT1, RIGHT4,
+    SET_RULE, SET1,
+};
 use std::alloc::AllocError;
 
 // A number of four bytes.
 fn push4(out: &mut Vec<u8>, x: u32) -> Result<(), AllocError>
     ensures { OnOk result (out.new.items ≡ out.old.items ++ four_bytes x) }
 {
-    out.extend_from_slice(&[
-        (x / 16777216) as u8,
-        (x / 65536 % 256) as u8,
-        (x / 256 % 256) as u8,
-        (x % 256) as u8,
-    ])
+    out.extend_from_slice(&x.to_be_bytes())?;
+    Ok(())
 }
 
+// The number that the two's complement of x is in four bytes.
 fn two_complement(x: i64) -> u32
     requires { FitsFourBytes x }
     ensures { signed_of 4 result ≡ x }
@@ -38,41 +39,45 @@ fn push_signed(out: &mut Vec<u8>, x: i64) -> Result<(), AllocError>
     Ok(())
 }
 
+/// right4: moves to the right.
 pub fn right(out: &mut Vec<u8>, by: i64) -> Result<(), AllocError>
     requires { FitsFourBytes by }
     ensures { OnOk result (Emits 5 out.old.items out.new.items (Right by)) }
 {
-    out.push(146)?;
+    out.push(RIGHT4)?;
     push_signed(out, by)?;
     Ok(())
 }
 
+/// down4: moves down.
 pub fn down(out: &mut Vec<u8>, by: i64) -> Result<(), AllocError>
     requires { FitsFourBytes by }
     ensures { OnOk result (Emits 5 out.old.items out.new.items (Down by)) }
 {
-    out.push(160)?;
+    out.push(DOWN4)?;
     push_signed(out, by)?;
     Ok(())
 }
 
+/// fnt_num: selects the font of this number.
 pub fn select(out: &mut Vec<u8>, font: u8) -> Result<(), AllocError>
     requires { font < 64 }
     ensures { OnOk result (Emits 1 out.old.items out.new.items (Select font)) }
 {
-    out.push(171 + font)?;
+    out.push(FNT_NUM_0 + font)?;
     Ok(())
 }
 
+/// Sets a character, or puts it.
 pub fn char(out: &mut Vec<u8>, put: bool, code: u8) -> Result<(), AllocError>
     ensures { OnOk result (Emits 2 out.old.items out.new.items (Char put code)) }
 {
     if put {
-        out.extend_from_slice(&[133, code])?;
-    } else if code < 128 {
+        out.extend_from_slice(&[PUT1, code])?;
+    } else if code < SET1 {
         out.push(code)?;
     } else {
-        out.extend_from_slice(&[128, code])?;
+        out.extend_from_slice(&[SET1, code])?;
     }
     Ok(())
 }
@@ -80,9 +85,10 @@ pub fn char(out: &mut Vec<u8>, put: bool, code: u8) -> Result<(), AllocError>
 fn rule_opcode(put: bool) -> u8
     ensures { result ≡ (if put then 137 else 132) }
 {
-    if put { 137 } else { 132 }
+    if put { PUT_RULE } else { SET_RULE }
 }
 
+/// Sets a rule, or puts it.
 pub fn rule(out: &mut Vec<u8>, put: bool, height: i64, width: i64) -> Result<(), AllocError>
     requires height { FitsFourBytes height }
     requires width { FitsFourBytes width }
@@ -94,32 +100,37 @@ pub fn rule(out: &mut Vec<u8>, put: bool, height: i64, width: i64) -> Result<(),
     Ok(())
 }
 
-pub fn bop(out: &mut Vec<u8>, number: u32, last: i64) -> Result<(), AllocError>
-    requires { FitsFourBytes last }
-    ensures { OnOk result (Emits 45 out.old.items out.new.items (Bop (page_counts number) last)) }
+/// bop: begins the page of this number, which count 0 holds; the other counts are 0.
+pub fn bop(out: &mut Vec<u8>, number: u32, before: i64) -> Result<(), AllocError>
+    requires { FitsFourBytes before }
+    ensures { OnOk result (Emits 45 out.old.items out.new.items (Bop (page_counts number) before)) }
 {
-    out.push(139)?;
+    out.push(BOP)?;
     push4(out, number)?;
     out.extend_from_slice(&[0; 36])?;
-    push_signed(out, last)?;
+    push_signed(out, before)?;
     Ok(())
 }
 
+/// eop: ends a page.
 pub fn eop(out: &mut Vec<u8>) -> Result<(), AllocError>
     ensures { OnOk result (Emits 1 out.old.items out.new.items Eop) }
 {
-    out.push(140)?;
+    out.push(EOP)?;
     Ok(())
 }
 
+/// pre: num 25400000, den 473628672, mag 1000, no comment. They make the unit a scaled point.
 pub fn pre(out: &mut Vec<u8>) -> Result<(), AllocError>
     ensures { OnOk result (Emits 15 out.old.items out.new.items (Pre own_preamble)) }
 {
-    out.extend_from_slice(&[247, 2, 1, 131, 146, 192, 28, 59, 0, 0, 0, 0, 3, 232, 0])?;
+    out.extend_from_slice(&[
+        PRE, IDENTIFIER, 1, 131, 146, 192, 28, 59, 0, 0, 0, 0, 3, 232, 0,
+    ])?;
     Ok(())
 }
 
-// What a definition says of a font.
+/// fnt_def1: a font's number, checksum, size and design size, no area, and its name.
 pub fn define(
     out: &mut Vec<u8>,
     number: u8,
@@ -131,7 +142,7 @@ pub fn define(
     requires { length name.now < 256 }
     ensures { OnOk result (Emits 271 out.old.items out.new.items (Define (record { number = number; checksum = checksum; size = size; design = design; area = []; name = name.now }))) }
 {
-    out.extend_from_slice(&[243, number])?;
+    out.extend_from_slice(&[FNT_DEF1, number])?;
     push4(out, checksum)?;
     push4(out, size)?;
     push4(out, design)?;
@@ -140,6 +151,7 @@ pub fn define(
     Ok(())
 }
 
+/// post: the offset of the last bop, num, den and mag as in pre, the greatest edges, the depth 0, the number of pages.
 pub fn post(
     out: &mut Vec<u8>,
     last: i64,
@@ -150,7 +162,7 @@ pub fn post(
     requires { FitsFourBytes last }
     ensures { OnOk result (Emits 29 out.old.items out.new.items (Post (own_postamble last tallest widest pages))) }
 {
-    out.push(248)?;
+    out.push(POST)?;
     push_signed(out, last)?;
     out.extend_from_slice(&[1, 131, 146, 192, 28, 59, 0, 0, 0, 0, 3, 232])?;
     push4(out, tallest)?;
@@ -159,11 +171,12 @@ pub fn post(
     Ok(())
 }
 
+/// post_post: the offset of post.
 pub fn post_post(out: &mut Vec<u8>, post: u32) -> Result<(), AllocError>
     ensures { OnOk result (Emits 6 out.old.items out.new.items (PostPost post 2)) }
 {
-    out.push(249)?;
+    out.push(POST_POST)?;
     push4(out, post)?;
-    out.push(2)?;
+    out.push(IDENTIFIER)?;
     Ok(())
 }

@@ -14,6 +14,7 @@ use crate::edges::{tallest, widest};
 use crate::emit;
 use crate::error::DviWriteError;
 use crate::fonts::define;
+use crate::opcode::PADDING;
 use crate::page::write_marks;
 use mt_box::{PageList, Place, PlaceList};
 use mt_family::FontSet;
@@ -89,10 +90,10 @@ fn tail(long: usize) -> &'static [u8]
     ensures { IsTail long result.now }
 {
     match long % 4 {
-        0 => &[223, 223, 223, 223],
-        1 => &[223, 223, 223, 223, 223, 223, 223],
-        2 => &[223, 223, 223, 223, 223, 223],
-        _ => &[223, 223, 223, 223, 223],
+        0 => &[PADDING; 4],
+        1 => &[PADDING; 7],
+        2 => &[PADDING; 6],
+        _ => &[PADDING; 5],
     }
 }
 

@@ -6,7 +6,10 @@ mod emit;
 mod error;
 mod file;
 mod fonts;
+mod opcode;
 mod page;
+#[cfg(test)]
+mod tests;
 
 pub use error::DviWriteError;
 pub use file::{DviBytes, write_dvi};
