@@ -1,5 +1,5 @@
 -- Macros by their names.
-use Rattle.std.proofs.Common.{◌≡◌, ℕ, zero, suc, ◌+◌, ◌<◌, ◌≤◌, Bool, true, false, List, [], ◌∷◌, length, map, refl, sym, ap, subst, ◌∙◌, arith, cond, Bor}
+use Rattle.std.proofs.Common.{◌≡◌, ℕ, suc, ◌+◌, Bool, true, false, List, [], ◌∷◌, map, refl, sym, ap, subst, ◌∙◌, arith, cond, Bor}
 use Rattle.std.specs.Prelude.{Option, Some, None, All, IfSome, sum_by, ◌||◌, ◌&&◌, not, unwrap_or, if◌then◌else◌}
 use Rattle.std.specs.Option.{option_map, option_copied}
 use Rattle.std.specs.Str.{bytes_eq}

@@ -1,12 +1,11 @@
 -- Tokens that are taken one at a time.
-use Rattle.std.proofs.Common.{◌≡◌, ℕ, zero, suc, ◌+◌, ◌-◌, ◌<◌, ◌≤◌, Bool, true, false, List, [], ◌∷◌, ◌++◌, length, map, refl, sym, ap, subst, ◌∙◌, arith, append_assoc, cond}
+use Rattle.std.proofs.Common.{◌≡◌, ℕ, suc, ◌+◌, ◌≤◌, true, false, List, [], ◌∷◌, ◌++◌, length, refl, sym, ap, ◌∙◌, arith, append_assoc}
 use Rattle.std.specs.Prelude.{Option, Some, None, ◌==◌, ◌&&◌}
-use Rattle.std.specs.Option.{option_map}
 use Rattle.std.proofs.lemmas.List.{append-nil}
 use Rattle.mt_token.specs.declared.token.Token.{Token}
-use Rattle.mt_macro.specs.Braces.{Taken, onto, group, level_after, is_open, is_close}
+use Rattle.mt_macro.specs.Braces.{Taken, onto, group, level_after, is_close}
 use Rattle.mt_macro.proofs.Unmatched.{group_on}
-use Rattle.mt_macro.specs.Arguments.{is_space, argument, Takes, Arguments, arguments, with_argument, and_then, TakesAll}
+use Rattle.mt_macro.specs.Arguments.{argument, Takes, Arguments, arguments, with_argument, and_then, TakesAll}
 
 abbrev pub onto_all : List Token → Option Taken → Option Taken
 onto_all done None = None

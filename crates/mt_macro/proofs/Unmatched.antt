@@ -4,7 +4,6 @@ use Rattle.std.specs.Prelude.{Option, Some, None, IfSome, is_some, is_none, ◌=
 use Rattle.std.proofs.lemmas.Bool.Decides.{nat_tests}
 use Rattle.std.proofs.lemmas.List.{take_all}
 use Rattle.mt_token.specs.declared.token.Token.{Token}
-use Rattle.mt_token.specs.Character.{character_of}
 use Rattle.mt_macro.specs.Braces.{Taken, onto, group, level_after, is_open, is_close, next_place, first_unmatched}
 use Rattle.mt_macro.proofs.Places.{shifted, shifted_none, shifted_next, shifted_here}
 

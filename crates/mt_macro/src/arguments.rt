@@ -1,5 +1,5 @@
 //! The arguments of a macro.
-ghost use Rattle.std.specs.Prelude.{◌≡◌, ◌<◌, ◌≤◌, ◌+◌, ◌^◌, ◌==◌, ◌&&◌, ◌++◌, ◌∷◌, [], IfOk, IfSome, OnOk, length, map, sum_by, get_or, All, List};
+ghost use Rattle.std.specs.Prelude.{◌≡◌, ◌<◌, ◌≤◌, ◌+◌, ◌^◌, ◌++◌, ◌∷◌, [], IfOk, IfSome, OnOk, length, All};
 ghost use Rattle.std.specs.Option.{option_map};
 ghost use Rattle.mt_macro.specs.Braces.{group};
 ghost use Rattle.mt_macro.specs.Arguments.{is_space, argument, arguments, lent, Takes, TakesAll, lent_lists, Short};
@@ -20,6 +20,7 @@ pub fn is_space(token: &Token) -> bool
     matches!(token.kind, TokenKind::Space)
 }
 
+/// Puts a lent token at the end.
 pub fn push_lent<'a>(list: &mut Vec<&'a Token>, token: &'a Token) -> Result<(), AllocError>
     ensures { OnOk result (lent list.new.items ≡ lent list.old.items ++ token.now ∷ []) }
 {
@@ -27,7 +28,7 @@ pub fn push_lent<'a>(list: &mut Vec<&'a Token>, token: &'a Token) -> Result<(), 
     Ok(())
 }
 
-// The rest of a group, up to its brace.
+// Takes the rest of a group, with the brace that closes it; the brace is left out of what it gives.
 fn take_group<'a>(alloc: Global, rest: &mut Inputs<'a>) -> Result<Option<Argument<'a>>, AllocError>
     requires { length rest.old < 2 ^ 31 }
     ensures short { IfOk result (λ taken. IfSome taken (λ a. length a ≤ length rest.old)) }
@@ -46,7 +47,7 @@ fn take_group<'a>(alloc: Global, rest: &mut Inputs<'a>) -> Result<Option<Argumen
     Ok(None)
 }
 
-// Spaces, and then a token or a group.
+// Takes Spaces, and then a token or a group.
 fn take_argument<'a>(
     alloc: Global,
     rest: &mut Inputs<'a>,
@@ -72,7 +73,7 @@ fn take_argument<'a>(
     Ok(None)
 }
 
-// So many arguments.
+/// Takes so many arguments; `None` where one is missing.
 pub fn take_arguments<'a>(
     alloc: Global,
     rest: &mut Inputs<'a>,

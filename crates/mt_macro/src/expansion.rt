@@ -1,7 +1,7 @@
 //! Expansion: macros are replaced, one step after another, until none is left.
-ghost use Rattle.std.specs.Prelude.{◌≡◌, ◌<◌, ◌≤◌, ◌+◌, ◌*◌, ◌^◌, ◌++◌, ◌∷◌, [], IfOk, OnOk, length, map, All, get_or, IsTrue, List, ℕ};
-ghost use Rattle.mt_macro.specs.Table.{macro_at, IsShort};
-ghost use Rattle.mt_macro.specs.Arguments.{fill, lent, lent_lists, arguments};
+ghost use Rattle.std.specs.Prelude.{◌≡◌, ◌<◌, ◌≤◌, ◌+◌, IfOk, length};
+ghost use Rattle.mt_macro.specs.Table.{IsShort};
+ghost use Rattle.mt_macro.specs.Arguments.{lent, arguments};
 ghost use Rattle.mt_macro.specs.Expansion.{run, expansion, Expands, Runs, Replaces, replaced};
 ghost use Rattle.mt_macro.specs.declared.expansion.ExpandError.TheVariants.{OutOfMemory};
 
@@ -17,14 +17,24 @@ use thiserror::Error;
 /// Why a list was not expanded.
 #[derive(Clone, Copy, Debug, PartialEq, Eq, Error)]
 pub enum ExpandError {
-    #[error("too many steps or tokens")]
-    Budget { steps: u32, length: u64 },
+    /// After this many steps the list has more than 50,000 tokens, or 20,000 steps have left a macro. The length is that of the list then.
+    #[error("{length} tokens after {steps} steps")]
+    Budget {
+        /// The number of steps.
+        steps: u32,
+        /// The number of tokens after them.
+        length: u64,
+    },
+    /// A macro lacks an argument. The place is the macro's in the list of that step, counted from 0.
     #[error("the macro at {0} lacks an argument")]
     MissingArgument(u32),
+    /// The first brace of the list given that has no partner, by its place, counted from 0.
     #[error("the brace at {0} has no partner")]
     Unbalanced(u32),
+    /// The list given has more than 50,000 tokens.
     #[error("the list is too long")]
     TooLong,
+    /// Memory ran out.
     #[error("out of memory")]
     OutOfMemory,
 }
@@ -37,11 +47,17 @@ impl From<AllocError> for ExpandError {
     }
 }
 
+/// The greatest number of tokens that a list has, before and after each step.
 const MAX_TOKENS: usize = 50_000;
 
+/// The greatest number of steps.
 const MAX_STEPS: u32 = 20_000;
 
-/// The list with no macro left in it, or the first fault.
+/// The list in which no macro is left. Each step replaces the leftmost macro, with its arguments, by its body.
+///
+/// # Errors
+///
+/// `TooLong`, then `Unbalanced`, of the list given. Then, by the steps, `Budget` and `MissingArgument`: at a list of more than 50,000 tokens, and after 20,000 steps, it is `Budget`. `OutOfMemory` where memory ran out.
 pub fn expand(alloc: Global, macros: &Macros, list: &[Token]) -> Result<TokenList, ExpandError>
     ensures { Expands result (expansion macros.now list.now) }
 {
@@ -66,7 +82,7 @@ fn lent_tokens(alloc: Global, list: &[&Token]) -> Result<TokenList, AllocError>
     Ok(TokenList::from_vec(tokens))
 }
 
-/// What became of a macro and its arguments.
+// What became of a macro and its arguments.
 #[derive(Clone, Copy, Debug)]
 enum Replacement {
     NoArgument,
@@ -74,7 +90,7 @@ enum Replacement {
     Done,
 }
 
-// The macro's body with its arguments goes before the rest, if there is room beside what is passed.
+// Puts the macro's body, with its arguments, before the rest, if there is room beside what is passed.
 fn replace<'a>(
     alloc: Global,
     found: &'a Macro,
@@ -99,6 +115,7 @@ fn replace<'a>(
     Ok(Replacement::Done)
 }
 
+// The tokens that the steps leave.
 fn run_steps<'a>(
     alloc: Global,
     macros: &'a Macros,

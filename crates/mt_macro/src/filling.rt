@@ -1,28 +1,34 @@
 //! A body with arguments in place of its parameters.
-ghost use Rattle.std.specs.Prelude.{◌≡◌, ◌<◌, ◌≤◌, ◌+◌, ◌-◌, ◌*◌, ◌^◌, ◌++◌, ◌∷◌, [], IfOk, OnOk, length, map, All, get_or, List};
+ghost use Rattle.std.specs.Prelude.{◌≡◌, ◌<◌, ◌≤◌, ◌+◌, ◌-◌, ◌^◌, ◌++◌, [], IfOk, OnOk, length, All, get_or};
 ghost use Rattle.mt_token.specs.Character.{character_of};
 ghost use Rattle.mt_macro.specs.Arguments.{fill, lent, lent_lists, Short};
-ghost use Rattle.std.specs.Borrow.{Bor};
 
-use crate::arguments::Argument;
+use crate::arguments::{Argument, push_lent};
 use crate::braces::character;
 use crate::parameters::is_hash;
 use mt_token::Token;
 use std::alloc::{AllocError, Global};
 
-// How long the argument of a digit is, 0 where there is none.
+// The index of a parameter's argument, by its digit.
+fn index_of(digit: &Token) -> usize
+    ensures { result ≡ character_of digit.now.kind - 49 }
+{
+    usize::from(character(digit).saturating_sub(b'1'))
+}
+
+// How many tokens a parameter's argument has, 0 where there is none.
 fn argument_len(arguments: &[Argument], digit: &Token) -> usize
     requires { All Short arguments.now }
     ensures is { result ≡ length (get_or (lent_lists arguments.now) (character_of digit.now.kind - 49) []) }
     ensures short { result < 2 ^ 31 }
 {
-    match arguments.get(usize::from(character(digit).saturating_sub(49))) {
+    match arguments.get(index_of(digit)) {
         Some(argument) => argument.len(),
         None => 0,
     }
 }
 
-/// How many tokens a body has with its arguments in it.
+/// How many tokens a body has with arguments in place of its parameters.
 pub fn filled_len(body: &[Token], arguments: &[Argument]) -> u64
     requires body { length body.now ≤ 2 ^ 32 }
     requires arguments { All Short arguments.now }
@@ -46,7 +52,7 @@ pub fn filled_len(body: &[Token], arguments: &[Argument]) -> u64
     }
 }
 
-/// A body with its arguments in it.
+/// A body with arguments in place of its parameters.
 pub fn filled<'a>(
     alloc: Global,
     body: &'a [Token],
@@ -63,7 +69,7 @@ pub fn filled<'a>(
                 rest = after;
             }
             [token, after @ ..] => {
-                push_token(&mut tokens, token)?;
+                push_lent(&mut tokens, token)?;
                 rest = after;
             }
             [] => return Ok(tokens),
@@ -71,13 +77,7 @@ pub fn filled<'a>(
     }
 }
 
-fn push_token<'a>(tokens: &mut Vec<&'a Token>, token: &'a Token) -> Result<(), AllocError>
-    ensures { OnOk result (lent tokens.new.items ≡ lent tokens.old.items ++ token.now ∷ []) }
-{
-    tokens.push(token)?;
-    Ok(())
-}
-
+// Puts a parameter's argument at the end.
 fn push_argument<'a>(
     tokens: &mut Vec<&'a Token>,
     arguments: &[Argument<'a>],
@@ -85,7 +85,7 @@ fn push_argument<'a>(
 ) -> Result<(), AllocError>
     ensures { OnOk result (lent tokens.new.items ≡ lent tokens.old.items ++ get_or (lent_lists arguments.now) (character_of digit.now.kind - 49) []) }
 {
-    match arguments.get(usize::from(character(digit).saturating_sub(49))) {
+    match arguments.get(index_of(digit)) {
         Some(argument) => push_slice(tokens, argument.as_slice()),
         None => Ok(()),
     }

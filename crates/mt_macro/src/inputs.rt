@@ -1,5 +1,5 @@
 //! The tokens that are left to read.
-ghost use Rattle.std.specs.Prelude.{◌≡◌, ◌++◌, [], ◌∷◌, MatchOption, IfOk, OnOk, OnErr, map, length, List};
+ghost use Rattle.std.specs.Prelude.{◌≡◌, ◌++◌, [], ◌∷◌, MatchOption, IfOk, OnOk, map, length, List};
 
 use mt_token::Token;
 use std::alloc::{AllocError, Global};
@@ -36,12 +36,14 @@ impl<'a> Inputs<'a> {
         Ok(inputs)
     }
 
+    /// How many tokens are left.
     pub fn len(&self) -> usize
         ensures { result ≡ length self.now }
     {
         self.items.len()
     }
 
+    /// Takes the next token.
     pub fn pop(&mut self) -> Option<&'a Token>
         ensures { MatchOption result ((self.old ≡ []) × (self.new ≡ [])) (λ t. self.old ≡ t.now ∷ self.new) }
     {

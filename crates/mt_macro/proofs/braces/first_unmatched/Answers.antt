@@ -1,4 +1,4 @@
-use Rattle.std.proofs.Common.{rules, arith, sym, ◌∙◌}
+use Rattle.std.proofs.Common.{arith, sym, ◌∙◌}
 use Rattle.mt_macro.proofs.Unmatched.{watching_start, watching_close, watching_more, watching_some, watching_none, watching_within, front, empty}
 use Rattle.mt_macro.proofs.braces.first_unmatched.Goals as goal
 

@@ -1,4 +1,4 @@
-use Rattle.std.proofs.Common.{rules, arith, ap, ◌≡◌, refl, sym, ◌∙◌, length, map, ◌++◌, ◌+◌}
+use Rattle.std.proofs.Common.{arith, ap, ◌≡◌, ◌∙◌, length, ◌++◌, ◌+◌}
 use Rattle.mt_macro.specs.Arguments.{lent, lent_lists, fill}
 use Rattle.mt_macro.proofs.Running.{fitting, overflows}
 use Rattle.mt_macro.proofs.expansion.replace.Goals as goal

@@ -1,5 +1,5 @@
-use Rattle.std.proofs.Common.{rules, arith, ap, ◌≡◌, ◌<◌, suc, ◌-◌, ◌+◌, refl, sym, ◌∙◌, length, map}
-use Rattle.mt_macro.specs.Arguments.{lent, lent_lists}
+use Rattle.std.proofs.Common.{arith, ap, ◌≡◌, ◌-◌, ◌+◌, sym, ◌∙◌, length}
+use Rattle.mt_macro.specs.Arguments.{lent}
 use Rattle.mt_macro.specs.Expansion.{NoArgument, Expanded}
 use Rattle.mt_macro.proofs.Running.{going_pass, going_last, going_missing, going_on, going_over, going_end, lent_length}
 use Rattle.mt_macro.proofs.expansion.run_steps.Goals as goal

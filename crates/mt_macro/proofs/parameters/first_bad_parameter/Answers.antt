@@ -1,5 +1,5 @@
-use Rattle.std.proofs.Common.{rules, sym, ◌∙◌}
-use Rattle.mt_macro.proofs.Unmatched.{front, empty}
+use Rattle.std.proofs.Common.{sym, ◌∙◌}
+use Rattle.mt_macro.proofs.Unmatched.{front}
 use Rattle.mt_macro.proofs.Hashes.{looking_more}
 use Rattle.mt_macro.proofs.parameters.first_bad_parameter.Goals as goal
 
