@@ -1,7 +1,7 @@
 -- What each font list keeps, by what its lines say.
-use Rattle.std.proofs.Common.{◌≡◌, ◌≤◌, ◌<◌, ◌+◌, ◌^◌, ◌∙◌, ◌⊎◌, inl, inr, ℕ, zero, suc, ℤ, pos, List, [], ◌∷◌, ◌++◌, length, Bool, true, false, ◌&&◌, ◌||◌, Option, Some, None, Result, Ok, Err, All, IsTrue, refl, arith, ap, sym, subst, nat_eq, nat_le, nat_lt, if◌then◌else◌, length-append, codes, get_or}
-use Rattle.std.specs.Prelude.{◌==◌, ◌<ℤ◌, ⊤}
-use Rattle.std.specs.List.{list_any, slice_get, position, position_from}
+use Rattle.std.proofs.Common.{◌≡◌, ◌≤◌, ◌<◌, ◌+◌, ◌∙◌, ◌⊎◌, inl, inr, ℕ, zero, suc, List, [], ◌∷◌, ◌++◌, length, Bool, true, false, ◌&&◌, ◌||◌, Option, Some, None, Result, Ok, Err, All, IsTrue, refl, arith, ap, sym, subst, nat_le, nat_lt, if◌then◌else◌, length-append, codes}
+use Rattle.std.specs.Prelude.{◌==◌, ⊤}
+use Rattle.std.specs.List.{list_any, slice_get, position_from}
 use Rattle.std.specs.Ordering.{int_eq}
 use Rattle.std.specs.Str.{bytes_eq}
 use Rattle.std.proofs.lemmas.Bool.Decides.{nat_tests, Decides-int_eq}
@@ -9,8 +9,6 @@ use Rattle.std.proofs.lemmas.Int.{ints}
 use Rattle.std.proofs.lemmas.Slice.Eq.{bytes_eq-Decides}
 use Rattle.std.proofs.lemmas.Iterator.Adapters.{position_from-zero}
 use Rattle.std.proofs.lemmas.List.Elements.{All-nil, All-cons, All-append, All-weaker}
-use Rattle.std.proofs.lemmas.Option.{slice_get_within, slice_get-get_or, get_or_from_slice_get}
-use Rattle.std.proofs.lemmas.List.{get_or_append_left}
 use Rattle.mt_family.specs.declared.list.FontLine.{FontLine}
 use Rattle.mt_family.specs.declared.list.FamilyLine.{FamilyLine}
 use Rattle.mt_family.specs.declared.error.ListError.{ListError}
@@ -20,8 +18,8 @@ use Rattle.mt_family.specs.declared.line.FamilySaid.{FamilySaid}
 use Rattle.mt_family.specs.declared.line.Said.TheVariants.{Nothing, Font, Family}
 use Rattle.mt_family.specs.Fields.{number, is_name, fields_from}
 use Rattle.mt_family.specs.Lines.{in_bounds, ranged, dashed, font_of, font_said, family_of, family_said, fields_said, is_comment, starts_blank, ends_blank, line_said}
-use Rattle.mt_family.specs.ListFacts.{ListValue, is_font, is_family, same_family, AreDistinct, IsKnown, IsFontLine, IsFamilyLine, IsFontList}
-use Rattle.mt_family.specs.Lists.{has_font, has_family, is_known, with_font, with_family, with_said, with_line, and_then, list_from, nothing, font_list}
+use Rattle.mt_family.specs.ListFacts.{ListValue, is_font, same_family, AreDistinct, IsKnown, IsFontLine, IsFamilyLine, IsFontList}
+use Rattle.mt_family.specs.Lists.{has_font, has_family, is_known, with_said, with_line, and_then, list_from, nothing, font_list}
 
 -- a place that was found is found in a longer list
 found_by : {X : Type 0} (test : X → Bool) (k i : ℕ) (b : Bool) (xs ys : List X) → (position_from test (k + 1) xs ≡ Some i → position_from test (k + 1) (xs ++ ys) ≡ Some i) → (if b then Some k else position_from test (k + 1) xs) ≡ Some i → (if b then Some k else position_from test (k + 1) (xs ++ ys)) ≡ Some i

@@ -1,5 +1,5 @@
 -- The table of the families' numbers.
-use Rattle.std.proofs.Common.{◌≡◌, ◌≤◌, ◌<◌, ◌+◌, ◌∙◌, ℕ, List, [], ◌∷◌, ◌++◌, length, map, Bool, true, false, Option, Some, None, unwrap_or, All, refl, arith, ap, sym, nat_eq, nat_lt, if◌then◌else◌, inl, inr, subst, length-append}
+use Rattle.std.proofs.Common.{◌≡◌, ◌≤◌, ◌<◌, ◌+◌, ◌∙◌, ℕ, List, [], ◌∷◌, ◌++◌, length, map, Bool, true, false, Option, Some, None, unwrap_or, All, refl, arith, ap, nat_eq, nat_lt, if◌then◌else◌, inl, inr, subst, length-append}
 use Rattle.std.specs.List.{find, slice_get, range_with_len}
 use Rattle.std.proofs.lemmas.Bool.Decides.{nat_tests}
 use Rattle.std.proofs.lemmas.List.Elements.{All-head, All-tail, All-weaker, All-get_or}

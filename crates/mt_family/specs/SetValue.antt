@@ -1,5 +1,5 @@
 -- Fonts by family and size.
-use Rattle.std.specs.Prelude.{◌≡◌, ◌≤◌, ℕ, ℤ, List, [], ◌∷◌, length, map, Bool, nat_le, true, false, Option, Some, None, unwrap_or, ◌&&◌}
+use Rattle.std.specs.Prelude.{◌≡◌, ℕ, ℤ, List, [], ◌∷◌, length, map, Bool, nat_le, true, false, Option, Some, None, unwrap_or, ◌&&◌}
 use Rattle.std.specs.List.{find, slice_get, position, range_with_len}
 use Rattle.std.specs.Option.{option_map}
 use Rattle.std.specs.Ordering.{int_eq}
@@ -10,7 +10,7 @@ use Rattle.mt_family.specs.declared.list.FamilyLine.{FamilyLine}
 use Rattle.mt_family.specs.declared.size.Size.{Size}
 use Rattle.mt_family.specs.declared.size.Size.TheVariants.{Text, Script, Scriptscript}
 use Rattle.mt_family.specs.Sizes.{font_at_size}
-use Rattle.mt_family.specs.ListFacts.{ListValue, IsFontList, is_family}
+use Rattle.mt_family.specs.ListFacts.{IsFontList, is_family}
 
 pub record SetValue : Type 0 where
   pub lines : List FontLine

@@ -1,8 +1,7 @@
 -- What the tables of a font have for each character, and for each pair.
-use Rattle.std.proofs.Common.{◌≡◌, ℕ, zero, suc, ◌≤◌, ◌<◌, ◌^◌, ◌/◌, ◌-◌, ◌+◌, ◌*◌, List, [], ◌∷◌, Bool, true, false, ◌&&◌, length, Option, Some, None, unwrap_or, ℤ, pos, IsTrue, All, refl, arith, subst, sym, nat_le, nat_eq, if◌then◌else◌, slice_get, inl, inr}
+use Rattle.std.proofs.Common.{◌≡◌, ℕ, zero, suc, ◌<◌, ◌-◌, ◌+◌, ◌*◌, List, [], ◌∷◌, Bool, true, false, length, Option, Some, None, unwrap_or, ℤ, pos, All, refl, arith, subst, sym, nat_le, nat_eq, if◌then◌else◌, slice_get, inl, inr}
 use Rattle.std.specs.Option.{IsSome, IfSome}
-use Rattle.std.proofs.lemmas.Bool.Decides.{nat_tests}
-use Rattle.std.proofs.lemmas.List.Elements.{All-tail, All-head, All-weaker}
+use Rattle.std.proofs.lemmas.List.Elements.{All-weaker}
 use Rattle.std.proofs.lemmas.Option.{slice_get_cases}
 use Rattle.mt_tfm.specs.declared.counts.Counts.{Counts}
 use Rattle.mt_tfm.specs.declared.chars.CharWord.{CharWord}

@@ -1,6 +1,6 @@
-use Rattle.std.proofs.Common.{rules, ◌≡◌, ◌∙◌, ap, IsTrue, slice_get}
+use Rattle.std.proofs.Common.{rules, ◌≡◌, IsTrue, slice_get}
 use Rattle.mt_tfm.specs.declared.recipe.Recipe.{Recipe}
-use Rattle.mt_tfm.specs.Font.{has_recipe, char_at, Metrics}
+use Rattle.mt_tfm.specs.Font.{has_recipe, char_at}
 use Rattle.mt_tfm.specs.Checks.{recipe_fits}
 use Rattle.mt_tfm.proofs.PlaceLemmas.{recipe_there, each_there}
 use Rattle.mt_tfm.proofs.font.Font.recipe.Goals as goal
