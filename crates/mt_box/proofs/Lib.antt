@@ -1,9 +1,12 @@
 pub mod Lists
 pub mod Equalities
+pub mod Bounds
+pub mod Modest
 pub mod Moved
 pub mod Measuring
 pub mod Packing
 pub mod Pushed
 pub mod Placed
 pub mod Stacking
+pub mod Stacks
 pub mod Recentred

@@ -2,7 +2,7 @@
 use Rattle.std.proofs.Common.{◌≡◌, ℕ, ◌<◌, ◌≤◌, ◌+◌, ◌^◌, max, List, [], ◌∷◌, ◌++◌, length, pos, refl, arith, append_assoc, sym, ◌∙◌, subst}
 use Rattle.mt_box.specs.Layout.{Picture}
 use Rattle.mt_box.specs.declared.packed.Node.{Node}
-use Rattle.mt_box.specs.declared.packed.Node.TheVariants.{GlyphNode, RuleNode, BoxNode}
+use Rattle.mt_box.specs.declared.packed.Node.TheVariants.{Glyph as GlyphNode, Rule as RuleNode, Boxed as BoxNode}
 use Rattle.mt_box.specs.declared.piece.Piece.{Piece}
 use Rattle.mt_box.specs.declared.piece.Piece.TheVariants.{Glyph as GlyphPiece, Boxed as BoxPiece, Kern, Space}
 use Rattle.mt_box.specs.declared.rows.Pen.{Pen}

@@ -6,7 +6,7 @@ use mir.Syntax.{w128}
 use Rattle.mt_scaled.specs.Number.{Within}
 use Rattle.mt_box.specs.Layout.{moved, all_moved}
 use Rattle.mt_box.specs.declared.packed.Node.{Node}
-use Rattle.mt_box.specs.declared.packed.Node.TheVariants.{GlyphNode, RuleNode, BoxNode}
+use Rattle.mt_box.specs.declared.packed.Node.TheVariants.{Glyph as GlyphNode, Rule as RuleNode, Boxed as BoxNode}
 use Rattle.mt_box.specs.declared.place.Place.{Place}
 use Rattle.mt_box.specs.declared.place.Place.TheVariants.{Glyph, Rule}
 use Rattle.mt_box.specs.declared.placing.Point.{Point}

@@ -5,8 +5,9 @@ use Rattle.mt_box.specs.Places.{h_of, v_of}
 use Rattle.mt_box.specs.declared.place.Place.{Place}
 use Rattle.mt_box.specs.declared.place.Place.TheVariants.{Glyph, Rule}
 use Rattle.mt_box.specs.declared.packed.Node.{Node}
-use Rattle.mt_box.specs.declared.packed.Node.TheVariants.{GlyphNode, RuleNode, BoxNode}
+use Rattle.mt_box.specs.declared.packed.Node.TheVariants.{Glyph as GlyphNode, Rule as RuleNode, Boxed as BoxNode}
 use Rattle.mt_box.specs.declared.placing.Point.{Point}
+use Rattle.mt_box.specs.declared.placing.Spot.{Spot}
 use Rattle.mt_box.specs.declared.error.PlaceError.{PlaceError}
 use Rattle.mt_box.specs.declared.error.PlaceError.TheVariants.{OutOfRange, TooMany, OutOfMemory}
 
@@ -23,10 +24,13 @@ abbrev pub no_room : ℕ → Bool
 no_room zero = true
 no_room (suc r) = false
 
--- the fault of one place where there is room for so many
+-- the fault of a mark at h and v, where there is room for so many: h out of range, then v, then want of room
+abbrev pub fault_at : ℕ → ℤ → ℤ → Option PlaceError
+fault_at room h v =
+    if is_in_range h then (if is_in_range v then (if no_room room then Some TooMany else None) else Some (OutOfRange v)) else Some (OutOfRange h)
+
 abbrev pub fault_of : ℕ → Place → Option PlaceError
-fault_of room p =
-    if is_in_range (h_of p) then (if is_in_range (v_of p) then (if no_room room then Some TooMany else None) else Some (OutOfRange (v_of p))) else Some (OutOfRange (h_of p))
+fault_of room p = fault_at room (h_of p) (v_of p)
 
 abbrev pub or_else : Option PlaceError → Option PlaceError → Option PlaceError
 or_else (Some e) o = Some e
@@ -65,3 +69,8 @@ Placed room ps (Ok list) = (list ≡ ps) × (first_fault room ps ≡ None)
 Placed room ps (Err (OutOfRange x)) = first_fault room ps ≡ Some (OutOfRange x)
 Placed room ps (Err TooMany) = first_fault room ps ≡ Some TooMany
 Placed room ps (Err OutOfMemory) = Unit {0}
+
+-- where one mark stands, or its fault
+abbrev pub Spots : ℕ → Point → Result Spot PlaceError → Type 0
+Spots room at (Ok s) = (s.h ≡ at.h) × (s.v ≡ at.v) × (fault_at room at.h at.v ≡ None)
+Spots room at (Err e) = fault_at room at.h at.v ≡ Some e

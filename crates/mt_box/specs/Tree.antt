@@ -5,7 +5,7 @@ use Rattle.mt_box.specs.declared.place.Place.{Place}
 use Rattle.mt_box.specs.declared.place.Place.TheVariants.{Glyph, Rule}
 use Rattle.mt_box.specs.declared.extents.Extents.{Extents}
 use Rattle.mt_box.specs.declared.packed.Node.{Node}
-use Rattle.mt_box.specs.declared.packed.Node.TheVariants.{GlyphNode, RuleNode, BoxNode}
+use Rattle.mt_box.specs.declared.packed.Node.TheVariants.{Glyph as GlyphNode, Rule as RuleNode, Boxed as BoxNode}
 use Rattle.mt_box.specs.declared.packed.Packed.TheInside.{Inside}
 use Rattle.mt_box.specs.Layout.{Layout, all_moved}
 

@@ -23,7 +23,12 @@ pub fn glyph_box(alloc: Global, font: u16, code: u8, extents: Extents) -> Result
 {
     let mut nodes = Vec::new(alloc);
     nodes
-        .push(Node::GlyphNode(0, 0, font, code))
+        .push(Node::Glyph {
+            x: 0,
+            y: 0,
+            font,
+            code,
+        })
         .map_err(AllocError::from)?;
     seal(extents, 1, nodes)
 }

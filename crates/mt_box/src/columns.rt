@@ -167,7 +167,7 @@ fn node_at(frame: Frame, edge: Edge, entry: Entry) -> Option<Node>
     match entry {
         Entry::Boxed { shift, body } => {
             let y = edge.y - body.extents().height;
-            Some(Node::BoxNode(shift, y, body))
+            Some(Node::Boxed { x: shift, y, body })
         }
         Entry::Kern(_) => None,
         Entry::Rule(thickness) => rule_node(frame, edge, thickness),
@@ -181,7 +181,12 @@ fn rule_node(frame: Frame, edge: Edge, thickness: i64) -> Option<Node>
     ensures fits { IfSome result (λ n. (level : ℕ) → FitsIn level n) }
 {
     if 0 < thickness && 0 < frame.width {
-        Some(Node::RuleNode(0, edge.y - thickness, thickness, frame.width))
+        Some(Node::Rule {
+            x: 0,
+            y: edge.y - thickness,
+            height: thickness,
+            width: frame.width,
+        })
     } else {
         None
     }

@@ -24,3 +24,6 @@ pub use piece::{Piece, Row};
 pub use place::{PageList, Place, PlaceList};
 pub use placing::places;
 pub use rows::{hpack, row_extents, shrink_of};
+
+#[cfg(test)]
+mod tests;

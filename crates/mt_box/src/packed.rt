@@ -23,12 +23,23 @@ pub struct Packed {
 #[cycle(packed)]
 #[derive(Drop)]
 pub(crate) enum Node {
-    // x, y, font, code
-    GlyphNode(i64, i64, u16, u8),
-    // x, y, height, width
-    RuleNode(i64, i64, i64, i64),
-    // x, y, the box
-    BoxNode(i64, i64, Packed),
+    Glyph {
+        x: i64,
+        y: i64,
+        font: u16,
+        code: u8,
+    },
+    Rule {
+        x: i64,
+        y: i64,
+        height: i64,
+        width: i64,
+    },
+    Boxed {
+        x: i64,
+        y: i64,
+        body: Packed,
+    },
 }
 
 impl Model for Packed {

@@ -3,14 +3,17 @@ ghost use Rattle.std.specs.Prelude.{◌≡◌, ◌≤◌, ◌^◌, length, ◌+�
 ghost use Rattle.mt_box.specs.declared.place.Place.TheVariants.{Glyph, Rule};
 ghost use Rattle.mt_scaled.specs.Number.{Within, is_in_range};
 ghost use Rattle.mt_box.specs.Tree.{places_of_node};
-ghost use Rattle.mt_box.specs.Placing.{all_lowered, reach, IsReached, Puts, Placed};
+ghost use Rattle.mt_box.specs.Placing.{all_lowered, reach, IsReached, Puts, Placed, Spots};
 
 use crate::packed::Node;
 use crate::{Packed, Place, PlaceError, PlaceList};
 use mt_scaled::{Items, MAX_DIMEN};
 use std::alloc::{AllocError, Global};
 
-/// The places of a box whose reference point is at h and v.
+/// The marks of a box whose reference point stands at (h, v) on a page, in their order: rows from left to right, columns
+/// from the top downward. h grows to the right and v downward; both are at most 2^60 in size.
+///
+/// Refused at the first mark with a coordinate out of range (h before v), or for which there is no room.
 pub fn places(
     alloc: Global,
     body: &Packed,
@@ -35,7 +38,7 @@ pub fn places(
     Ok(Items::from_vec(places))
 }
 
-/// A point of a page, however far out.
+// A point of a page, however far out.
 #[derive(Clone, Copy)]
 struct Point {
     h: i128,
@@ -43,6 +46,7 @@ struct Point {
 }
 
 impl Point {
+    // The point so far to the right and up.
     fn moved(self, x: &i64, y: &i64) -> Point
         requires h { Within (2 ^ 90) self.h }
         requires v { Within (2 ^ 90) self.v }
@@ -55,7 +59,7 @@ impl Point {
     }
 }
 
-/// Puts the places of a box that stands there after the others.
+// Puts the marks of a box that stands there after the others.
 #[cycle(placing)]
 fn put_box(places: &mut Vec<Place>, body: &Packed, at: Point, room: u64) -> Result<(), PlaceError>
     requires h { Within (reach body.now.level) at.h }
@@ -70,6 +74,7 @@ fn put_box(places: &mut Vec<Place>, body: &Packed, at: Point, room: u64) -> Resu
     Ok(())
 }
 
+// Puts the marks of a node of a box that stands there.
 #[cycle(placing)]
 fn put_node(places: &mut Vec<Place>, node: &Node, at: Point, room: u64) -> Result<(), PlaceError>
     requires h { Within (2 ^ 90) at.h }
@@ -79,15 +84,14 @@ fn put_node(places: &mut Vec<Place>, node: &Node, at: Point, room: u64) -> Resul
     ensures { Puts room places.old.items (all_lowered at.h at.v (places_of_node node.now)) result places.new.items }
 {
     match node {
-        Node::GlyphNode(x, y, font, code) => put_glyph(places, at.moved(x, y), *font, *code, room),
-        Node::RuleNode(x, y, height, width) => put_rule(
-            places,
-            at.moved(x, y),
-            *height,
-            *width,
-            room,
-        ),
-        Node::BoxNode(x, y, body) => put_box(places, body, at.moved(x, y), room),
+        Node::Glyph { x, y, font, code } => put_glyph(places, at.moved(x, y), *font, *code, room),
+        Node::Rule {
+            x,
+            y,
+            height,
+            width,
+        } => put_rule(places, at.moved(x, y), *height, *width, room),
+        Node::Boxed { x, y, body } => put_box(places, body, at.moved(x, y), room),
     }
 }
 
@@ -101,15 +105,7 @@ fn put_glyph(
     requires room { length places.old.items ≤ room }
     ensures { Puts room places.old.items (Glyph font code at.h at.v ∷ []) result places.new.items }
 {
-    let Some(h) = coordinate(at) else {
-        return Err(PlaceError::OutOfRange(at.h));
-    };
-    let Some(v) = coordinate(Point { h: at.v, v: 0 }) else {
-        return Err(PlaceError::OutOfRange(at.v));
-    };
-    if places.len() as u64 == room {
-        return Err(PlaceError::TooMany);
-    }
+    let Spot { h, v } = mark_spot(at, room - places.len() as u64)?;
     places
         .push(Place::Glyph { font, code, h, v })
         .map_err(AllocError::from)?;
@@ -126,15 +122,7 @@ fn put_rule(
     requires room { length places.old.items ≤ room }
     ensures { Puts room places.old.items (Rule at.h at.v height width ∷ []) result places.new.items }
 {
-    let Some(h) = coordinate(at) else {
-        return Err(PlaceError::OutOfRange(at.h));
-    };
-    let Some(v) = coordinate(Point { h: at.v, v: 0 }) else {
-        return Err(PlaceError::OutOfRange(at.v));
-    };
-    if places.len() as u64 == room {
-        return Err(PlaceError::TooMany);
-    }
+    let Spot { h, v } = mark_spot(at, room - places.len() as u64)?;
     places
         .push(Place::Rule {
             h,
@@ -146,7 +134,30 @@ fn put_rule(
     Ok(())
 }
 
-/// The horizontal coordinate, if it is in range.
+// A point of a page whose coordinates are in range.
+#[derive(Clone, Copy)]
+struct Spot {
+    h: i64,
+    v: i64,
+}
+
+// Where a mark stands, if it is in range and there is room for it.
+fn mark_spot(at: Point, room: u64) -> Result<Spot, PlaceError>
+    ensures { Spots room at result }
+{
+    let Some(h) = coordinate(at) else {
+        return Err(PlaceError::OutOfRange(at.h));
+    };
+    let Some(v) = coordinate(Point { h: at.v, v: 0 }) else {
+        return Err(PlaceError::OutOfRange(at.v));
+    };
+    if room == 0 {
+        return Err(PlaceError::TooMany);
+    }
+    Ok(Spot { h, v })
+}
+
+// The horizontal coordinate, if it is in range.
 fn coordinate(at: Point) -> Option<i64>
     ensures { result ≡ (if is_in_range at.h then Some at.h else None) }
 {

@@ -200,8 +200,17 @@ fn node_at(pen: Pen, piece: Piece) -> Option<Node>
     ensures fits { IfSome result (λ n. (level : ℕ) → level_of_piece piece < level → FitsIn level n) }
 {
     match piece {
-        Piece::Glyph { font, code, .. } => Some(Node::GlyphNode(pen.x, 0, font, code)),
-        Piece::Boxed { raise, body } => Some(Node::BoxNode(pen.x, raise, body)),
+        Piece::Glyph { font, code, .. } => Some(Node::Glyph {
+            x: pen.x,
+            y: 0,
+            font,
+            code,
+        }),
+        Piece::Boxed { raise, body } => Some(Node::Boxed {
+            x: pen.x,
+            y: raise,
+            body,
+        }),
         _ => None,
     }
 }
