@@ -10,3 +10,4 @@ pub mod Placed
 pub mod Stacking
 pub mod Stacks
 pub mod Recentred
+mod Worked
