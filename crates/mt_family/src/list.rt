@@ -10,8 +10,11 @@ use std::marker::Model;
 /// the character whose kerns tell how far an accent is shifted, if there is one.
 #[derive(Debug, Drop)]
 pub struct FontLine {
+    /// The file's name without `.tfm`.
     pub name: Name,
+    /// The size, in scaled points.
     pub at: i64,
+    /// The character whose kerns shift accents.
     pub skew: Option<u8>,
 }
 
@@ -19,7 +22,9 @@ pub struct FontLine {
 /// scriptscript. A font's number is its place among the font lines, from 0.
 #[derive(Clone, Copy, Debug, PartialEq, Eq)]
 pub struct FamilyLine {
+    /// The family, 0 to 15.
     pub fam: u8,
+    /// The fonts' numbers, by size.
     pub fonts: [Option<u16>; 3],
 }
 
@@ -45,7 +50,9 @@ pub type FamilyLines = Items<FamilyLine>;
 /// numbers are those of font lines.
 #[derive(Debug, Drop)]
 pub struct FontList {
+    /// The font lines.
     pub lines: FontLines,
+    /// The family lines.
     pub families: FamilyLines,
 }
 

@@ -139,7 +139,11 @@ fn read_lines(alloc: Global, bytes: &[u8]) -> Result<Reading, ListError>
 }
 
 /// Reads a font list of version 1: ASCII lines ended by LF, of which the first is
-/// `mathset fonts 1`. Takes at most 2^31 bytes. An error has the first line at fault.
+/// `mathset fonts 1`. Takes at most 2^31 bytes.
+///
+/// # Errors
+///
+/// The fault of the first line that has one, with its number; [`ListError::OutOfMemory`] may come always.
 pub fn read_font_list(alloc: Global, bytes: &[u8]) -> Result<FontList, ListError>
     requires { length bytes.now ≤ 2 ^ 31 }
     ensures ok { IfOk result (λ list. font_list bytes.now ≡ Ok list) }

@@ -155,6 +155,10 @@ impl FontSet {
     /// The set of a list and its fonts, in the order of the font lines and at their sizes and skew
     /// characters. Families 2 and 3 are checked: at each size, in order, the family must have a font
     /// there with at least 22 parameters (family 2) or 13 (family 3).
+    ///
+    /// # Errors
+    ///
+    /// The first place where the font or a parameter is wanting; [`SetError::OutOfMemory`] may come always.
     pub fn build(alloc: Global, list: FontList, fonts: Fonts) -> Result<FontSet, SetError>
         requires { AreLoaded list.lines fonts }
         ensures ok { IfOk result (λ set. set ≡ record { lines = list.lines; families = list.families; fonts = fonts }) }
@@ -244,8 +248,8 @@ impl FontSet {
         }
     }
 
-    #[tactic(auto, unfolding(crate::specs::Sets::sy))]
     /// Parameter i of the symbols, family 2, at a size, in scaled points (The TeXbook, Appendix G).
+    #[tactic(auto, unfolding(crate::specs::Sets::sy))]
     pub fn sy(&self, i: u16, size: Size) -> i64
         requires low { 1 ≤ i }
         requires high { i ≤ 22 }
@@ -256,9 +260,9 @@ impl FontSet {
         self.param(2, i, size)
     }
 
-    #[tactic(auto, unfolding(crate::specs::Sets::ex))]
     /// Parameter i of the extensible characters, family 3, at a size, in scaled points (The TeXbook,
     /// Appendix G).
+    #[tactic(auto, unfolding(crate::specs::Sets::ex))]
     pub fn ex(&self, i: u16, size: Size) -> i64
         requires low { 1 ≤ i }
         requires high { i ≤ 13 }

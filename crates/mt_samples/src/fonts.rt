@@ -1,4 +1,4 @@
-//! The bytes of the toy fonts.
+//! The bytes of the example fonts.
 ghost use Rattle.std.specs.Prelude.{IfOk};
 ghost use Rattle.mt_samples.specs.Tables.{ReadsAs, roman, italic, symbols, extension};
 

@@ -33,17 +33,26 @@ family 2 6 7 8
 family 3 9 9 9
 ";
 
-/// The toy fonts, of families 0 to 3: upright letters, slanted letters, symbols, and characters that
+/// The example fonts, of families 0 to 3: upright letters, slanted letters, symbols, and characters that
 /// grow. Their files are named toyr, toym, toys and toyx.
 #[derive(Clone, Copy, Debug, PartialEq, Eq)]
 pub enum Toy {
+    /// Upright letters, toyr.
     Roman,
+    /// Slanted letters, toym.
     Italic,
+    /// Symbols, toys.
     Symbols,
+    /// Characters that grow, toyx.
     Extension,
 }
 
-/// The TFM file of a toy font. It reads as the font's table says at each of the sizes 10pt, 7pt and 5pt.
+/// The TFM file of an example font. It reads as the font's table in docs/FORMATS.md says at each of the
+/// sizes 10pt, 7pt and 5pt.
+///
+/// # Errors
+///
+/// Only where there is no memory left.
 pub fn toy_tfm(alloc: Global, which: Toy) -> Result<Bytes, AllocError>
     ensures { IfOk result (λ bytes. ReadsAs bytes (toy_of which)) }
 {
@@ -55,7 +64,11 @@ pub fn toy_tfm(alloc: Global, which: Toy) -> Result<Bytes, AllocError>
     }
 }
 
-/// The toy font list: toyr, toym and toys at 10pt, 7pt and 5pt, toyx at 10pt, and families 0 to 3.
+/// The list of the example fonts: toyr, toym and toys at 10pt, 7pt and 5pt, toyx at 10pt, and families 0 to 3.
+///
+/// # Errors
+///
+/// Only where there is no memory left.
 pub fn toy_list(alloc: Global) -> Result<Bytes, AllocError>
     ensures { IfOk result (λ bytes. font_list bytes ≡ Ok toy_list) }
 {
