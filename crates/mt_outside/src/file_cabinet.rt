@@ -1,5 +1,8 @@
 //! A cabinet over the files of a system. What a file holds is not told.
-ghost use Rattle.std.specs.Prelude.{◌≡◌, ◌<◌, ◌≤◌, ◌^◌, vec_len, IfOk, None};
+ghost use Rattle.std.specs.Prelude.{◌≡◌, ◌<◌, ◌≤◌, ◌^◌, vec_len, length, IfOk, IfSome, None};
+ghost use Rattle.mt_outside.specs.Counts.{FetchLeaves};
+ghost use Rattle.mt_outside.specs.Files.{content};
+ghost use Rattle.mt_outside.specs.Memory.{next};
 
 use crate::copies::copy_name;
 use crate::{Cabinet, FetchError};
@@ -78,7 +81,13 @@ impl<R: Files> Cabinet for FileCabinet<'_, R> {
 
     ghost lost = { λ c. c.lost };
 
-    fn fetch(&mut self, alloc: Global, name: &str, limit: u64) -> Result<Bytes, FetchError> {
+    fn fetch(&mut self, alloc: Global, name: &str, limit: u64) -> Result<Bytes, FetchError>
+        requires { limit < 2 ^ 40 }
+        ensures within { IfOk result (λ bytes. length bytes ≤ limit) }
+        ensures bytes { IfOk result (λ bytes. IfSome None (λ files. bytes ≡ content files name.now)) }
+        ensures leaves { FetchLeaves self.old.faults self.new.faults self.old.lost self.new.lost name.now result }
+        ensures raises { result ≡ Err FetchError.Failed → self.new.faults ≡ next self.old.faults }
+    {
         let lost = copy_name(alloc, name)?;
         match read_within(self.rt, alloc, name, limit) {
             Ok(bytes) => Ok(Bytes::from_vec(bytes)),

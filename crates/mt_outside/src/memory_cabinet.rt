@@ -41,6 +41,19 @@ impl MemoryCabinet {
             lost: None,
         }
     }
+
+    // The file that the call of the present number gives; none where it is to fail.
+    fn file_of_call(&self, name: &[u8]) -> Option<&Held>
+        ensures some { IfSome result (λ file. find_file self.now.files name.now ≡ Some file.now) }
+        ensures allowed { IfSome result (λ _. Contains self.now.fail self.now.calls → ⊥) }
+        ensures none { IfNone result (Contains self.now.fail self.now.calls ⊎ (find_file self.now.files name.now ≡ None)) }
+    {
+        if self.fail.as_slice().contains(&self.calls) {
+            None
+        } else {
+            find_first(self.files.as_slice(), name)
+        }
+    }
 }
 
 impl Cabinet for MemoryCabinet {
@@ -73,21 +86,6 @@ impl Cabinet for MemoryCabinet {
                 self.lost = Some(lost);
                 Err(FetchError::Failed)
             }
-        }
-    }
-}
-
-impl MemoryCabinet {
-    // The file that the call of the present number gives; none where it is to fail.
-    fn file_of_call(&self, name: &[u8]) -> Option<&Held>
-        ensures some { IfSome result (λ file. find_file self.now.files name.now ≡ Some file.now) }
-        ensures allowed { IfSome result (λ _. Contains self.now.fail self.now.calls → ⊥) }
-        ensures none { IfNone result (Contains self.now.fail self.now.calls ⊎ (find_file self.now.files name.now ≡ None)) }
-    {
-        if self.fail.as_slice().contains(&self.calls) {
-            None
-        } else {
-            find_first(self.files.as_slice(), name)
         }
     }
 }
