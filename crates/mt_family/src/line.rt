@@ -53,9 +53,7 @@ fn dashed(high: u64, field: &[u8]) -> Option<Option<u64>>
 fn copied(alloc: Global, name: &[u8]) -> Result<Name, AllocError>
     ensures { IfOk result (λ copy. copy ≡ name.now) }
 {
-    let mut bytes = Vec::new(alloc);
-    bytes.extend_from_slice(name)?;
-    Ok(Name::from_vec(bytes))
+    Ok(Name::from_vec(Vec::from_slice(alloc, name)?))
 }
 
 fn font_said(

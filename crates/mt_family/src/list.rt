@@ -1,8 +1,5 @@
 //! What a font list says.
-ghost use Rattle.std.specs.Prelude.{◌≡◌};
-ghost use Rattle.mt_family.specs.Sizes.{font_at_size};
 
-use crate::size::Size;
 use mt_scaled::{Items, Name};
 use std::marker::Model;
 
@@ -26,15 +23,6 @@ pub struct FamilyLine {
     pub fam: u8,
     /// The fonts' numbers, by size.
     pub fonts: [Option<u16>; 3],
-}
-
-impl FamilyLine {
-    /// The number of the family's font at a size.
-    pub fn font(&self, size: Size) -> Option<u16>
-        ensures { result ≡ font_at_size self.now.fonts size }
-    {
-        self.fonts[usize::from(size.index())]
-    }
 }
 
 /// Font lines, by number.

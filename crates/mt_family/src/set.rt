@@ -8,7 +8,6 @@ ghost use Rattle.mt_scaled.specs.Number.{Within};
 ghost use Rattle.mt_family.specs.ListFacts.{is_family};
 ghost use Rattle.mt_family.specs.SetValue.{number_in, number_by, numbers_of, numbers_by, table_of, font_at, font_in, name_in, named, has_params, HasParams, AreLoaded, IsSet};
 ghost use Rattle.mt_family.specs.Sets.{size_fault, family_fault, set_fault, param_in, units_of, sy as sy_of, ex as ex_of};
-ghost use Rattle.mt_family.specs.Sizes.{font_at_size};
 
 use crate::error::SetError;
 use crate::list::{FamilyLine, FontLine, FontList};

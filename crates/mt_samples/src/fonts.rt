@@ -103,34 +103,26 @@ static EXTENSION: [u8; 668] = [
 pub fn roman_font(alloc: Global) -> Result<Bytes, AllocError>
     ensures { IfOk result (λ bytes. ReadsAs bytes roman) }
 {
-    let mut bytes = Vec::new(alloc);
-    bytes.extend_from_slice(&ROMAN)?;
-    Ok(Bytes::from_vec(bytes))
+    Ok(Bytes::from_vec(Vec::from_slice(alloc, &ROMAN)?))
 }
 
 /// The TFM file of toym.
 pub fn italic_font(alloc: Global) -> Result<Bytes, AllocError>
     ensures { IfOk result (λ bytes. ReadsAs bytes italic) }
 {
-    let mut bytes = Vec::new(alloc);
-    bytes.extend_from_slice(&ITALIC)?;
-    Ok(Bytes::from_vec(bytes))
+    Ok(Bytes::from_vec(Vec::from_slice(alloc, &ITALIC)?))
 }
 
 /// The TFM file of toys.
 pub fn symbols_font(alloc: Global) -> Result<Bytes, AllocError>
     ensures { IfOk result (λ bytes. ReadsAs bytes symbols) }
 {
-    let mut bytes = Vec::new(alloc);
-    bytes.extend_from_slice(&SYMBOLS)?;
-    Ok(Bytes::from_vec(bytes))
+    Ok(Bytes::from_vec(Vec::from_slice(alloc, &SYMBOLS)?))
 }
 
 /// The TFM file of toyx.
 pub fn extension_font(alloc: Global) -> Result<Bytes, AllocError>
     ensures { IfOk result (λ bytes. ReadsAs bytes extension) }
 {
-    let mut bytes = Vec::new(alloc);
-    bytes.extend_from_slice(&EXTENSION)?;
-    Ok(Bytes::from_vec(bytes))
+    Ok(Bytes::from_vec(Vec::from_slice(alloc, &EXTENSION)?))
 }

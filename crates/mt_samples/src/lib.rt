@@ -72,7 +72,5 @@ pub fn toy_tfm(alloc: Global, which: Toy) -> Result<Bytes, AllocError>
 pub fn toy_list(alloc: Global) -> Result<Bytes, AllocError>
     ensures { IfOk result (λ bytes. font_list bytes ≡ Ok toy_list) }
 {
-    let mut bytes = Vec::new(alloc);
-    bytes.extend_from_slice(LIST.as_bytes())?;
-    Ok(Bytes::from_vec(bytes))
+    Ok(Bytes::from_vec(Vec::from_slice(alloc, LIST.as_bytes())?))
 }
