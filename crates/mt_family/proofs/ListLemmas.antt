@@ -13,13 +13,13 @@ use Rattle.mt_family.specs.declared.list.FontLine.{FontLine}
 use Rattle.mt_family.specs.declared.list.FamilyLine.{FamilyLine}
 use Rattle.mt_family.specs.declared.error.ListError.{ListError}
 use Rattle.mt_family.specs.declared.error.ListError.TheVariants.{BadLine, Repeated, UnknownFont, TooMany}
-use Rattle.mt_family.specs.declared.line.Said.{Said}
-use Rattle.mt_family.specs.declared.line.FamilySaid.{FamilySaid}
-use Rattle.mt_family.specs.declared.line.Said.TheVariants.{Nothing, Font, Family}
+use Rattle.mt_family.specs.declared.line.Line.{Line}
+use Rattle.mt_family.specs.declared.line.FamilyFields.{FamilyFields}
+use Rattle.mt_family.specs.declared.line.Line.TheVariants.{Nothing, Font, Family}
 use Rattle.mt_family.specs.Fields.{number, is_name, fields_from}
-use Rattle.mt_family.specs.Lines.{in_bounds, ranged, dashed, font_of, font_said, family_of, family_said, fields_said, is_comment, starts_blank, ends_blank, line_said}
+use Rattle.mt_family.specs.Lines.{in_bounds, ranged, dashed, font_of, font_fields, family_of, family_fields, fields_line, is_comment, starts_blank, ends_blank, line_of}
 use Rattle.mt_family.specs.ListFacts.{ListValue, is_font, same_family, AreDistinct, IsKnown, IsFontLine, IsFamilyLine, IsFontList}
-use Rattle.mt_family.specs.Lists.{has_font, has_family, is_known, with_said, with_line, and_then, list_from, nothing, font_list}
+use Rattle.mt_family.specs.Lists.{has_font, has_family, is_known, with_form, with_line, and_then, list_from, nothing, font_list}
 
 -- a place that was found is found in a longer list
 found_by : {X : Type 0} (test : X → Bool) (k i : ℕ) (b : Bool) (xs ys : List X) → (position_from test (k + 1) xs ≡ Some i → position_from test (k + 1) (xs ++ ys) ≡ Some i) → (if b then Some k else position_from test (k + 1) xs) ≡ Some i → (if b then Some k else position_from test (k + 1) (xs ++ ys)) ≡ Some i
@@ -71,43 +71,43 @@ between low high None = tt
 between low high (Some n) = between_by low high n (nat_le low n && nat_le n high) refl
 
 -- what a line says keeps its bounds
-abbrev IsSaid : Option Said → Type 0
-IsSaid None = ⊤
-IsSaid (Some Nothing) = ⊤
-IsSaid (Some (Font f)) = IsFontLine f
-IsSaid (Some (Family f)) = f.fam < 16
+abbrev IsForm : Option Line → Type 0
+IsForm None = ⊤
+IsForm (Some Nothing) = ⊤
+IsForm (Some (Font f)) = IsFontLine f
+IsForm (Some (Family f)) = f.fam < 16
 
-said_if : (b : Bool) (x y : Option Said) → (b ≡ true → IsSaid x) → (b ≡ false → IsSaid y) → IsSaid (if b then x else y)
-said_if true x y h k = h refl
-said_if false x y h k = k refl
+form_if : (b : Bool) (x y : Option Line) → (b ≡ true → IsForm x) → (b ≡ false → IsForm y) → IsForm (if b then x else y)
+form_if true x y h k = h refl
+form_if false x y h k = k refl
 
-font_is : (name : List ℕ) (at : Option ℕ) (skew : Option (Option ℕ)) → IsTrue (is_name name) → IsBetween 1 134217727 at → IsSaid (font_of name at skew)
+font_is : (name : List ℕ) (at : Option ℕ) (skew : Option (Option ℕ)) → IsTrue (is_name name) → IsBetween 1 134217727 at → IsForm (font_of name at skew)
 font_is name None skew h b = tt
 font_is name (Some at) None h b = tt
 font_is name (Some at) (Some skew) h b = record { name = h; above = omega (arith, ints, b.0); below = omega (arith, ints, b.1) }
 
-family_is : (fam : Option ℕ) (a b c : Option (Option ℕ)) → IsBetween 0 15 fam → IsSaid (family_of fam a b c)
+family_is : (fam : Option ℕ) (a b c : Option (Option ℕ)) → IsBetween 0 15 fam → IsForm (family_of fam a b c)
 family_is None a b c h = tt
 family_is (Some fam) None b c h = tt
 family_is (Some fam) (Some a) None c h = tt
 family_is (Some fam) (Some a) (Some b) None h = tt
 family_is (Some fam) (Some a) (Some b) (Some c) h = omega (arith, h.1)
 
-fields_are : (fields : List (List ℕ)) → IsSaid (fields_said fields)
+fields_are : (fields : List (List ℕ)) → IsForm (fields_line fields)
 fields_are [] = tt
 fields_are (a ∷ []) = tt
 fields_are (a ∷ b ∷ []) = tt
 fields_are (a ∷ b ∷ c ∷ []) = tt
 fields_are (kind ∷ a ∷ b ∷ c ∷ []) =
-    said_if (bytes_eq kind (codes "font")) (font_said a b c) None (λ e. said_if (is_name a) (font_of a (ranged 1 134217727 b) (dashed 255 c)) None (λ t. font_is a (ranged 1 134217727 b) (dashed 255 c) t (between 1 134217727 (number b))) (λ t. tt)) (λ e. tt)
+    form_if (bytes_eq kind (codes "font")) (font_fields a b c) None (λ e. form_if (is_name a) (font_of a (ranged 1 134217727 b) (dashed 255 c)) None (λ t. font_is a (ranged 1 134217727 b) (dashed 255 c) t (between 1 134217727 (number b))) (λ t. tt)) (λ e. tt)
 fields_are (kind ∷ a ∷ b ∷ c ∷ d ∷ []) =
-    said_if (bytes_eq kind (codes "family")) (family_said a b c d) None (λ e. family_is (ranged 0 15 a) (dashed 9999999999 b) (dashed 9999999999 c) (dashed 9999999999 d) (between 0 15 (number a))) (λ e. tt)
+    form_if (bytes_eq kind (codes "family")) (family_fields a b c d) None (λ e. family_is (ranged 0 15 a) (dashed 9999999999 b) (dashed 9999999999 c) (dashed 9999999999 d) (between 0 15 (number a))) (λ e. tt)
 fields_are (kind ∷ a ∷ b ∷ c ∷ d ∷ e ∷ rest) = tt
 
-line_is : (line : List ℕ) → IsSaid (line_said line)
+line_is : (line : List ℕ) → IsForm (line_of line)
 line_is line =
-    said_if (is_comment line) (Some Nothing) (if starts_blank line || ends_blank line then None else fields_said (fields_from [] line)) (λ e. tt)
-    (λ e. said_if (starts_blank line || ends_blank line) None (fields_said (fields_from [] line)) (λ t. tt) (λ t. fields_are (fields_from [] line)))
+    form_if (is_comment line) (Some Nothing) (if starts_blank line || ends_blank line then None else fields_line (fields_from [] line)) (λ e. tt)
+    (λ e. form_if (starts_blank line || ends_blank line) None (fields_line (fields_from [] line)) (λ t. tt) (λ t. fields_are (fields_from [] line)))
 
 and_both : (a b : Bool) → a ≡ true → b ≡ true → (a && b) ≡ true
 and_both a b e d = rw (e, d) refl
@@ -150,11 +150,11 @@ and_parts true true false h = absurd (cc)
 and_parts true false c h = absurd (cc)
 and_parts false b c h = absurd (cc)
 
-abbrev family_line : FamilySaid → FamilyLine
+abbrev family_line : FamilyFields → FamilyLine
 family_line f = record { fam = f.fam; fonts = f.text ∷ f.script ∷ f.scriptscript ∷ [] }
 
 -- a family line more
-family_added : (list : ListValue) (f : FamilySaid) → f.fam < 16 → has_family list.families f.fam ≡ false → (is_known (length list.lines) f.text && is_known (length list.lines) f.script && is_known (length list.lines) f.scriptscript) ≡ true → IsFontList list → IsFontList (record { lines = list.lines; families = list.families ++ family_line f ∷ [] })
+family_added : (list : ListValue) (f : FamilyFields) → f.fam < 16 → has_family list.families f.fam ≡ false → (is_known (length list.lines) f.text && is_known (length list.lines) f.script && is_known (length list.lines) f.scriptscript) ≡ true → IsFontList list → IsFontList (record { lines = list.lines; families = list.families ++ family_line f ∷ [] })
 family_added list f small new known l =
     let parts = and_parts (is_known (length list.lines) f.text) (is_known (length list.lines) f.script) (is_known (length list.lines) f.scriptscript) known in
     let P = IsKnown (length list.lines) in
@@ -167,25 +167,25 @@ family_added list f small new known l =
       family_once = distinct_more same_family list.families (family_line f) (same_fam (family_line f)) new l.family_once;
     }
 
-family_by : (n : ℕ) (list out : ListValue) (f : FamilySaid) (b c : Bool) → has_family list.families f.fam ≡ b → (is_known (length list.lines) f.text && is_known (length list.lines) f.script && is_known (length list.lines) f.scriptscript) ≡ c → f.fam < 16 → IsFontList list → (if b then Err (Repeated n) else (if c then Ok (record { lines = list.lines; families = list.families ++ family_line f ∷ [] }) else Err (UnknownFont n))) ≡ Ok out → IsFontList out
+family_by : (n : ℕ) (list out : ListValue) (f : FamilyFields) (b c : Bool) → has_family list.families f.fam ≡ b → (is_known (length list.lines) f.text && is_known (length list.lines) f.script && is_known (length list.lines) f.scriptscript) ≡ c → f.fam < 16 → IsFontList list → (if b then Err (Repeated n) else (if c then Ok (record { lines = list.lines; families = list.families ++ family_line f ∷ [] }) else Err (UnknownFont n))) ≡ Ok out → IsFontList out
 family_by n list out f true c e1 e2 small l h = absurd (cc)
 family_by n list out f false false e1 e2 small l h = absurd (cc)
 family_by n list out f false true e1 e2 small l h = let same : record { lines = list.lines; families = list.families ++ family_line f ∷ [] } ≡ out = cc in subst IsFontList same (family_added list f small e1 e2 l)
 
-said_added : (n : ℕ) (list out : ListValue) (said : Option Said) → IsSaid said → IsFontList list → with_said n list said ≡ Ok out → IsFontList out
-said_added n list out None is l h = absurd (cc)
-said_added n list out (Some Nothing) is l h = let same : list ≡ out = cc in subst IsFontList same l
-said_added n list out (Some (Font f)) is l h = font_by n list out f (has_font list.lines f) (nat_le 48 (length list.lines)) refl refl is l h
-said_added n list out (Some (Family f)) is l h =
+form_added : (n : ℕ) (list out : ListValue) (form : Option Line) → IsForm form → IsFontList list → with_form n list form ≡ Ok out → IsFontList out
+form_added n list out None is l h = absurd (cc)
+form_added n list out (Some Nothing) is l h = let same : list ≡ out = cc in subst IsFontList same l
+form_added n list out (Some (Font f)) is l h = font_by n list out f (has_font list.lines f) (nat_le 48 (length list.lines)) refl refl is l h
+form_added n list out (Some (Family f)) is l h =
     family_by n list out f (has_family list.families f.fam) (is_known (length list.lines) f.text && is_known (length list.lines) f.script && is_known (length list.lines) f.scriptscript) refl refl is l h
 
-line_by : (n : ℕ) (list out : ListValue) (said : Option Said) (b c : Bool) → IsSaid said → IsFontList list → (if b then (if c then Ok list else Err (BadLine 1)) else with_said n list said) ≡ Ok out → IsFontList out
-line_by n list out said true true is l h = let same : list ≡ out = cc in subst IsFontList same l
-line_by n list out said true false is l h = absurd (cc)
-line_by n list out said false c is l h = said_added n list out said is l h
+line_by : (n : ℕ) (list out : ListValue) (form : Option Line) (b c : Bool) → IsForm form → IsFontList list → (if b then (if c then Ok list else Err (BadLine 1)) else with_form n list form) ≡ Ok out → IsFontList out
+line_by n list out form true true is l h = let same : list ≡ out = cc in subst IsFontList same l
+line_by n list out form true false is l h = absurd (cc)
+line_by n list out form false c is l h = form_added n list out form is l h
 
 line_added : (n : ℕ) (list out : ListValue) (line : List ℕ) → IsFontList list → with_line n list line ≡ Ok out → IsFontList out
-line_added n list out line l h = line_by n list out (line_said line) (n == 1) (bytes_eq line (codes "mathset fonts 1")) (line_is line) l h
+line_added n list out line l h = line_by n list out (line_of line) (n == 1) (bytes_eq line (codes "mathset fonts 1")) (line_is line) l h
 
 end_by : (b : Bool) (n : ℕ) (list out : ListValue) (line : List ℕ) → IsFontList list → (if b then Ok list else with_line n list line) ≡ Ok out → IsFontList out
 end_by true n list out line l h = let same : list ≡ out = cc in subst IsFontList same l

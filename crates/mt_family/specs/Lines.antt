@@ -1,8 +1,8 @@
 -- What a line of a font list says.
 use Rattle.std.specs.Prelude.{ℕ, List, [], ◌∷◌, Bool, true, false, ◌&&◌, ◌||◌, ◌==◌, nat_le, if◌then◌else◌, Option, Some, None, pos, codes, slice_index, length, ◌-◌}
 use Rattle.std.specs.Str.{bytes_eq}
-use Rattle.mt_family.specs.declared.line.Said.{Said}
-use Rattle.mt_family.specs.declared.line.Said.TheVariants.{Nothing, Font, Family}
+use Rattle.mt_family.specs.declared.line.Line.{Line}
+use Rattle.mt_family.specs.declared.line.Line.TheVariants.{Nothing, Font, Family}
 use Rattle.mt_family.specs.Fields.{number, is_name, fields_from}
 
 -- a number within bounds
@@ -21,28 +21,28 @@ some_of (Some n) = Some (Some n)
 abbrev pub dashed : ℕ → List ℕ → Option (Option ℕ)
 dashed high field = if bytes_eq field (codes "-") then Some None else some_of (ranged 0 high field)
 
-abbrev pub font_of : List ℕ → Option ℕ → Option (Option ℕ) → Option Said
+abbrev pub font_of : List ℕ → Option ℕ → Option (Option ℕ) → Option Line
 font_of name None skew = None
 font_of name (Some at) None = None
 font_of name (Some at) (Some skew) = Some (Font (record { name = name; at = pos at; skew = skew }))
 
-abbrev pub font_said : List ℕ → List ℕ → List ℕ → Option Said
-font_said name size skew = if is_name name then font_of name (ranged 1 134217727 size) (dashed 255 skew) else None
+abbrev pub font_fields : List ℕ → List ℕ → List ℕ → Option Line
+font_fields name size skew = if is_name name then font_of name (ranged 1 134217727 size) (dashed 255 skew) else None
 
-abbrev pub family_of : Option ℕ → Option (Option ℕ) → Option (Option ℕ) → Option (Option ℕ) → Option Said
+abbrev pub family_of : Option ℕ → Option (Option ℕ) → Option (Option ℕ) → Option (Option ℕ) → Option Line
 family_of None a b c = None
 family_of (Some fam) None b c = None
 family_of (Some fam) (Some a) None c = None
 family_of (Some fam) (Some a) (Some b) None = None
 family_of (Some fam) (Some a) (Some b) (Some c) = Some (Family (record { fam = fam; text = a; script = b; scriptscript = c }))
 
-abbrev pub family_said : List ℕ → List ℕ → List ℕ → List ℕ → Option Said
-family_said fam a b c = family_of (ranged 0 15 fam) (dashed 9999999999 a) (dashed 9999999999 b) (dashed 9999999999 c)
+abbrev pub family_fields : List ℕ → List ℕ → List ℕ → List ℕ → Option Line
+family_fields fam a b c = family_of (ranged 0 15 fam) (dashed 9999999999 a) (dashed 9999999999 b) (dashed 9999999999 c)
 
-abbrev pub fields_said : List (List ℕ) → Option Said
-fields_said (kind ∷ a ∷ b ∷ c ∷ []) = if bytes_eq kind (codes "font") then font_said a b c else None
-fields_said (kind ∷ a ∷ b ∷ c ∷ d ∷ []) = if bytes_eq kind (codes "family") then family_said a b c d else None
-fields_said fields = None
+abbrev pub fields_line : List (List ℕ) → Option Line
+fields_line (kind ∷ a ∷ b ∷ c ∷ []) = if bytes_eq kind (codes "font") then font_fields a b c else None
+fields_line (kind ∷ a ∷ b ∷ c ∷ d ∷ []) = if bytes_eq kind (codes "family") then family_fields a b c d else None
+fields_line fields = None
 
 -- a blank stands at an end
 abbrev pub starts_blank : List ℕ → Bool
@@ -57,7 +57,7 @@ is_comment [] = true
 is_comment (b ∷ rest) = b == 37
 
 -- None is a line of none of the forms
-abbrev pub line_said : List ℕ → Option Said
-line_said line =
+abbrev pub line_of : List ℕ → Option Line
+line_of line =
     if is_comment line then Some Nothing
-    else (if starts_blank line || ends_blank line then None else fields_said (fields_from [] line))
+    else (if starts_blank line || ends_blank line then None else fields_line (fields_from [] line))

@@ -6,11 +6,11 @@ use Rattle.mt_family.specs.declared.list.FontLine.{FontLine}
 use Rattle.mt_family.specs.declared.list.FamilyLine.{FamilyLine}
 use Rattle.mt_family.specs.declared.error.ListError.{ListError}
 use Rattle.mt_family.specs.declared.error.ListError.TheVariants.{BadLine, Repeated, UnknownFont, TooMany}
-use Rattle.mt_family.specs.declared.line.Said.{Said}
-use Rattle.mt_family.specs.declared.line.FamilySaid.{FamilySaid}
-use Rattle.mt_family.specs.declared.line.Said.TheVariants.{Nothing, Font, Family}
+use Rattle.mt_family.specs.declared.line.Line.{Line}
+use Rattle.mt_family.specs.declared.line.FamilyFields.{FamilyFields}
+use Rattle.mt_family.specs.declared.line.Line.TheVariants.{Nothing, Font, Family}
 use Rattle.mt_family.specs.ListFacts.{ListValue, is_font, is_family}
-use Rattle.mt_family.specs.Lines.{line_said}
+use Rattle.mt_family.specs.Lines.{line_of}
 
 abbrev pub has_font : List FontLine → FontLine → Bool
 has_font lines f = list_any (λ (g : FontLine). is_font f g) lines
@@ -29,23 +29,23 @@ with_font n list f =
     else (if nat_le 48 (length list.lines) then Err (TooMany n)
     else Ok (record { lines = list.lines ++ f ∷ []; families = list.families }))
 
-abbrev pub with_family : ℕ → ListValue → FamilySaid → Result ListValue ListError
+abbrev pub with_family : ℕ → ListValue → FamilyFields → Result ListValue ListError
 with_family n list f =
     if has_family list.families f.fam then Err (Repeated n)
     else (if is_known (length list.lines) f.text && is_known (length list.lines) f.script && is_known (length list.lines) f.scriptscript
     then Ok (record { lines = list.lines; families = list.families ++ (record { fam = f.fam; fonts = f.text ∷ f.script ∷ f.scriptscript ∷ [] }) ∷ [] }) else Err (UnknownFont n))
 
-abbrev pub with_said : ℕ → ListValue → Option Said → Result ListValue ListError
-with_said n list None = Err (BadLine n)
-with_said n list (Some Nothing) = Ok list
-with_said n list (Some (Font f)) = with_font n list f
-with_said n list (Some (Family f)) = with_family n list f
+abbrev pub with_form : ℕ → ListValue → Option Line → Result ListValue ListError
+with_form n list None = Err (BadLine n)
+with_form n list (Some Nothing) = Ok list
+with_form n list (Some (Font f)) = with_font n list f
+with_form n list (Some (Family f)) = with_family n list f
 
 -- line n, where the list so far is this
 abbrev pub with_line : ℕ → ListValue → List ℕ → Result ListValue ListError
 with_line n list line =
     if n == 1 then (if bytes_eq line (codes "mathset fonts 1") then Ok list else Err (BadLine 1))
-    else with_said n list (line_said line)
+    else with_form n list (line_of line)
 
 abbrev pub and_then : Result ListValue ListError → (ListValue → Result ListValue ListError) → Result ListValue ListError
 and_then (Ok list) next = next list

@@ -1,7 +1,7 @@
 //! The forms of a line of a font list.
 ghost use Rattle.std.specs.Prelude.{◌≡◌, ◌≤◌, IfOk, IfSome, option_map};
-ghost use Rattle.mt_family.specs.declared.line.Said.TheVariants.{Family};
-ghost use Rattle.mt_family.specs.Lines.{ranged, dashed, font_said, family_said, fields_said, line_said, starts_blank, ends_blank, is_comment};
+ghost use Rattle.mt_family.specs.declared.line.Line.TheVariants.{Family};
+ghost use Rattle.mt_family.specs.Lines.{ranged, dashed, font_fields, family_fields, fields_line, line_of, starts_blank, ends_blank, is_comment};
 
 use crate::fields::{fields, is_name, number};
 use crate::list::FontLine;
@@ -10,15 +10,15 @@ use std::alloc::{AllocError, Global};
 
 /// What a line says: nothing (it is empty or a comment), a font, or a family.
 #[derive(Drop)]
-pub enum Said {
+pub enum Line {
     Nothing,
     Font(FontLine),
-    Family(FamilySaid),
+    Family(FamilyFields),
 }
 
 /// A family line, its font numbers as they are written.
 #[derive(Clone, Copy)]
-pub struct FamilySaid {
+pub struct FamilyFields {
     pub fam: u8,
     pub text: Option<u64>,
     pub script: Option<u64>,
@@ -56,13 +56,13 @@ fn copied(alloc: Global, name: &[u8]) -> Result<Name, AllocError>
     Ok(Name::from_vec(Vec::from_slice(alloc, name)?))
 }
 
-fn font_said(
+fn font_fields(
     alloc: Global,
     name: &[u8],
     size: &[u8],
     skew: &[u8],
-) -> Result<Option<Said>, AllocError>
-    ensures { IfOk result (λ said. said ≡ font_said name.now size.now skew.now) }
+) -> Result<Option<Line>, AllocError>
+    ensures { IfOk result (λ line. line ≡ font_fields name.now size.now skew.now) }
 {
     if !is_name(name) {
         return Ok(None);
@@ -70,7 +70,7 @@ fn font_said(
     match (ranged(1, 134_217_727, size), dashed(255, skew)) {
         (Some(at), Some(skew)) => {
             let name = copied(alloc, name)?;
-            Ok(Some(Said::Font(FontLine {
+            Ok(Some(Line::Font(FontLine {
                 name,
                 at: at as i64,
                 skew: narrow(skew),
@@ -90,14 +90,14 @@ fn narrow(skew: Option<u64>) -> Option<u8>
     }
 }
 
-fn family_said(fam: &[u8], text: &[u8], script: &[u8], small: &[u8]) -> Option<FamilySaid>
-    ensures { option_map Family result ≡ family_said fam.now text.now script.now small.now }
+fn family_fields(fam: &[u8], text: &[u8], script: &[u8], small: &[u8]) -> Option<FamilyFields>
+    ensures { option_map Family result ≡ family_fields fam.now text.now script.now small.now }
 {
     let fam = ranged(0, 15, fam)?;
     let text = dashed(9_999_999_999, text)?;
     let script = dashed(9_999_999_999, script)?;
     let scriptscript = dashed(9_999_999_999, small)?;
-    Some(FamilySaid {
+    Some(FamilyFields {
         fam: fam as u8,
         text,
         script,
@@ -105,16 +105,16 @@ fn family_said(fam: &[u8], text: &[u8], script: &[u8], small: &[u8]) -> Option<F
     })
 }
 
-fn fields_said(alloc: Global, fields: &[Name]) -> Result<Option<Said>, AllocError>
-    ensures { IfOk result (λ said. said ≡ fields_said fields.now) }
+fn fields_line(alloc: Global, fields: &[Name]) -> Result<Option<Line>, AllocError>
+    ensures { IfOk result (λ line. line ≡ fields_line fields.now) }
 {
     match fields {
         [kind, a, b, c] if kind.as_slice() == b"font".as_slice() => {
-            font_said(alloc, a.as_slice(), b.as_slice(), c.as_slice())
+            font_fields(alloc, a.as_slice(), b.as_slice(), c.as_slice())
         }
         [kind, a, b, c, d] if kind.as_slice() == b"family".as_slice() => {
-            Ok(family_said(a.as_slice(), b.as_slice(), c.as_slice(), d.as_slice()).map(
-                Said::Family,
+            Ok(family_fields(a.as_slice(), b.as_slice(), c.as_slice(), d.as_slice()).map(
+                Line::Family,
             ))
         }
         _ => Ok(None),
@@ -149,15 +149,15 @@ fn ends_blank(line: &[u8]) -> bool
 }
 
 /// What a line after the first says; `None` is a line that has none of the forms.
-pub fn line_said(alloc: Global, line: &[u8]) -> Result<Option<Said>, AllocError>
-    ensures { IfOk result (λ said. said ≡ line_said line.now) }
+pub fn line_of(alloc: Global, line: &[u8]) -> Result<Option<Line>, AllocError>
+    ensures { IfOk result (λ form. form ≡ line_of line.now) }
 {
     if is_comment(line) {
-        return Ok(Some(Said::Nothing));
+        return Ok(Some(Line::Nothing));
     }
     if starts_blank(line) || ends_blank(line) {
         return Ok(None);
     }
     let fields = fields(alloc, line)?;
-    fields_said(alloc, &fields)
+    fields_line(alloc, &fields)
 }

@@ -3,10 +3,10 @@ ghost use Rattle.std.specs.Prelude.{◌≡◌, ◌≤◌, ◌<◌, ◌^◌, ◌�
 ghost use Rattle.mt_family.specs.declared.error.ListError.TheVariants.{OutOfMemory};
 ghost use Rattle.mt_family.specs.ListFacts.{IsFontList};
 ghost use Rattle.mt_family.specs.Reads.{Adds, list_of};
-ghost use Rattle.mt_family.specs.Lists.{has_font, has_family, is_known, with_font, with_family, with_said, with_line, list_from, font_list};
+ghost use Rattle.mt_family.specs.Lists.{has_font, has_family, is_known, with_font, with_family, with_form, with_line, list_from, font_list};
 
 use crate::error::ListError;
-use crate::line::{FamilySaid, Said, line_said};
+use crate::line::{FamilyFields, Line, line_of};
 use crate::list::{FamilyLine, FamilyLines, FontLine, FontLines, FontList};
 use std::alloc::{AllocError, Global};
 
@@ -65,7 +65,7 @@ fn add_font(number: u32, reading: &mut Reading, line: FontLine) -> Result<(), Li
     Ok(())
 }
 
-fn add_family(number: u32, reading: &mut Reading, line: FamilySaid) -> Result<(), ListError>
+fn add_family(number: u32, reading: &mut Reading, line: FamilyFields) -> Result<(), ListError>
     requires { vec_len reading.old.lines < 49 }
     ensures is { Adds (with_family number (list_of reading.old) line) reading.new result }
     ensures few { vec_len reading.new.lines < 49 }
@@ -103,11 +103,11 @@ fn add_line(alloc: Global, number: u32, reading: &mut Reading, line: &[u8]) -> R
         }
         return Err(ListError::BadLine(1));
     }
-    match line_said(alloc, line)? {
+    match line_of(alloc, line)? {
         None => Err(ListError::BadLine(number)),
-        Some(Said::Nothing) => Ok(()),
-        Some(Said::Font(font)) => add_font(number, reading, font),
-        Some(Said::Family(family)) => add_family(number, reading, family),
+        Some(Line::Nothing) => Ok(()),
+        Some(Line::Font(font)) => add_font(number, reading, font),
+        Some(Line::Family(family)) => add_family(number, reading, family),
     }
 }
 
