@@ -1,6 +1,7 @@
 pub mod Answer
 pub mod Codes
 pub mod Ends
+pub mod FontSteps
 pub mod Log
 pub mod Outcome
 pub mod Pieces

@@ -23,14 +23,17 @@ pub data Cause : Type 0 where
   Memory : Cause
   Never : Cause
 
+abbrev pub refusal_cause : Status → Cause
+refusal_cause Done = Never
+refusal_cause BadWords = Never
+refusal_cause (ReadFault name) = Lost name
+refusal_cause (WriteFault written) = Never
+refusal_cause OutOfMemory = Memory
+refusal_cause status = Told
+
 abbrev pub cause_of : {T : Type 0} → Result T Status → Cause
 cause_of (Ok x) = Told
-cause_of (Err Done) = Never
-cause_of (Err BadWords) = Never
-cause_of (Err (ReadFault name)) = Lost name
-cause_of (Err (WriteFault written)) = Never
-cause_of (Err OutOfMemory) = Memory
-cause_of (Err status) = Told
+cause_of (Err status) = refusal_cause status
 
 abbrev pub StepBy : Cause → Option (List Held) → ℕ → ℕ → Option (List ℕ) → (List Held → Type 0) → (List ℕ → List Held → Type 0) → Type 0
 StepBy Told holds before now lost says asks = (now ≡ before) × ((files : List Held) → holds ≡ Some files → says files)

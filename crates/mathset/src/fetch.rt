@@ -1,5 +1,5 @@
 //! Files by the words that name them.
-ghost use Rattle.std.specs.Prelude.{◌≡◌, ◌<◌, ◌^◌, IfOk};
+ghost use Rattle.std.specs.Prelude.{◌≡◌, ◌<◌, ◌≤◌, ◌^◌, length, IfOk};
 ghost use Rattle.mathset.specs.Reads.{IsStep, IsRefusal, file_of};
 
 use crate::status::Status;
@@ -36,6 +36,7 @@ pub fn fetch_file<C: Cabinet>(
 ) -> Result<Bytes, Status>
     requires { limit < 2 ^ 40 }
     ensures is { IsStep (C.holds cabinet.old) (C.faults cabinet.old) (C.faults cabinet.new) (C.lost cabinet.new) (file_of word.now limit) result }
+    ensures within { IfOk result (λ bytes. length bytes ≤ limit) }
     ensures holds { C.holds cabinet.new ≡ C.holds cabinet.old }
 {
     match cabinet.fetch(alloc, word, limit) {

@@ -2,6 +2,7 @@
 #![tactic(auto)]
 
 mod fetch;
+mod fonts;
 mod log;
 mod run;
 mod status;
