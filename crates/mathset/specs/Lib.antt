@@ -6,4 +6,5 @@ pub mod Log
 pub mod Outcome
 pub mod Pieces
 pub mod Reads
+pub mod Typeset
 pub mod Words

@@ -5,6 +5,7 @@ mod fetch;
 mod fonts;
 mod log;
 mod run;
+mod set;
 mod status;
 #[cfg(test)]
 mod tests;

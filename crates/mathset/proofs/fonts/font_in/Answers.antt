@@ -4,7 +4,7 @@ use Rattle.mathset.proofs.FontLemmas.{at_of, skew_of}
 use Rattle.mathset.proofs.fonts.font_in.Goals as goal
 
 pub returns-in-Ok-clause-at : goal.returns-in-Ok-clause-at
-returns-in-Ok-clause-at c = ap (λ (m : Metrics). m.at) c.in-Ok.ensures.ok.0 ∙ at_of _ _ _ ∙ search rules
+returns-in-Ok-clause-at c = ap (λ (m : Metrics). m.at) c.in-Ok.ensures.is ∙ at_of _ _ _ ∙ search rules
 
 pub returns-in-Ok-clause-skew : goal.returns-in-Ok-clause-skew
-returns-in-Ok-clause-skew c = ap (λ (m : Metrics). m.skew) c.in-Ok.ensures.ok.0 ∙ skew_of _ _ _ ∙ search rules
+returns-in-Ok-clause-skew c = ap (λ (m : Metrics). m.skew) c.in-Ok.ensures.is ∙ skew_of _ _ _ ∙ search rules
