@@ -79,11 +79,7 @@ fn list_in(alloc: Global, bytes: &[u8]) -> Result<FontList, Status>
     }
 }
 
-fn read_list<C: Cabinet>(
-    alloc: Global,
-    name: &str,
-    cabinet: &mut C,
-) -> Result<FontList, Status>
+fn read_list<C: Cabinet>(alloc: Global, name: &str, cabinet: &mut C) -> Result<FontList, Status>
     ensures is { IsStep (C.holds cabinet.old) (C.faults cabinet.old) (C.faults cabinet.new) (C.lost cabinet.new) (list_step name.now) result }
     ensures facts { IfOk result (λ list. IsFontList list) }
     ensures holds { C.holds cabinet.new ≡ C.holds cabinet.old }
@@ -170,11 +166,7 @@ fn set_of(alloc: Global, list: FontList, fonts: Fonts) -> Result<FontSet, Status
     }
 }
 
-fn load<C: Cabinet>(
-    alloc: Global,
-    list: FontList,
-    cabinet: &mut C,
-) -> Result<FontSet, Status>
+fn load<C: Cabinet>(alloc: Global, list: FontList, cabinet: &mut C) -> Result<FontSet, Status>
     ensures is { IsStep (C.holds cabinet.old) (C.faults cabinet.old) (C.faults cabinet.new) (C.lost cabinet.new) (loaded_step list) result }
     ensures holds { C.holds cabinet.new ≡ C.holds cabinet.old }
 {
@@ -185,11 +177,7 @@ fn load<C: Cabinet>(
 }
 
 /// Reads the font list of a name, and the fonts that it names.
-pub fn read_set<C: Cabinet>(
-    alloc: Global,
-    name: &str,
-    cabinet: &mut C,
-) -> Result<FontSet, Status>
+pub fn read_set<C: Cabinet>(alloc: Global, name: &str, cabinet: &mut C) -> Result<FontSet, Status>
     ensures is { IsStep (C.holds cabinet.old) (C.faults cabinet.old) (C.faults cabinet.new) (C.lost cabinet.new) (set_step name.now) result }
     ensures holds { C.holds cabinet.new ≡ C.holds cabinet.old }
 {

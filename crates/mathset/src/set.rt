@@ -79,11 +79,7 @@ fn read_source<C: Cabinet>(
 }
 
 // The pages of the source, in the fonts of the font list.
-fn make<C: Cabinet>(
-    alloc: Global,
-    files: SetFiles<'_>,
-    cabinet: &mut C,
-) -> Result<Typeset, Status>
+fn make<C: Cabinet>(alloc: Global, files: SetFiles<'_>, cabinet: &mut C) -> Result<Typeset, Status>
     ensures is { IsStep (C.holds cabinet.old) (C.faults cabinet.old) (C.faults cabinet.new) (C.lost cabinet.new) (set_steps (named files.entry)) result }
     ensures holds { C.holds cabinet.new ≡ C.holds cabinet.old }
 {

@@ -77,8 +77,8 @@ fn refusals(rt: HostRuntime) -> Result<(), Fail> {
         alloc,
         "mathset set toy.fonts formula.tex",
         &mut cabinet(alloc, &[0; 65536], &[])?,
-        70,
-        b"mathset: formula 0 not built\n",
+        30,
+        b"mathset: font list line 1 cause 1\n",
     )?;
     Ok(())
 }

@@ -1,4 +1,4 @@
-use Rattle.std.proofs.Common.{◌≡◌, [], ◌∷◌, List}
+use Rattle.std.proofs.Common.{[], List}
 use Rattle.mt_outside.specs.declared.files.Held.{Held}
 use Rattle.mt_tfm.specs.Font.{Metrics}
 use Rattle.mt_family.specs.SetValue.{SetValue}

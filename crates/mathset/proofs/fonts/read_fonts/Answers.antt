@@ -1,9 +1,8 @@
-use Rattle.std.proofs.Common.{rules, ◌≡◌, ◌∙◌, ◌+◌, ◌∷◌, [], ap, subst, sym, arith, length, ℕ}
-use Rattle.std.specs.Prelude.{vec_len, Ok, Err}
+use Rattle.std.proofs.Common.{rules, ◌≡◌, ◌∙◌, ◌+◌, ◌∷◌, [], ap, subst, length, ℕ}
+use Rattle.std.specs.Prelude.{Ok}
 use Rattle.std.proofs.lemmas.List.{length-append}
 use Rattle.mt_family.specs.declared.list.FontLine.{FontLine}
 use Rattle.mathset.specs.FontSteps.{font_step}
-use Rattle.mathset.specs.Reads.{IsStep}
 use Rattle.mathset.proofs.FontLemmas.{fonts_lead, fonts_err, loaded_more}
 use Rattle.mathset.proofs.fonts.read_fonts.Goals as goal
 
