@@ -6,5 +6,7 @@ pub mod Log
 pub mod Outcome
 pub mod Pieces
 pub mod Reads
+pub mod Rows
+pub mod Symbols
 pub mod Typeset
 pub mod Words

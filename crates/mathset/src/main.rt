@@ -4,9 +4,11 @@
 mod fetch;
 mod fonts;
 mod log;
+mod row;
 mod run;
 mod set;
 mod status;
+mod symbols;
 #[cfg(test)]
 mod tests;
 mod words;

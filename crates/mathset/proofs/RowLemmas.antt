@@ -1,0 +1,160 @@
+-- The glyphs of symbols, their row, and the places of the row.
+use Rattle.std.proofs.Common.{◌≡◌, ℕ, zero, suc, ◌+◌, ◌-◌, ◌<◌, ◌≤◌, ◌^◌, List, [], ◌∷◌, ◌++◌, length, get_or, take, drop, map, refl, sym, ◌∙◌, ap, subst, append_assoc, add-one, drop-cons, true, false, arith}
+use Rattle.std.specs.Prelude.{ℤ, pos, negsuc, ◌+ℤ◌, Bool, ◌&&◌, not, ◌==◌, Option, Some, None, Result, Ok, Err, All, IsSomeAnd, slice_get, if◌then◌else◌, nat_le, nat_lt}
+use Rattle.std.specs.Ordering.{int_eq}
+use Rattle.std.proofs.lemmas.Bool.Decides.{nat_tests}
+use Rattle.std.proofs.lemmas.Int.{ints}
+use Rattle.std.proofs.lemmas.List.{append-nil, drop_all}
+use Rattle.std.proofs.lemmas.List.Elements.{All-cons, All-nil}
+use Rattle.mt_scaled.specs.Number.{Within, is_in_range}
+use Rattle.mt_tfm.specs.Font.{Metrics, bare, char_at, exists, italic_of}
+use Rattle.mt_family.specs.SetValue.{SetValue, number_in}
+use Rattle.mt_family.specs.declared.size.Size.TheVariants.{Text}
+use Rattle.mt_box.specs.Tree.{ExtentsInRange}
+use Rattle.mt_box.specs.Marks.{marks_of, marks_places}
+use Rattle.mt_box.specs.Pack.{AllModest}
+use Rattle.mt_box.specs.Packs.{first_out}
+use Rattle.mt_box.specs.Places.{h_of, v_of}
+use Rattle.mt_box.specs.Placing.{all_lowered, fault_of, first_fault, no_room, or_else as or_fault}
+use Rattle.mt_box.specs.declared.place.Place.{Place}
+use Rattle.mt_box.specs.declared.place.Place.TheVariants.{Glyph as GlyphPlace}
+use Rattle.mt_box.specs.declared.extents.Extents.{Extents}
+use Rattle.mt_box.specs.declared.error.PlaceError.{PlaceError}
+use Rattle.mt_box.specs.declared.error.PlaceError.TheVariants.{OutOfRange, TooMany}
+use Rattle.mt_dvi.specs.Fonts.{metrics_at}
+use Rattle.mt_dvi.specs.Marks.{HasGlyph, IsWritable, all_marks}
+use Rattle.mt_dvi.specs.Refusal.{refusal_of}
+use Rattle.mathset.specs.Reads.{Cause, Told, Lost, Memory, Never, PureBy, IsPure, cause_of}
+use Rattle.mathset.specs.Rows.{character_of, extents_of, family_of, glyph_at, glyph_by, glyph_in, glyph_of, glyph_piece, glyphs_of, glyphs_out, or_else, with_glyph, within, row_of}
+use Rattle.mathset.specs.declared.row.Glyph.{Glyph}
+use Rattle.mathset.specs.declared.status.Status.{Status}
+use Rattle.mathset.specs.declared.status.Status.TheVariants.{NotBuilt}
+use Rattle.mathset.specs.declared.symbols.Symbol.{Symbol}
+
+pub in_range : (x : ℤ) → is_in_range x ≡ true → Within 1073741823 x
+in_range (pos n) is =
+    let few : n ≤ 1073741823 = grind (arith, nat_tests) in
+    record { low = omega (arith, ints); high = omega (arith, ints) }
+in_range (negsuc n) is =
+    let few : n ≤ 1073741822 = grind (arith, nat_tests) in
+    record { low = omega (arith, ints); high = omega (arith, ints) }
+
+all_in : (a b c : Bool) (x y z : ℤ) → (if a then (if b then (if c then None else Some z) else Some y) else Some x) ≡ None → (a ≡ true) × (b ≡ true) × (c ≡ true)
+all_in true true true x y z is = (refl, refl, refl)
+all_in true true false x y z is = absurd (cc)
+all_in true false c x y z is = absurd (cc)
+all_in false b c x y z is = absurd (cc)
+
+-- extents of which none is out of range
+pub extents_in : (e : Extents) → first_out e ≡ None → ExtentsInRange e
+extents_in e is =
+    let each = all_in (is_in_range e.width) (is_in_range e.height) (is_in_range e.depth) e.width e.height e.depth is in
+    record { width = in_range e.width each.0; height = in_range e.height each.1; depth = in_range e.depth each.2 }
+
+or_none : (a b : Option ℤ) → or_else a b ≡ None → (a ≡ None) × (b ≡ None)
+or_none None b is = (refl, is)
+or_none (Some v) b is = absurd (cc)
+
+modest : (x : ℤ) → Within 1073741823 x → Within (2 ^ 40) x
+modest x is = record { low = omega (arith, ints, is.low); high = omega (arith, ints, is.high) }
+
+-- the row of glyphs that are in range
+pub modest_row : (gs : List Glyph) → glyphs_out gs ≡ None → AllModest (map glyph_piece gs)
+modest_row [] none = tt
+modest_row (g ∷ gs) none =
+    let both = or_none (first_out g.extents) (glyphs_out gs) none in
+    let e = extents_in g.extents both.0 in
+    ((modest _ e.width, modest _ e.height, modest _ e.depth), modest_row gs both.1)
+
+-- a glyph of the set: its character exists in the font of its number, and its extents are the font's
+pub record IsOf (set : SetValue) (g : Glyph) : Type 0 where
+  pub metrics : Metrics
+  pub at : slice_get set.fonts g.font ≡ Some metrics
+  pub there : exists metrics g.code ≡ true
+  pub extents : g.extents ≡ extents_of metrics g.code
+
+first_holds : (p q : Bool) → (p && q) ≡ true → p ≡ true
+first_holds true q is = refl
+first_holds false q is = is
+
+is_of_in : (set : SetValue) (n : ℕ) (m : Metrics) (c : ℕ) (g : Glyph) (b : Bool) → slice_get set.fonts n ≡ Some m → bare m c ≡ b
+    → (if b then Some (record { font = n; code = c; extents = extents_of m c }) else None) ≡ Some g → IsOf set g
+is_of_in set n m c g true at is found =
+    let same : record { font = n; code = c; extents = extents_of m c } ≡ g = cc in
+    subst (λ (h : Glyph). IsOf set h) same (record { metrics = m; at = at; there = first_holds (exists m c) (not ((char_at m c).tag == 1) && int_eq (italic_of m c) (pos 0)) is; extents = refl })
+is_of_in set n m c g false at is found = absurd (cc)
+
+is_of_by : (set : SetValue) (n : ℕ) (o : Option Metrics) (c : ℕ) (g : Glyph) → slice_get set.fonts n ≡ o → glyph_by n o c ≡ Some g → IsOf set g
+is_of_by set n None c g at found = absurd (cc)
+is_of_by set n (Some m) c g at found = is_of_in set n m c g (bare m c) at refl found
+
+is_of_at : (set : SetValue) (o : Option ℕ) (c : ℕ) (g : Glyph) → glyph_at set.fonts o c ≡ Some g → IsOf set g
+is_of_at set None c g found = absurd (cc)
+is_of_at set (Some n) c g found = is_of_by set n (slice_get set.fonts n) c g refl found
+
+pub is_of : (set : SetValue) (s : Symbol) (g : Glyph) → glyph_of set s ≡ Some g → IsOf set g
+is_of set s g found = is_of_at set (number_in set.families (family_of s) Text) (character_of s) g found
+
+are_of_by : (set : SetValue) (o : Option Glyph) (r : Result (List Glyph) Status) (gs : List Glyph) → ((g : Glyph) → o ≡ Some g → IsOf set g)
+    → ((others : List Glyph) → r ≡ Ok others → All (IsOf set) others) → with_glyph o r ≡ Ok gs → All (IsOf set) gs
+are_of_by set None r gs one others found = absurd (cc)
+are_of_by set (Some g) (Err e) gs one others found = absurd (cc)
+are_of_by set (Some g) (Ok hs) gs one others found =
+    let same : g ∷ hs ≡ gs = cc in
+    subst (λ (l : List Glyph). All (IsOf set) l) same (All-cons (IsOf set) g hs (one g refl) (others hs refl))
+
+-- the glyphs of symbols are glyphs of the set
+pub are_of : (set : SetValue) (ss : List Symbol) (gs : List Glyph) → glyphs_of set ss ≡ Ok gs → All (IsOf set) gs
+are_of set [] gs found =
+    let same : [] ≡ gs = cc in
+    subst (λ (l : List Glyph). All (IsOf set) l) same (All-nil (IsOf set))
+are_of set (s ∷ ss) gs found = are_of_by set (glyph_of set s) (glyphs_of set ss) gs (is_of set s) (are_of set ss) found
+
+fault_none : (room : ℕ) (p : Place) (a b c : Bool) → (if a then (if b then (if c then Some TooMany else None) else Some (OutOfRange (v_of p))) else Some (OutOfRange (h_of p))) ≡ None → (a ≡ true) × (b ≡ true) × (c ≡ false)
+fault_none room p true true true is = absurd (cc)
+fault_none room p true true false is = (refl, refl, refl)
+fault_none room p true false c is = absurd (cc)
+fault_none room p false b c is = absurd (cc)
+
+faults_none : (a b : Option PlaceError) → or_fault a b ≡ None → (a ≡ None) × (b ≡ None)
+faults_none None b is = (refl, is)
+faults_none (Some v) b is = absurd (cc)
+
+-- places without a fault are no more than there is room for
+pub fits_room : (room : ℕ) (ps : List Place) → first_fault room ps ≡ None → length ps ≤ room
+fits_room room [] none = omega arith
+fits_room zero (p ∷ ps) none =
+    let both = faults_none (fault_of zero p) (first_fault (zero - 1) ps) none in
+    let each = fault_none zero p (is_in_range (h_of p)) (is_in_range (v_of p)) true both.0 in
+    absurd (cc)
+fits_room (suc room) (p ∷ ps) none =
+    let both = faults_none (fault_of (suc room) p) (first_fault (suc room - 1) ps) none in
+    let rest = fits_room (suc room - 1) ps both.1 in
+    omega (arith, rest)
+
+has_glyph : (set : SetValue) (g : Glyph) → IsOf set g → ExtentsInRange g.extents → IsSomeAnd (metrics_at set g.font) (λ (m : Metrics). HasGlyph m g.code)
+has_glyph set g is e =
+    let ranges : ExtentsInRange (extents_of is.metrics g.code) = subst (λ (x : Extents). ExtentsInRange x) is.extents e in
+    rw is.at (record { there = is.there; width = ranges.width; depth = ranges.depth })
+
+-- the places of glyphs of the set can be written
+pub writable : (set : SetValue) (gs : List Glyph) (x v : ℤ) (room : ℕ) → All (IsOf set) gs → glyphs_out gs ≡ None
+    → first_fault room (all_lowered (pos 0) v (marks_places x (marks_of (map glyph_piece gs)))) ≡ None
+    → All (IsWritable set) (all_lowered (pos 0) v (marks_places x (marks_of (map glyph_piece gs))))
+writable set [] x v room are none fault = All-nil (IsWritable set)
+writable set (g ∷ gs) x v room are none fault =
+    let place : Place = GlyphPlace g.font g.code (pos 0 +ℤ x) (v +ℤ pos 0) in
+    let rest = all_lowered (pos 0) v (marks_places (x +ℤ g.extents.width) (marks_of (map glyph_piece gs))) in
+    let glyphs = or_none (first_out g.extents) (glyphs_out gs) none in
+    let faults = faults_none (fault_of room place) (first_fault (room - 1) rest) fault in
+    let each = fault_none room place (is_in_range (pos 0 +ℤ x)) (is_in_range (v +ℤ pos 0)) (no_room room) faults.0 in
+    All-cons (IsWritable set) place rest
+    (record { h_in_range = in_range (pos 0 +ℤ x) each.0; v_in_range = in_range (v +ℤ pos 0) each.1; glyph = has_glyph set g (All-head are) (extents_in g.extents glyphs.0) })
+    (writable set gs (x +ℤ g.extents.width) v (room - 1) (All-tail are) glyphs.1 faults.1)
+
+-- one page with no more marks than there may be is not refused
+pub one_page : (page : List Place) → length page ≤ 2000000 → refusal_of (page ∷ []) ≡ None
+one_page page few =
+    let marks : length (all_marks (page ∷ [])) ≡ length page = ap length (append-nil page) in
+    let no : nat_lt 2000000 (length (all_marks (page ∷ []))) ≡ false = rw marks (grind (arith, nat_tests)) in
+    rw no refl
