@@ -6,18 +6,14 @@ use Rattle.mt_box.specs.declared.place.Place.{Place}
 use Rattle.mathset.specs.FontSteps.{set_step}
 use Rattle.mathset.specs.Outcome.{Outcome, plain, and_then}
 use Rattle.mathset.specs.Reads.{file_of}
+use Rattle.mathset.specs.Rows.{source_pages}
 use Rattle.mathset.specs.Words.{SetWords}
 use Rattle.mathset.specs.declared.status.Status.{Status}
-use Rattle.mathset.specs.declared.status.Status.TheVariants.{NotBuilt}
 
 -- pages of marks, with the fonts that they are set in
 pub record TypesetValue : Type 0 where
   pub fonts : SetValue
   pub pages : List (List Place)
-
--- INTERIM
-abbrev pub source_pages : SetValue → List ℕ → Result (List (List Place)) Status
-source_pages fonts source = Err (NotBuilt 1)
 
 abbrev pub with_fonts : SetValue → Result (List (List Place)) Status → Result TypesetValue Status
 with_fonts fonts (Ok pages) = Ok (record { fonts = fonts; pages = pages })

@@ -7,6 +7,7 @@ mod log;
 mod row;
 mod run;
 mod set;
+mod source;
 mod status;
 mod symbols;
 #[cfg(test)]

@@ -1,8 +1,9 @@
 //! The row of a formula's glyphs, and the page that it stands on.
-ghost use Rattle.std.specs.Prelude.{◌≡◌, ◌≤◌, ◌++◌, ◌∷◌, [], All, IfOk, OnOk, length};
+ghost use Rattle.std.specs.Prelude.{◌≡◌, ◌≤◌, ◌^◌, ◌++◌, ◌∷◌, [], All, IfOk, OnOk, length, None, Ok};
 ghost use Rattle.mt_box.specs.Layout.{picture_of};
 ghost use Rattle.mt_box.specs.Pack.{AllModest};
 ghost use Rattle.mt_dvi.specs.Marks.{IsWritable};
+ghost use Rattle.mt_dvi.specs.Refusal.{refusal_of};
 ghost use Rattle.mathset.specs.Reads.{IsPure};
 ghost use Rattle.mathset.specs.Rows.{family_of, glyph_in, glyph_of, glyph_piece, glyphs_of, overflow, page_of, pack_refusal, place_refusal, placed, row_of, row_pages, standing};
 
@@ -141,7 +142,8 @@ fn place_refusal(error: PlaceError) -> Status
 
 // The marks of a box whose left end is at 0 and whose top is at 0.
 fn standing(alloc: Global, body: &Packed) -> Result<PlaceList, Status>
-    ensures { IsPure (placed (standing (picture_of body.now))) result }
+    ensures is { IsPure (placed (standing (picture_of body.now))) result }
+    ensures few { IfOk result (λ page. length page ≤ 2000000) }
 {
     match places(alloc, body, 0, body.extents().height, MOST_PLACES) {
         Ok(page) => Ok(page),
@@ -153,7 +155,8 @@ fn standing(alloc: Global, body: &Packed) -> Result<PlaceList, Status>
 fn page_of(alloc: Global, row: Row) -> Result<PlaceList, Status>
     requires few { length row ≤ 2 ^ 21 }
     requires modest { AllModest row }
-    ensures { IsPure (page_of row) result }
+    ensures is { IsPure (page_of row) result }
+    ensures few { IfOk result (λ page. length page ≤ 2000000) }
 {
     match hpack(alloc, row) {
         Ok(body) => standing(alloc, &body),
@@ -162,7 +165,7 @@ fn page_of(alloc: Global, row: Row) -> Result<PlaceList, Status>
 }
 
 fn one_page(alloc: Global, page: PlaceList) -> Result<PageList, Status>
-    ensures { IfOk result (λ pages. pages ≡ page ∷ []) }
+    ensures { IsPure (Ok (page ∷ [])) result }
 {
     let mut pages = Vec::new(alloc);
     if pages.push(page).is_err() {
@@ -181,9 +184,10 @@ fn one_page(alloc: Global, page: PlaceList) -> Result<PageList, Status>
 /// and depth of each glyph, in order; those of the row; the coordinates of each glyph, in order. `OutOfMemory` where memory
 /// ran out.
 pub fn row_pages(alloc: Global, fonts: &FontSet, symbols: &Symbols) -> Result<PageList, Status>
-    requires few { length symbols.now ≤ 50000 }
+    requires { length symbols.now ≤ 50000 }
     ensures is { IsPure (row_pages fonts.now symbols.now) result }
     ensures writable { IfOk result (λ pages. All (λ page. All (IsWritable fonts.now) page) pages) }
+    ensures few_places { IfOk result (λ pages. refusal_of pages ≡ None) }
 {
     let glyphs = glyphs_of(alloc, fonts, symbols.as_slice())?;
     let row = row_of(alloc, glyphs.as_slice())?;

@@ -6,11 +6,12 @@ ghost use Rattle.mt_outside.specs.Counts.{Rose};
 ghost use Rattle.mt_outside.specs.declared.files.Held.{Held};
 ghost use Rattle.mathset.specs.Ends.{IsReadFaultOrNoMemory, IsToldRefusal, IsQuiet, IsWriteFault, LeavesOutput, WritesFile, WritesPart};
 ghost use Rattle.mathset.specs.Reads.{IsPure, IsStep};
-ghost use Rattle.mathset.specs.Typeset.{source_pages, typeset_of, source_step, set_steps};
+ghost use Rattle.mathset.specs.Typeset.{typeset_of, source_step, set_steps};
 ghost use Rattle.mathset.specs.Words.{named};
 
 use crate::fetch::fetch_file;
 use crate::fonts::read_set;
+use crate::source::source_pages;
 use crate::status::Status;
 use crate::words::SetFiles;
 use mt_box::PageList;
@@ -41,16 +42,6 @@ impl Model for Typeset {
     ghost view = { λ t. record { fonts = t.fonts; pages = t.pages } };
 
     ghost invariant = { λ t. All (λ page. All (IsWritable t.fonts) page) t.pages × (refusal_of t.pages ≡ None) };
-}
-
-// INTERIM
-fn source_pages(alloc: Global, fonts: &FontSet, source: &[u8]) -> Result<PageList, Status>
-    requires { length source.now ≤ 4194304 }
-    ensures is { IsPure (source_pages fonts.now source.now) result }
-    ensures writable { IfOk result (λ pages. All (λ page. All (IsWritable fonts.now) page) pages) }
-    ensures few { IfOk result (λ pages. refusal_of pages ≡ None) }
-{
-    Err(Status::NotBuilt { n: 1 })
 }
 
 fn typeset_source(alloc: Global, fonts: FontSet, source: &[u8]) -> Result<Typeset, Status>
