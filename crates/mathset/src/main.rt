@@ -8,6 +8,8 @@ mod row;
 mod run;
 mod set;
 mod source;
+#[cfg(test)]
+mod source_tests;
 mod status;
 mod symbols;
 #[cfg(test)]

@@ -10,7 +10,8 @@ ghost use Rattle.mathset.specs.Rows.{family_of, glyph_in, glyph_of, glyph_piece,
 use crate::status::{Much, Status};
 use crate::symbols::{Symbol, Symbols};
 use mt_box::{
-    Extents, PackError, Packed, PageList, Piece, PlaceError, PlaceList, Row, first_out, hpack, places,
+    Extents, PackError, Packed, PageList, Piece, PlaceError, PlaceList, Row, first_out, hpack,
+    places,
 };
 use mt_family::{FontSet, Size};
 use mt_scaled::Items;
