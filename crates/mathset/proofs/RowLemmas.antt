@@ -1,6 +1,6 @@
 -- The glyphs of symbols, their row, and the places of the row.
 use Rattle.std.proofs.Common.{◌≡◌, ℕ, zero, suc, ◌+◌, ◌-◌, ◌<◌, ◌≤◌, ◌^◌, List, [], ◌∷◌, ◌++◌, length, get_or, take, drop, map, refl, sym, ◌∙◌, ap, subst, append_assoc, add-one, drop-cons, true, false, arith}
-use Rattle.std.specs.Prelude.{ℤ, pos, negsuc, ◌+ℤ◌, Bool, ◌&&◌, not, ◌==◌, Option, Some, None, Result, Ok, Err, All, IfOk, IsSomeAnd, slice_get, if◌then◌else◌, nat_le, nat_lt}
+use Rattle.std.specs.Prelude.{ℤ, pos, negsuc, ◌+ℤ◌, Bool, ◌&&◌, not, ◌==◌, Option, Some, None, Result, Ok, Err, All, IfOk, IsSomeAnd, slice_get, if◌then◌else◌, nat_lt}
 use Rattle.std.specs.Ordering.{int_eq}
 use Rattle.std.proofs.lemmas.Bool.Decides.{nat_tests}
 use Rattle.std.proofs.lemmas.Int.{ints}
@@ -28,7 +28,7 @@ use Rattle.mt_dvi.specs.Marks.{HasGlyph, IsWritable, all_marks}
 use Rattle.mt_dvi.specs.Refusal.{refusal_of}
 use Rattle.mathset.specs.Reads.{IsPure}
 use Rattle.mathset.specs.Symbols.{character_of}
-use Rattle.mathset.specs.Rows.{extents_of, family_of, glyph_at, glyph_by, glyph_in, glyph_of, glyph_piece, glyphs_of, glyphs_out, or_else, overflow, page_by, page_of, placed, placed_by, standing, with_glyph, within, row_of}
+use Rattle.mathset.specs.Rows.{extents_of, family_of, glyph_at, glyph_by, glyph_of, glyph_piece, glyphs_of, glyphs_out, or_else, overflow, page_by, page_of, placed, placed_by, standing, with_glyph, within, row_of}
 use Rattle.mathset.specs.declared.row.Glyph.{Glyph}
 use Rattle.mathset.specs.declared.status.Status.{Status}
 use Rattle.mathset.specs.declared.status.Status.TheVariants.{NotBuilt}

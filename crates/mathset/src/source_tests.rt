@@ -67,7 +67,7 @@ fn reads_symbols(rt: HostRuntime) -> Result<(), Fail> {
     let sources: [&[u8]; 4] = [
         b"$a1$",
         b"\n \t\n$a1$\n\n \n",
-        b"% $b$\n$ %\na1$",
+        b"% $b$\n$%\na1$",
         b"\\par$a1$\\par",
     ];
     for source in &sources {
