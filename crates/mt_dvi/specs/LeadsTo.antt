@@ -1,5 +1,5 @@
 -- Where the machine stands after the first bytes of a file, as a writer needs it.
-use Rattle.std.specs.Prelude.{◌≡◌, ℕ, ◌+◌, pos, ◌-ℤ◌, List, [], ◌∷◌, ◌++◌, length, map, Option, Some, None, Bool, ◌==◌, if◌then◌else◌, ⊤}
+use Rattle.std.specs.Prelude.{◌≡◌, ◌<◌, ◌≤◌, ℕ, ◌+◌, ◌*◌, pos, true, ◌-ℤ◌, List, [], ◌∷◌, ◌++◌, length, map, Option, Some, None, Bool, ◌==◌, if◌then◌else◌, true, ⊤}
 use Rattle.std.specs.List.{list_any}
 use Rattle.mt_family.specs.SetValue.{SetValue}
 use Rattle.mt_box.specs.Places.{h_of, v_of}
@@ -9,12 +9,24 @@ use Rattle.mt_dvi.specs.Fonts.{definition_of}
 use Rattle.mt_dvi.specs.Machine.{Machine, Mark}
 use Rattle.mt_dvi.specs.File.{File, InPage, read, reading}
 use Rattle.mt_dvi.specs.Emits.{FitsFourBytes}
-use Rattle.mt_dvi.specs.Marks.{right_edge}
+use Rattle.mt_dvi.specs.Marks.{marks_of, right_edge}
 use Rattle.mt_dvi.specs.declared.page.Cursor.{Cursor}
 
 -- whatever follows these bytes is read from this state on
 abbrev pub LeadsTo : SetValue → List ℕ → File → Type 0
 LeadsTo fonts out file = (rest : List ℕ) → read fonts (out ++ rest) ≡ reading fonts (record file { at = length out }) 0 rest
+
+-- from the first bytes on to more of them: where those lead to one state, these lead to the next
+abbrev pub Advances : SetValue → List ℕ → List ℕ → File → File → Type 0
+Advances fonts old new from to = LeadsTo fonts old from → LeadsTo fonts new to
+
+-- at most so many bytes more
+abbrev pub GrowsBy : ℕ → List ℕ → List ℕ → Type 0
+GrowsBy most old new = length new ≤ length old + most
+
+-- at most so many bytes more, and 271 for each font that is defined anew
+abbrev pub GrowsWith : ℕ → List ℕ → List ℕ → List ℕ → List ℕ → Type 0
+GrowsWith most old new old_defined new_defined = length new + 271 * length old_defined ≤ length old + 271 * length new_defined + most
 
 abbrev pub machine_at : Cursor → Machine
 machine_at c = record { now = record { h = c.h; v = c.v; w = pos 0; x = pos 0; y = pos 0; z = pos 0 }; saved = []; font = c.font }
@@ -65,3 +77,28 @@ cursor_after fonts place put c = record { h = if put then h_of place else right_
 abbrev pub IsReachable : Cursor → Option Place → Type 0
 IsReachable c None = ⊤
 IsReachable c (Some place) = FitsFourBytes (h_of place -ℤ c.h)
+
+-- in a page at a cursor, where these fonts are defined
+abbrev pub at_cursor : SetValue → File → List ℕ → Cursor → File
+at_cursor fonts file numbers cursor = in_page (with_fonts fonts file numbers) cursor
+
+-- a font is selected that is defined
+abbrev pub Selects : SetValue → List ℕ → List ℕ → Cursor → ℕ → Type 0
+Selects fonts old new cursor n = (file : File) → (numbers : List ℕ) → is_among numbers n ≡ true
+    → Advances fonts old new (at_cursor fonts file numbers cursor) (at_cursor fonts file numbers (record cursor { font = Some n }))
+
+-- fonts are defined that were not, and nothing else changes
+abbrev pub Introduces : SetValue → List ℕ → List ℕ → List ℕ → List ℕ → Type 0
+Introduces fonts old new old_defined new_defined = (file : File) → (cursor : Cursor)
+    → Advances fonts old new (at_cursor fonts file old_defined cursor) (at_cursor fonts file new_defined cursor)
+
+-- a mark is made, from a cursor on
+abbrev pub WritesMark : SetValue → List ℕ → List ℕ → List ℕ → List ℕ → Cursor → Place → Bool → Type 0
+WritesMark fonts old new old_defined new_defined cursor place put = (file : File) → file.marked < 2000000
+    → Advances fonts old new (at_cursor fonts file old_defined cursor) (at_cursor fonts (with_mark file place put) new_defined (cursor_after fonts place put cursor))
+
+-- the marks of a page are made, from its origin on
+abbrev pub WritesMarks : SetValue → List ℕ → List ℕ → List ℕ → List ℕ → List Place → Type 0
+WritesMarks fonts old new old_defined new_defined page = (file : File) → file.marked + length page ≤ 2000000
+    → LeadsTo fonts old (at_cursor fonts file old_defined at_origin)
+    → (end : Cursor) × LeadsTo fonts new (at_cursor fonts (with_marks file (marks_of fonts page)) new_defined end)

@@ -1,14 +1,13 @@
 //! A whole file: its pages, and what stands round them.
-ghost use Rattle.std.specs.Prelude.{◌≡◌, ◌<◌, ◌≤◌, ◌+◌, ◌*◌, ◌++◌, ◌∷◌, [], length, List, ℕ, All, OnOk, IfOk, pos, ℤ, min, ◌^◌, ◌-◌, Ok};
+ghost use Rattle.std.specs.Prelude.{◌≡◌, ◌<◌, ◌≤◌, ◌+◌, ◌-◌, ◌*◌, ◌^◌, min, [], length, All, Ok, OnOk, IfOk};
 ghost use Rattle.mt_family.specs.SetValue.{IsSet};
-ghost use Rattle.mt_dvi.specs.Codes.{Postamble};
-ghost use Rattle.mt_dvi.specs.File.{Page, pages_of};
+ghost use Rattle.mt_dvi.specs.File.{pages_of};
 ghost use Rattle.mt_dvi.specs.Emits.{FitsFourBytes};
-ghost use Rattle.mt_dvi.specs.Marks.{IsWritable, all_marks, numbered_pages, page_of};
+ghost use Rattle.mt_dvi.specs.Marks.{IsWritable, all_marks};
 ghost use Rattle.mt_dvi.specs.Written.{Written};
 ghost use Rattle.mt_dvi.specs.Refusal.{refusal_of, refused_by};
-ghost use Rattle.mt_dvi.specs.LeadsTo.{LeadsTo, used_by_all};
-ghost use Rattle.mt_dvi.specs.Pages.{IsTail, PagesWritten, after_post, between_pages};
+ghost use Rattle.mt_dvi.specs.LeadsTo.{GrowsBy, GrowsWith, used_by_all};
+ghost use Rattle.mt_dvi.specs.Pages.{DefinesAgain, IsTail, PagesWritten, WritesPage};
 
 use crate::edges::{tallest, widest};
 use crate::emit;
@@ -24,7 +23,12 @@ use std::alloc::{AllocError, Global};
 /// The bytes of a DVI file.
 pub type DviBytes = Items<u8>;
 
-// A page, where last is the offset of the page before.
+// A file states the number of its pages in two bytes, and at most so many marks are read back.
+const MAX_PAGES: usize = 65_535;
+
+const MAX_PLACES: usize = 2_000_000;
+
+// Writes a page, where last is the offset of the page before, or -1.
 #[tactic(auto, using(crate::proofs::Prefix::longer))]
 fn write_page(
     out: &mut Vec<u8>,
@@ -37,8 +41,10 @@ fn write_page(
     requires set { IsSet fonts.now }
     requires can { All (IsWritable fonts.now) page.now }
     requires last { FitsFourBytes last }
-    ensures leads { OnOk result ((defined.new.items ≡ used_by_all defined.old.items page.now) × ((pages : List Page) → (marked : ℕ) → marked + length page.now ≤ 2000000 → LeadsTo fonts.now out.old.items (between_pages fonts.now defined.old.items pages last marked) → LeadsTo fonts.now out.new.items (between_pages fonts.now defined.new.items (pages ++ page_of fonts.now number page.now ∷ []) (pos (length out.old.items)) (marked + length page.now)))) }
-    ensures long { OnOk result (length out.new.items + 271 * length defined.old.items ≤ length out.old.items + 271 * length defined.new.items + 19 * length page.now + 46) }
+    ensures defined { OnOk result (defined.new.items ≡ used_by_all defined.old.items page.now) }
+    ensures leads { OnOk result (WritesPage fonts.now out.old.items out.new.items defined.old.items defined.new.items
+        number last page.now) }
+    ensures long { OnOk result (GrowsWith (19 * length page.now + 46) out.old.items out.new.items defined.old.items defined.new.items) }
 {
     emit::bop(out, number, last)?;
     write_marks(out, defined, fonts, page)?;
@@ -46,7 +52,7 @@ fn write_page(
     Ok(())
 }
 
-// All pages. The answer is the offset of the last one, or -1.
+// Writes all pages. The answer is the offset of the last one, or -1.
 fn write_pages(
     out: &mut Vec<u8>,
     defined: &mut Vec<u16>,
@@ -72,12 +78,12 @@ fn write_pages(
     Ok(last)
 }
 
-// The definitions again, after post.
+// Writes the definitions again, after post.
 fn define_again(out: &mut Vec<u8>, defined: &[u16], fonts: &FontSet) -> Result<(), AllocError>
     requires set { IsSet fonts.now }
     requires there { All (λ n. n < length fonts.now.fonts) defined.now }
-    ensures leads { OnOk result ((pages : List Page) → (last : ℤ) → (marked : ℕ) → (post : Postamble) → (post_at : ℕ) → LeadsTo fonts.now out.old.items (after_post fonts.now defined.now [] pages last marked post post_at) → LeadsTo fonts.now out.new.items (after_post fonts.now defined.now defined.now pages last marked post post_at)) }
-    ensures long { OnOk result (length out.new.items ≤ length out.old.items + 271 * length defined.now) }
+    ensures leads { OnOk result (DefinesAgain fonts.now out.old.items out.new.items defined.now defined.now) }
+    ensures long { OnOk result (GrowsBy (271 * length defined.now) out.old.items out.new.items) }
 {
     for n in defined {
         define(out, fonts, *n)?;
@@ -154,11 +160,11 @@ pub fn write_dvi(
     ensures refused { refused_by result ≡ refusal_of pages.now }
 {
     let pages = pages.as_slice();
-    if pages.len() > 65535 {
+    if pages.len() > MAX_PAGES {
         return Err(DviWriteError::TooManyPages(pages.len() as u64));
     }
     let count = count_marks(pages);
-    if count > 2000000 {
+    if count > MAX_PLACES {
         return Err(DviWriteError::TooManyPlaces(count as u64));
     }
     let bytes = write_file(alloc, fonts, pages)?;

@@ -7,7 +7,7 @@ ghost use Rattle.mt_dvi.specs.Machine.{is_far};
 ghost use Rattle.mt_dvi.specs.File.{File};
 ghost use Rattle.mt_dvi.specs.Emits.{FitsFourBytes};
 ghost use Rattle.mt_dvi.specs.Marks.{HasGlyph, InRange, IsWritable, first_of, lower_edge, marks_of, must_put, right_edge};
-ghost use Rattle.mt_dvi.specs.LeadsTo.{LeadsTo, at_origin, cursor_after, in_page, is_among, used_by, used_by_all, with_fonts, with_mark, with_marks, with_number};
+ghost use Rattle.mt_dvi.specs.LeadsTo.{Advances, GrowsBy, GrowsWith, Introduces, Selects, WritesMark, WritesMarks, cursor_after, in_page, is_among, used_by, used_by_all, with_number};
 
 use crate::emit;
 use crate::fonts::{define, depth, is_defined, width};
@@ -31,9 +31,10 @@ fn move_to(out: &mut Vec<u8>, cursor: Cursor, place: Place) -> Result<(), AllocE
     requires v { InRange (v_of place) }
     requires from { FitsFourBytes cursor.v }
     ensures leads { OnOk result (
-        (fonts : SetValue) → (file : File) → LeadsTo fonts out.old.items (in_page file cursor) →
-        LeadsTo fonts out.new.items (in_page file (record cursor { h = h_of place; v = v_of place }))) }
-    ensures long { OnOk result (length out.new.items ≤ length out.old.items + 10) }
+        (fonts : SetValue) → (file : File) → Advances fonts out.old.items out.new.items
+        (in_page file cursor)
+        (in_page file (record cursor { h = h_of place; v = v_of place }))) }
+    ensures long { OnOk result (GrowsBy 10 out.old.items out.new.items) }
 {
     move_right(out, cursor, place)?;
     move_down(out, cursor, place)?;
@@ -46,9 +47,10 @@ fn move_right(out: &mut Vec<u8>, cursor: Cursor, place: Place) -> Result<(), All
     requires h { InRange (h_of place) }
     requires from { FitsFourBytes cursor.v }
     ensures leads { OnOk result (
-        (fonts : SetValue) → (file : File) → LeadsTo fonts out.old.items (in_page file cursor) →
-        LeadsTo fonts out.new.items (in_page file (record cursor { h = h_of place }))) }
-    ensures long { OnOk result (length out.new.items ≤ length out.old.items + 5) }
+        (fonts : SetValue) → (file : File) → Advances fonts out.old.items out.new.items
+        (in_page file cursor)
+        (in_page file (record cursor { h = h_of place }))) }
+    ensures long { OnOk result (GrowsBy 5 out.old.items out.new.items) }
 {
     let h = place.h();
     if h != cursor.h {
@@ -63,9 +65,10 @@ fn move_down(out: &mut Vec<u8>, cursor: Cursor, place: Place) -> Result<(), Allo
     requires h { InRange (h_of place) }
     requires v { InRange (v_of place) }
     ensures leads { OnOk result (
-        (fonts : SetValue) → (file : File) → LeadsTo fonts out.old.items (in_page file (record cursor { h = h_of place })) →
-        LeadsTo fonts out.new.items (in_page file (record cursor { h = h_of place; v = v_of place }))) }
-    ensures long { OnOk result (length out.new.items ≤ length out.old.items + 5) }
+        (fonts : SetValue) → (file : File) → Advances fonts out.old.items out.new.items
+        (in_page file (record cursor { h = h_of place }))
+        (in_page file (record cursor { h = h_of place; v = v_of place }))) }
+    ensures long { OnOk result (GrowsBy 5 out.old.items out.new.items) }
 {
     let v = place.v();
     if v != cursor.v {
@@ -84,10 +87,9 @@ fn introduce(
 ) -> Result<(), AllocError>
     requires there { n < length fonts.now.fonts }
     requires set { IsSet fonts.now }
-    ensures leads { OnOk result ((defined.new.items ≡ with_number defined.old.items n) × (
-        (file : File) → (c : Cursor) → LeadsTo fonts.now out.old.items (in_page (with_fonts fonts.now file defined.old.items) c) →
-        LeadsTo fonts.now out.new.items (in_page (with_fonts fonts.now file defined.new.items) c))) }
-    ensures long { OnOk result (length out.new.items + 271 * length defined.old.items ≤ length out.old.items + 271 * length defined.new.items + 0) }
+    ensures defined { OnOk result (defined.new.items ≡ with_number defined.old.items n) }
+    ensures leads { OnOk result (Introduces fonts.now out.old.items out.new.items defined.old.items defined.new.items) }
+    ensures long { OnOk result (GrowsWith 0 out.old.items out.new.items defined.old.items defined.new.items) }
 {
     if !is_defined(defined, n) {
         define(out, fonts, n)?;
@@ -103,11 +105,8 @@ fn select(out: &mut Vec<u8>, fonts: &FontSet, cursor: Cursor, n: u16) -> Result<
     requires set { IsSet fonts.now }
     requires h { InRange cursor.h }
     requires v { InRange cursor.v }
-    ensures leads { OnOk result (
-        (file : File) → (numbers : List ℕ) → is_among numbers n ≡ true →
-        LeadsTo fonts.now out.old.items (in_page (with_fonts fonts.now file numbers) cursor) →
-        LeadsTo fonts.now out.new.items (in_page (with_fonts fonts.now file numbers) (record cursor { font = Some n }))) }
-    ensures long { OnOk result (length out.new.items ≤ length out.old.items + 1) }
+    ensures leads { OnOk result (Selects fonts.now out.old.items out.new.items cursor n) }
+    ensures long { OnOk result (GrowsBy 1 out.old.items out.new.items) }
 {
     if cursor.font != Some(n) {
         emit::select(out, n as u8)?;
@@ -200,12 +199,10 @@ fn write_glyph(
     requires can { IsSomeAnd (metrics_at fonts.now n) (λ metrics. HasGlyph metrics code) }
     requires h { InRange cursor.h }
     requires v { InRange cursor.v }
-    ensures leads { OnOk result ((defined.new.items ≡ with_number defined.old.items n) × (
-        (file : File) → file.marked < 2000000 →
-        LeadsTo fonts.now out.old.items (in_page (with_fonts fonts.now file defined.old.items) cursor) →
-        LeadsTo fonts.now out.new.items (in_page (with_fonts fonts.now (with_mark file (Place.Glyph n code cursor.h cursor.v) put) defined.new.items)
-        (cursor_after fonts.now (Place.Glyph n code cursor.h cursor.v) put cursor)))) }
-    ensures long { OnOk result (length out.new.items + 271 * length defined.old.items ≤ length out.old.items + 271 * length defined.new.items + 3) }
+    ensures defined { OnOk result (defined.new.items ≡ with_number defined.old.items n) }
+    ensures leads { OnOk result (WritesMark fonts.now out.old.items out.new.items defined.old.items defined.new.items
+        cursor (Place.Glyph n code cursor.h cursor.v) put) }
+    ensures long { OnOk result (GrowsWith 3 out.old.items out.new.items defined.old.items defined.new.items) }
 {
     introduce(out, defined, fonts, n)?;
     select(out, fonts, cursor, n)?;
@@ -224,12 +221,9 @@ fn write_rule(
     put: bool,
 ) -> Result<(), AllocError>
     requires can { IsWritable fonts.now (Place.Rule cursor.h cursor.v height width) }
-    ensures leads { OnOk result (
-        (file : File) → file.marked < 2000000 →
-        LeadsTo fonts.now out.old.items (in_page file cursor) →
-        LeadsTo fonts.now out.new.items (in_page (with_mark file (Place.Rule cursor.h cursor.v height width) put)
-        (cursor_after fonts.now (Place.Rule cursor.h cursor.v height width) put cursor))) }
-    ensures long { OnOk result (length out.new.items ≤ length out.old.items + 9) }
+    ensures leads { OnOk result ((numbers : List ℕ) → WritesMark fonts.now out.old.items out.new.items numbers numbers
+        cursor (Place.Rule cursor.h cursor.v height width) put) }
+    ensures long { OnOk result (GrowsBy 9 out.old.items out.new.items) }
 {
     emit::rule(out, put, height, width)?;
     Ok(())
@@ -248,11 +242,10 @@ fn write_mark(
     requires can { IsWritable fonts.now place }
     requires reach { FitsFourBytes (h_of place -ℤ cursor.h) }
     requires v { InRange cursor.v }
-    ensures leads { OnOk result ((defined.new.items ≡ used_by defined.old.items place) × (
-        (file : File) → file.marked < 2000000 →
-        LeadsTo fonts.now out.old.items (in_page (with_fonts fonts.now file defined.old.items) cursor) →
-        LeadsTo fonts.now out.new.items (in_page (with_fonts fonts.now (with_mark file place put) defined.new.items) (cursor_after fonts.now place put cursor)))) }
-    ensures long { OnOk result (length out.new.items + 271 * length defined.old.items ≤ length out.old.items + 271 * length defined.new.items + 19) }
+    ensures defined { OnOk result (defined.new.items ≡ used_by defined.old.items place) }
+    ensures leads { OnOk result (WritesMark fonts.now out.old.items out.new.items defined.old.items defined.new.items
+        cursor place put) }
+    ensures long { OnOk result (GrowsWith 19 out.old.items out.new.items defined.old.items defined.new.items) }
 {
     move_to(out, cursor, place)?;
     let selected = cursor.font;
@@ -292,11 +285,9 @@ pub fn write_marks(
 ) -> Result<(), AllocError>
     requires set { IsSet fonts.now }
     requires can { All (IsWritable fonts.now) page.now }
-    ensures leads { OnOk result ((defined.new.items ≡ used_by_all defined.old.items page.now) × (
-        (file : File) → file.marked + length page.now ≤ 2000000 →
-        LeadsTo fonts.now out.old.items (in_page (with_fonts fonts.now file defined.old.items) at_origin) →
-        (end : Cursor) × LeadsTo fonts.now out.new.items (in_page (with_fonts fonts.now (with_marks file (marks_of fonts.now page.now)) defined.new.items) end))) }
-    ensures long { OnOk result (length out.new.items + 271 * length defined.old.items ≤ length out.old.items + 271 * length defined.new.items + 19 * length page.now) }
+    ensures defined { OnOk result (defined.new.items ≡ used_by_all defined.old.items page.now) }
+    ensures leads { OnOk result (WritesMarks fonts.now out.old.items out.new.items defined.old.items defined.new.items page.now) }
+    ensures long { OnOk result (GrowsWith (19 * length page.now) out.old.items out.new.items defined.old.items defined.new.items) }
 {
     let mut cursor = Cursor {
         h: 0,

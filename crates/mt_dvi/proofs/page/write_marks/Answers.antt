@@ -15,6 +15,6 @@ loop-rest-preserved c =
     let before = c.loop-rest.invariant.long in
     let now = c.in_ok-write_mark.ensures.long in
     record {
-      written = marks_next _ _ _ _ _ _ _ _ _ _ _ _ _ c.in-len1-up.len_at_least c.loop-rest.invariant.written c.must_put-put.ensures c.in_ok-write_mark.ensures.leads.0 c.in_ok-write_mark.ensures.leads.1 c.cursor_after-cursor.ensures;
+      written = marks_next _ _ _ _ _ _ _ _ _ _ _ _ _ c.in-len1-up.len_at_least c.loop-rest.invariant.written c.must_put-put.ensures c.in_ok-write_mark.ensures.defined c.in_ok-write_mark.ensures.leads c.cursor_after-cursor.ensures;
       long = omega (arith, shorter, before, now);
     }
