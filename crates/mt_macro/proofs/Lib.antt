@@ -4,3 +4,4 @@ pub mod Named
 pub mod Hashes
 pub mod Taking
 pub mod Running
+mod Worked

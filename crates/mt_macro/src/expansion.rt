@@ -99,7 +99,7 @@ fn replace<'a>(
 ) -> Result<Replacement, AllocError>
     requires rest { passed + length rest.old ≤ 50000 }
     requires body { IsShort found.now }
-    ensures { IfOk result (λ r. Replaces passed r (replaced (found.now) (arguments found.now.params rest.old)) rest.new) }
+    ensures { IfOk result (λ r. Replaces passed r (replaced found.now (arguments found.now.params rest.old)) rest.new) }
 {
     let Some(arguments) = take_arguments(alloc, rest, found.params)? else {
         return Ok(Replacement::NoArgument);
@@ -128,26 +128,21 @@ fn run_steps<'a>(
     let mut rest = Inputs::of(alloc, list)?;
     let mut steps = 0;
     while let Some(token) = rest.pop() {
-        match macros.named_by(token) {
-            None => push_lent(&mut passed, token)?,
-            Some(found) => {
-                if steps == MAX_STEPS {
-                    return Err(ExpandError::Budget {
-                        steps,
-                        length: (passed.len() + rest.len() + 1) as u64,
-                    });
-                }
-                steps += 1;
-                match replace(alloc, found, &mut rest, passed.len())? {
-                    Replacement::NoArgument => {
-                        return Err(ExpandError::MissingArgument(passed.len() as u32));
-                    }
-                    Replacement::TooLong(length) => {
-                        return Err(ExpandError::Budget { steps, length });
-                    }
-                    Replacement::Done => {}
-                }
+        let Some(found) = macros.named_by(token) else {
+            push_lent(&mut passed, token)?;
+            continue;
+        };
+        if steps == MAX_STEPS {
+            let length = (passed.len() + rest.len() + 1) as u64;
+            return Err(ExpandError::Budget { steps, length });
+        }
+        steps += 1;
+        match replace(alloc, found, &mut rest, passed.len())? {
+            Replacement::NoArgument => {
+                return Err(ExpandError::MissingArgument(passed.len() as u32));
             }
+            Replacement::TooLong(length) => return Err(ExpandError::Budget { steps, length }),
+            Replacement::Done => {}
         }
     }
     Ok(Argument::from_vec(passed))
