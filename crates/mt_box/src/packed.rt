@@ -8,7 +8,7 @@ use std::marker::Model;
 
 /// A box that was packed. Contracts see its extents, its marks relative to its reference point, and its level.
 ///
-/// Its extents are in range. Its level is greater than that of each box in it, and at most 2^20.
+/// Its extents are in range. Its level is one more than the greatest level of the boxes in it, at least 1 and at most 2^20.
 #[cycle(packed)]
 #[derive(Drop)]
 pub struct Packed {
@@ -69,7 +69,7 @@ impl Packed {
         self.extents
     }
 
-    /// The level of the box, which is greater than that of each box in it.
+    /// One more than the greatest level of the boxes in this one.
     pub fn level(&self) -> u32
         ensures is { result ≡ self.now.level }
         ensures small { result ≤ 2 ^ 20 }
