@@ -10,7 +10,7 @@ use std::collections::BTreeMap;
 use std::marker::Model;
 
 /// What a name stands for.
-#[derive(Drop)]
+#[derive(Debug, Drop)]
 pub struct Macro {
     /// Whether the name is the user's own.
     pub own: bool,
@@ -23,7 +23,7 @@ pub struct Macro {
 /// Macros: a finite map from names to their numbers of parameters and bodies, with a mark on each name that is the user's own.
 ///
 /// A name is the user's own from its first [`Macros::define`] on.
-#[derive(Drop)]
+#[derive(Debug, Drop)]
 pub struct Macros {
     alloc: Global,
     by_name: BTreeMap<Vec<u8>, Macro>,
