@@ -13,11 +13,17 @@ use mt_outside::{Sink, write_all};
 /// A part of a line: a text, or a number that is printed in decimal.
 #[derive(Clone, Copy)]
 pub enum Piece<'a> {
+    /// Bytes as they are.
     Text(&'a [u8]),
+    /// A cause, a family or a character code.
     Byte(u8),
+    /// A line, a font, a formula or a place in a list of tokens.
     Word(u32),
+    /// An offset, or a count.
     Long(u64),
+    /// A length in scaled points.
     Signed(&'a i128),
+    /// A size, by its number from 0.
     Size(Size),
 }
 

@@ -115,7 +115,7 @@ pub enum Status {
     },
     /// There was no memory.
     OutOfMemory,
-    /// A formula (0: a file before the source) that this version does not set yet.
+    /// A formula that this version does not set yet.
     NotBuilt {
         n: u32,
     },

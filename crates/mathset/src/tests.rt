@@ -139,7 +139,7 @@ fn sets_two_letters(rt: HostRuntime) -> Result<(), Fail> {
 #[test]
 fn sets_over_steady_files(rt: HostRuntime) -> Result<(), Fail> {
     let alloc = rt.alloc();
-    let files = files(alloc, toy_list(alloc)?, bytes_of(alloc, b"$a1$\n")?)?;
+    let files = files(alloc, toy_list(alloc)?, bytes_of(alloc, b"$ab$\n")?)?;
     let mut cabinet = SteadyCabinet::new(files);
     let mut out = SteadySink::new(alloc, 1000)?;
     let (status, log) = answer(alloc, &mut cabinet, &mut out)?;
@@ -149,7 +149,7 @@ fn sets_over_steady_files(rt: HostRuntime) -> Result<(), Fail> {
     let glyphs = glyphs(alloc, file)?;
     assert_eq!(rt;
         glyphs.as_slice(),
-        [[3, 97, 0, 327_680], [0, 49, 327_680, 327_680]].as_slice()
+        [[3, 97, 0, 327_680], [3, 98, 327_680, 327_680]].as_slice()
     );
     Ok(())
 }
