@@ -1,4 +1,6 @@
 //! Sources: their symbols, and their pages in the toy fonts.
+ghost use Rattle.std.specs.Prelude.{◌≡◌, ◌≤◌, length};
+
 use crate::fonts::read_set;
 use crate::source::source_pages;
 use crate::status::Status;
@@ -34,14 +36,12 @@ fn fonts(rt: &impl Abort, alloc: Global, list: Bytes) -> Result<FontSet, AllocEr
     Ok(read_set(alloc, "fonts", &mut cabinet).expect(rt, "the fonts"))
 }
 
-// The toy fonts with family 1 at another size.
-fn fonts_at(rt: &impl Abort, alloc: Global, size: u32) -> Result<FontSet, AllocError> {
-    let list = format!(in alloc;
-        "mathset fonts 1\nfont toyr 655360 -\nfont toym {size} 127\nfont toys 655360 -\nfont toyx 655360 -\n\
-         family 0 0 0 0\nfamily 1 1 1 1\nfamily 2 2 2 2\nfamily 3 3 3 3\n"
-    )?;
-    fonts(rt, alloc, Bytes::from_vec(list.as_bytes().to_vec(alloc)?))
-}
+// Lists of the toy fonts with family 1 at another size.
+const SMALL: &[u8] =
+    b"mathset fonts 1\nfont toyr 655360 -\nfont toym 32768 127\nfont toys 655360 -\nfont toyx 655360 -\nfamily 0 0 0 0\nfamily 1 1 1 1\nfamily 2 2 2 2\nfamily 3 3 3 3\n";
+
+const LARGE: &[u8] =
+    b"mathset fonts 1\nfont toyr 655360 -\nfont toym 134217727 127\nfont toys 655360 -\nfont toyx 655360 -\nfamily 0 0 0 0\nfamily 1 1 1 1\nfamily 2 2 2 2\nfamily 3 3 3 3\n";
 
 // A formula of a letter so many times.
 fn letters(alloc: Global, count: usize) -> Result<Vec<u8>, AllocError> {
@@ -59,6 +59,15 @@ fn refusal(status: &Status) -> (u8, i128, u8) {
         Status::Overflow { value, .. } => (status.code(), *value, 0),
         _ => (status.code(), 0, 0),
     }
+}
+
+// A source that is no longer than one that is fetched.
+fn fetched<'a>(rt: &impl Abort, source: &'a [u8]) -> &'a [u8]
+    ensures whole { result.now ≡ source.now }
+    ensures short { length result.now ≤ 4194304 }
+{
+    assert!(rt; source.len() <= 4_194_304);
+    source
 }
 
 #[test]
@@ -107,9 +116,11 @@ fn refuses_sources(rt: HostRuntime) -> Result<(), Fail> {
 #[test]
 fn bounds_symbols(rt: HostRuntime) -> Result<(), Fail> {
     let alloc = rt.alloc();
-    let symbols = source_symbols(alloc, &letters(alloc, 50_000)?).expect(&rt, "symbols");
+    let source = letters(alloc, 50_000)?;
+    let symbols = source_symbols(alloc, fetched(&rt, &source)).expect(&rt, "symbols");
     assert_eq!(rt; symbols.len(), 50_000);
-    let status = source_symbols(alloc, &letters(alloc, 50_001)?)
+    let source = letters(alloc, 50_001)?;
+    let status = source_symbols(alloc, fetched(&rt, &source))
         .err()
         .expect(&rt, "a refusal");
     assert_eq!(rt; refusal(&status), (70, 1, 0));
@@ -123,7 +134,7 @@ fn places(
     fonts: &FontSet,
     source: &[u8],
 ) -> Result<Vec<Place>, AllocError> {
-    let pages = source_pages(alloc, fonts, source).expect(rt, "pages");
+    let pages = source_pages(alloc, fonts, fetched(rt, source)).expect(rt, "pages");
     assert_eq!(rt; pages.len(), 1);
     let page = pages.get(0).expect(rt, "a page");
     page.as_slice().to_vec(alloc)
@@ -164,7 +175,7 @@ fn sets_rows(rt: HostRuntime) -> Result<(), Fail> {
 #[test]
 fn sets_long_rows(rt: HostRuntime) -> Result<(), Fail> {
     let alloc = rt.alloc();
-    let fonts = fonts_at(&rt, alloc, 32_768)?;
+    let fonts = fonts(&rt, alloc, Bytes::from_vec(SMALL.to_vec(alloc)?))?;
     let page = places(&rt, alloc, &fonts, &letters(alloc, 50_000)?)?;
     assert_eq!(rt; page.len(), 50_000);
     let last = Place::Glyph {
@@ -181,10 +192,11 @@ fn sets_long_rows(rt: HostRuntime) -> Result<(), Fail> {
 fn finds_the_width_out_of_range(rt: HostRuntime) -> Result<(), Fail> {
     let alloc = rt.alloc();
     // At this size half of it is 67108856 by the rule for fix_words: 16 letters are 127 within the range.
-    let fonts = fonts_at(&rt, alloc, 134_217_727)?;
+    let fonts = fonts(&rt, alloc, Bytes::from_vec(LARGE.to_vec(alloc)?))?;
     let page = places(&rt, alloc, &fonts, &letters(alloc, 16)?)?;
     assert_eq!(rt; page.last().map(|place| place.h()), Some(1_006_632_840));
-    let status = source_pages(alloc, &fonts, &letters(alloc, 17)?)
+    let source = letters(alloc, 17)?;
+    let status = source_pages(alloc, &fonts, fetched(&rt, &source))
         .err()
         .expect(&rt, "a refusal");
     assert_eq!(rt; refusal(&status), (46, 1_140_850_552, 0));

@@ -183,7 +183,7 @@ fn refuses_words(rt: HostRuntime) -> Result<(), Fail> {
         "mathset set toy.fonts formula.tex more",
     ] {
         let (status, log) = answer_to(alloc, text, &mut cabinet, &mut out)?;
-        assert_eq!(&rt; status, 2, "{text}");
+        assert_eq!(&rt; status, 2);
         assert_eq!(&rt; log.as_slice(), b"mathset: words\n".as_slice());
     }
     Ok(())
