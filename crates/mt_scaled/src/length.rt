@@ -5,7 +5,7 @@ ghost use Rattle.mt_scaled.specs.Number.{Within};
 
 /// A length in a computation of several steps, in scaled points. Its sums are those of unbounded whole numbers.
 ///
-/// Each operation asks for lengths of at most 2^60 in size, so that no sum wraps.
+/// The sum and the difference ask for lengths of at most 2^60 in size, so that neither wraps.
 #[derive(Clone, Copy, PartialEq, Eq, Debug)]
 pub struct Length {
     /// The scaled points.
@@ -40,8 +40,6 @@ impl Length {
     /// The greater of both.
     #[tactic(auto, using(std::proofs::lemmas::Int::ints, std::proofs::lemmas::Int::clamps))]
     pub fn at_least(self, other: Length) -> Length
-        requires self_small { Within (2 ^ 60) self.sp }
-        requires other_small { Within (2 ^ 60) other.sp }
         ensures { result.sp ≡ int_max other.sp self.sp }
     {
         if self.sp < other.sp { other } else { self }
@@ -50,7 +48,6 @@ impl Length {
     /// This length, or 0 in place of a negative one.
     #[tactic(auto, using(std::proofs::lemmas::Int::ints, std::proofs::lemmas::Int::clamps))]
     pub fn not_negative(self) -> Length
-        requires { Within (2 ^ 60) self.sp }
         ensures { result.sp ≡ int_max (pos 0) self.sp }
     {
         if self.sp < 0 { Length { sp: 0 } } else { self }

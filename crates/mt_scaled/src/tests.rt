@@ -40,6 +40,16 @@ fn divides(rt: HostRuntime) {
 }
 
 #[test]
+fn computes_with_lengths(rt: HostRuntime) {
+    let (quad, space) = (Length { sp: 655360 }, Length { sp: -218453 });
+    assert_eq!(rt; quad.plus(space).sp, 436907);
+    assert_eq!(rt; quad.minus(space).sp, 873813);
+    assert!(rt; space.at_least(quad) == quad && quad.at_least(space) == quad);
+    assert!(rt; space.not_negative() == Length { sp: 0 } && quad.not_negative() == quad);
+    assert!(rt; quad.is_positive() && !space.is_positive());
+}
+
+#[test]
 fn keeps_lists(rt: HostRuntime) -> Result<(), AllocError> {
     let list: Items<i64> = Items::from_vec(vec![in rt.alloc(); 5, 6]?);
     assert!(rt; list.len() == 2 && !list.is_empty());
