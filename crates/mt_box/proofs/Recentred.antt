@@ -48,6 +48,7 @@ sound_again a b e h l' =
     record {
       extents = h.extents;
       level = omega arith;
+      level_low = omega arith;
       shift = rw (same_shift a.level a.shift h.level h.shift) (same_level a.level a.shift h.shift);
       nodes = higher _ _ _ (omega arith) h.nodes;
     }
@@ -58,6 +59,7 @@ sound_moved a b x i e h l' k m =
     record {
       extents = k;
       level = omega arith;
+      level_low = omega arith;
       shift = rw (shift_kept a.level a.shift i h.level h.shift m) (level_up a.level a.shift i h.shift m);
       nodes = higher _ _ _ (omega arith) h.nodes;
     }

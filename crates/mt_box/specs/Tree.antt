@@ -43,5 +43,6 @@ AllFit level (n ∷ ns) = FitsIn level n × AllFit level ns
 pub record IsSound (a : Inside) : Type 0 where
   pub extents : ExtentsInRange a.extents
   pub level : a.level ≤ 2 ^ 20
+  pub level_low : 1 ≤ a.level
   pub shift : Within (2 ^ 31 * a.level) a.shift
   pub nodes : AllFit a.level a.nodes.items

@@ -118,6 +118,7 @@ impl Edge {
     fn finish(self, frame: Frame, nodes: Vec<Node>) -> Result<Packed, PackError>
         requires y { Within (2 ^ 62 + 2 ^ 41) self.y }
         requires level { self.level ≤ 2 ^ 20 }
+        requires level_low { 1 ≤ self.level }
         requires fit { AllFit self.level nodes.items }
         ensures packs { Packs (edge_picture self frame (places_of_nodes nodes.items)) result }
         ensures level { IfOk result (λ b. b.level ≡ self.level) }
@@ -136,7 +137,7 @@ impl Edge {
         Extents {
             width: frame.width,
             height: frame.top,
-            depth: 0 - self.y,
+            depth: -self.y,
         }
     }
 }

@@ -8,7 +8,8 @@ use std::marker::Model;
 
 /// A box that was packed. Contracts see its extents, its marks relative to its reference point, and its level.
 ///
-/// Its extents are in range. Its level is one more than the greatest level of the boxes in it, at least 1 and at most 2^20.
+/// Its extents are in range. Its level is greater than that of each box in it, from 1 to 2^20: the least such number when
+/// it is packed, and one more each time that it is recentred.
 #[cycle(packed)]
 #[derive(Drop)]
 pub struct Packed {
@@ -69,10 +70,11 @@ impl Packed {
         self.extents
     }
 
-    /// One more than the greatest level of the boxes in this one.
+    /// A number from 1 to 2^20 that is greater than the level of each box in this one.
     pub fn level(&self) -> u32
         ensures is { result ≡ self.now.level }
         ensures small { result ≤ 2 ^ 20 }
+        ensures at_least_1 { 1 ≤ result }
     {
         self.level
     }
@@ -82,6 +84,7 @@ impl Packed {
 #[tactic(auto, using(crate::proofs::Moved::moved_zero))]
 pub(crate) fn seal(extents: Extents, level: u32, nodes: Vec<Node>) -> Result<Packed, PackError>
     requires level { level ≤ 2 ^ 20 }
+    requires level_low { 1 ≤ level }
     requires fit { AllFit level nodes.items }
     ensures packs { Packs (record { extents = extents; places = places_of_nodes nodes.items }) result }
     ensures level { IfOk result (λ b. b.level ≡ level) }

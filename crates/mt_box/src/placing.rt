@@ -145,10 +145,10 @@ struct Spot {
 fn mark_spot(at: Point, room: u64) -> Result<Spot, PlaceError>
     ensures { Spots room at result }
 {
-    let Some(h) = coordinate(at) else {
+    let Some(h) = coordinate(at.h) else {
         return Err(PlaceError::OutOfRange(at.h));
     };
-    let Some(v) = coordinate(Point { h: at.v, v: 0 }) else {
+    let Some(v) = coordinate(at.v) else {
         return Err(PlaceError::OutOfRange(at.v));
     };
     if room == 0 {
@@ -157,12 +157,12 @@ fn mark_spot(at: Point, room: u64) -> Result<Spot, PlaceError>
     Ok(Spot { h, v })
 }
 
-// The horizontal coordinate, if it is in range.
-fn coordinate(at: Point) -> Option<i64>
-    ensures { result ≡ (if is_in_range at.h then Some at.h else None) }
+// A coordinate, if it is in range.
+fn coordinate(x: i128) -> Option<i64>
+    ensures { result ≡ (if is_in_range x then Some x else None) }
 {
-    if -(MAX_DIMEN as i128) <= at.h && at.h <= MAX_DIMEN as i128 {
-        Some(at.h as i64)
+    if -(MAX_DIMEN as i128) <= x && x <= MAX_DIMEN as i128 {
+        Some(x as i64)
     } else {
         None
     }

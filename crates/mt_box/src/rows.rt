@@ -133,6 +133,7 @@ impl Pen {
     // The box of these nodes, which the pieces so far put.
     fn finish(self, nodes: Vec<Node>) -> Result<Packed, PackError>
         requires level { self.level ≤ 2 ^ 20 }
+        requires level_low { 1 ≤ self.level }
         requires fit { AllFit self.level nodes.items }
         ensures packs { Packs (record { extents = pen_extents self; places = places_of_nodes nodes.items }) result }
         ensures level { IfOk result (λ b. b.level ≡ self.level) }

@@ -194,6 +194,29 @@ fn sums_the_shrink(rt: HostRuntime) -> Result<(), AllocError> {
 }
 
 #[test]
+fn finds_the_first_extent_out_of_range(rt: HostRuntime) {
+    let wide = Extents {
+        width: 1073741824,
+        ..LETTER
+    };
+    assert_eq!(rt; first_out(wide), Some(1073741824));
+    assert_eq!(rt; first_out(LETTER), None);
+}
+
+#[test]
+fn places_have_coordinates(rt: HostRuntime) {
+    let rule = Place::Rule {
+        h: 5,
+        v: -7,
+        height: 1,
+        width: 2,
+    };
+    assert_eq!(rt; (rule.h(), rule.v()), (5, -7));
+    let mark = glyph(3, 97, 11, 13);
+    assert_eq!(rt; (mark.h(), mark.v()), (11, 13));
+}
+
+#[test]
 fn refuses_a_wide_row(rt: HostRuntime) -> Result<(), AllocError> {
     let kern = 16383 * 65536;
     let row = Items::from_vec(vec![in rt.alloc();

@@ -25,3 +25,6 @@ pub returns-clause-level : goal.returns-clause-level
 returns-clause-level c =
     let done = packing_end _ _ c.loop-piece.pen _ c.loop-piece.invariant.2 (no_more _ _ c.loop-piece.piece-iterator.rest.ok.0 c.in-None.ensures.steps.0) in
     subst (λ n. IfOk c.finish.result (λ b. b.level ≡ n)) done.level c.finish.ensures.level
+
+pub finish-requires-clause-level_low : goal.finish-requires-clause-level_low
+finish-requires-clause-level_low c = c.loop-piece.invariant.2.level_low
