@@ -1,5 +1,5 @@
 -- The machine over a whole file (tex.web, sections 585 to 594).
-use Rattle.std.specs.Prelude.{ℕ, zero, suc, ◌+◌, ℤ, pos, negsuc, List, [], ◌∷◌, ◌++◌, length, take, drop, map, max, Option, Some, None, Result, Ok, Err, Bool, true, nat_lt, nat_le, int_lt, ◌==◌, ◌&&◌, if◌then◌else◌}
+use Rattle.std.specs.Prelude.{◌≡◌, ℕ, zero, suc, ◌+◌, ℤ, pos, negsuc, List, [], ◌∷◌, ◌++◌, length, take, drop, map, max, Option, Some, None, Result, Ok, Err, Bool, true, nat_lt, nat_le, int_lt, ◌==◌, ◌&&◌, if◌then◌else◌}
 use Rattle.std.specs.Ordering.{int_eq}
 use Rattle.std.specs.Str.{bytes_eq}
 use Rattle.std.specs.List.{list_all}
@@ -212,3 +212,11 @@ pages_read (Err fault) = Err fault
 -- the pages of a DVI file, or its first fault
 unfoldable pub pages_of : SetValue → List ℕ → Result (List (List Place)) Fault
 pages_of fonts bytes = pages_read (read fonts bytes)
+
+-- the machine reads the file to its end, and these are the marks of its pages
+abbrev pub Dvi : SetValue → List ℕ → List (List Place) → Type 0
+Dvi fonts bytes pages = pages_of fonts bytes ≡ Ok pages
+
+-- the machine does not read the file to its end, and this is the first fault
+abbrev pub DviFault : SetValue → List ℕ → Fault → Type 0
+DviFault fonts bytes fault = pages_of fonts bytes ≡ Err fault

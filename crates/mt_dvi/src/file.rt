@@ -1,7 +1,7 @@
 //! A whole file: its pages, and what stands round them.
 ghost use Rattle.std.specs.Prelude.{◌≡◌, ◌<◌, ◌≤◌, ◌+◌, ◌-◌, ◌*◌, ◌^◌, min, [], length, All, Ok, OnOk, IfOk};
 ghost use Rattle.mt_family.specs.SetValue.{IsSet};
-ghost use Rattle.mt_dvi.specs.File.{pages_of};
+ghost use Rattle.mt_dvi.specs.File.{Dvi};
 ghost use Rattle.mt_dvi.specs.Emits.{FitsFourBytes};
 ghost use Rattle.mt_dvi.specs.Marks.{IsWritable, all_marks};
 ghost use Rattle.mt_dvi.specs.Written.{Written};
@@ -156,7 +156,7 @@ pub fn write_dvi(
 ) -> Result<DviBytes, DviWriteError>
     requires can { All (λ page. All (IsWritable fonts.now) page) pages.now }
     ensures written { IfOk result (λ bytes. Written fonts.now bytes pages.now) }
-    ensures read_back { IfOk result (λ bytes. pages_of fonts.now bytes ≡ Ok pages.now) }
+    ensures read_back { IfOk result (λ bytes. Dvi fonts.now bytes pages.now) }
     ensures refused { refused_by result ≡ refusal_of pages.now }
 {
     let pages = pages.as_slice();

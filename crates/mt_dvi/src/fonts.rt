@@ -1,5 +1,5 @@
 //! The fonts of a set: their extents, and their definitions in a file.
-ghost use Rattle.std.specs.Prelude.{◌≡◌, ◌≤◌, ◌<◌, ◌+◌, ◌*◌, length, OnOk, IsSomeAnd, Some, nat_abs};
+ghost use Rattle.std.specs.Prelude.{◌≡◌, ◌≤◌, ◌<◌, ◌*◌, length, OnOk, IsSomeAnd, Some};
 ghost use Rattle.mt_dvi.specs.Codes.{Define};
 ghost use Rattle.mt_dvi.specs.Emits.{Emits};
 ghost use Rattle.mt_dvi.specs.Fonts.{metrics_at, width_in, depth_in, definition_of};

@@ -1,13 +1,13 @@
 //! The marks of a page, and the moves between them.
-ghost use Rattle.std.specs.Prelude.{◌≡◌, ◌<◌, ◌≤◌, ◌+◌, ◌*◌, ◌-ℤ◌, List, ℕ, All, OnOk, IsSomeAnd, length, nat_abs, true, Some};
+ghost use Rattle.std.specs.Prelude.{◌≡◌, ◌<◌, ◌≤◌, ◌+◌, ◌*◌, ◌-ℤ◌, List, ℕ, All, OnOk, IsSomeAnd, length, nat_abs, Some};
 ghost use Rattle.mt_box.specs.Places.{h_of, v_of};
 ghost use Rattle.mt_family.specs.SetValue.{IsSet, SetValue};
 ghost use Rattle.mt_dvi.specs.Fonts.{metrics_at};
 ghost use Rattle.mt_dvi.specs.Machine.{is_far};
 ghost use Rattle.mt_dvi.specs.File.{File};
 ghost use Rattle.mt_dvi.specs.Emits.{FitsFourBytes};
-ghost use Rattle.mt_dvi.specs.Marks.{HasGlyph, InRange, IsWritable, first_of, lower_edge, marks_of, must_put, right_edge};
-ghost use Rattle.mt_dvi.specs.LeadsTo.{Advances, GrowsBy, GrowsWith, Introduces, Selects, WritesMark, WritesMarks, cursor_after, in_page, is_among, used_by, used_by_all, with_number};
+ghost use Rattle.mt_dvi.specs.Marks.{HasGlyph, InRange, IsWritable, first_of, lower_edge, must_put, right_edge};
+ghost use Rattle.mt_dvi.specs.LeadsTo.{Advances, GrowsBy, GrowsWith, Introduces, Selects, WritesMark, WritesMarks, cursor_after, in_page, used_by, used_by_all, with_number};
 
 use crate::emit;
 use crate::fonts::{define, depth, is_defined, width};
@@ -229,6 +229,17 @@ fn write_rule(
     Ok(())
 }
 
+// The cursor at a mark's place, with the font that is selected.
+fn cursor_at(place: Place, font: Option<u16>) -> Cursor
+    ensures { result ≡ record { h = h_of place; v = v_of place; font = font } }
+{
+    Cursor {
+        h: place.h(),
+        v: place.v(),
+        font,
+    }
+}
+
 // Writes a mark, with the moves to it.
 fn write_mark(
     out: &mut Vec<u8>,
@@ -248,28 +259,13 @@ fn write_mark(
     ensures long { OnOk result (GrowsWith 19 out.old.items out.new.items defined.old.items defined.new.items) }
 {
     move_to(out, cursor, place)?;
-    let selected = cursor.font;
+    let there = cursor_at(place, cursor.font);
     match place {
-        Place::Glyph { font, code, h, v } => {
-            let there = Cursor {
-                h,
-                v,
-                font: selected,
-            };
+        Place::Glyph { font, code, .. } => {
             write_glyph(out, defined, fonts, there, font, code, put)?;
             Ok(())
         }
-        Place::Rule {
-            h,
-            v,
-            height,
-            width,
-        } => {
-            let there = Cursor {
-                h,
-                v,
-                font: selected,
-            };
+        Place::Rule { height, width, .. } => {
             write_rule(out, fonts, there, height, width, put)?;
             Ok(())
         }

@@ -1,5 +1,5 @@
 //! Files written for pages, against bytes that another program made by the format's description.
-ghost use Rattle.std.specs.Prelude.{◌≡◌, All, IfOk, IsSomeAnd, IsTrue};
+ghost use Rattle.std.specs.Prelude.{All, IfOk, IsSomeAnd, IsTrue};
 ghost use Rattle.mt_family.specs.ListFacts.{IsFontLine};
 ghost use Rattle.mt_family.specs.SetValue.{AreLoaded};
 ghost use Rattle.mt_dvi.specs.Fonts.{metrics_at};
