@@ -1,5 +1,5 @@
 -- The definitions on a font of one character, 97, half as wide and half as high as the font's size.
-use Rattle.std.proofs.Common.{◌≡◌, ℕ, List, [], ◌∷◌, ◌++◌, Option, Some, None, pos, take, refl}
+use Rattle.std.proofs.Common.{◌≡◌, ℕ, List, [], ◌∷◌, ◌++◌, Some, None, pos, take, refl}
 use Rattle.mt_tfm.specs.declared.error.TfmError.TheVariants.{Truncated, BadIndex, ChainCycle}
 use Rattle.mt_tfm.specs.Checks.{first_fault, entries_fault, zeros_fault}
 use Rattle.mt_tfm.specs.Font.{metrics_of, metrics_in, width_of}
