@@ -1,57 +1,237 @@
 //! The one line that a refusal writes to the log.
-ghost use Rattle.std.specs.Prelude.{◌≡◌};
-ghost use Rattle.mt_outside.specs.Counts.{WriteLeaves};
-ghost use Rattle.mt_outside.specs.Told.{Appends, taken_all};
+ghost use Rattle.std.specs.Prelude.{◌≡◌, ◌∷◌, [], codes, decimal};
+ghost use Rattle.std.specs.List.{concat};
 ghost use Rattle.mathset.specs.Log.{Gets, log_line, much_text};
-ghost use Rattle.mathset.specs.Pieces.{joined, piece_bytes};
+ghost use Rattle.mathset.specs.Pieces.{piece_bytes};
 
+use crate::piece::{Piece, write_pieces};
 use crate::status::{Much, Status};
-use itoa::Buffer;
 use mt_family::Size;
-use mt_outside::{Sink, write_all};
+use mt_outside::Sink;
+use mt_scaled::Name;
 
-/// A part of a line: a text, or a number that is printed in decimal.
-#[derive(Clone, Copy)]
-pub enum Piece<'a> {
-    /// Bytes as they are.
-    Text(&'a [u8]),
-    /// A cause, a family or a character code.
-    Byte(u8),
-    /// A line, a font, a formula or a place in a list of tokens.
-    Word(u32),
-    /// An offset, or a count.
-    Long(u64),
-    /// A length in scaled points.
-    Signed(&'a i128),
-    /// A size, by its number from 0.
-    Size(Size),
+fn write_text<L: Sink>(log: &mut L, text: &[u8])
+    ensures { Gets (L.written log.old) (L.written log.new) (L.faults log.old) (L.faults log.new) (text.now) }
+{
+    write_pieces(log, &[Piece::Text(text)]);
 }
 
-fn write_piece<S: Sink>(sink: &mut S, piece: Piece<'_>) -> Result<(), u64>
-    ensures appended { Appends (S.written sink.old) (S.written sink.new) (taken_all result (piece_bytes piece.entry)) }
-    ensures leaves { WriteLeaves (S.faults sink.old) (S.faults sink.new) result }
+// A file that is refused, by its name.
+fn write_file<'a, L: Sink>(log: &mut L, head: &'a [u8], name: &'a Name)
+    ensures { Gets (L.written log.old) (L.written log.new) (L.faults log.old) (L.faults log.new) (concat (head.now ∷ name.now ∷ codes "\n" ∷ [])) }
 {
-    let mut buffer = Buffer::new();
-    match piece {
-        Piece::Text(text) => write_all(sink, text),
-        Piece::Byte(n) => write_all(sink, buffer.format(n).as_bytes()),
-        Piece::Word(n) => write_all(sink, buffer.format(n).as_bytes()),
-        Piece::Long(n) => write_all(sink, buffer.format(n).as_bytes()),
-        Piece::Signed(n) => write_all(sink, buffer.format(*n).as_bytes()),
-        Piece::Size(size) => write_all(sink, buffer.format(size.index()).as_bytes()),
-    }
+    write_pieces(
+        log,
+        &[
+            Piece::Text(head),
+            Piece::Text(name.as_slice()),
+            Piece::Text(b"\n"),
+        ],
+    );
 }
 
-// Writes pieces one after another, up to the first fault.
-fn write_pieces<S: Sink>(sink: &mut S, pieces: &[Piece<'_>])
-    ensures { Gets (S.written sink.old) (S.written sink.new) (S.faults sink.old) (S.faults sink.new) (joined pieces.entry.now) }
+// How far the output was written.
+fn write_written<L: Sink>(log: &mut L, count: u64)
+    ensures { Gets (L.written log.old) (L.written log.new) (L.faults log.old) (L.faults log.new) (log_line (Status.WriteFault count)) }
 {
-    for piece in pieces {
-        match write_piece(sink, *piece) {
-            Ok(()) => {}
-            Err(_) => return,
-        }
-    }
+    write_pieces(
+        log,
+        &[
+            Piece::Text(b"mathset: cannot write after "),
+            Piece::Long(count),
+            Piece::Text(b" bytes\n"),
+        ],
+    );
+}
+
+// A place in a file, by its number, and the cause of its fault.
+fn write_place<'a, L: Sink>(log: &mut L, head: &'a [u8], place: Piece<'a>, cause: u8)
+    ensures { Gets (L.written log.old) (L.written log.new) (L.faults log.old) (L.faults log.new) (concat (head.now ∷ piece_bytes place.entry ∷ codes " cause " ∷ decimal cause ∷ codes "\n" ∷ [])) }
+{
+    write_pieces(
+        log,
+        &[
+            Piece::Text(head),
+            place,
+            Piece::Text(b" cause "),
+            Piece::Byte(cause),
+            Piece::Text(b"\n"),
+        ],
+    );
+}
+
+fn write_list_line<L: Sink>(log: &mut L, line: u32, cause: u8)
+    ensures { Gets (L.written log.old) (L.written log.new) (L.faults log.old) (L.faults log.new) (log_line (Status.FontList line cause)) }
+{
+    write_place(log, b"mathset: font list line ", Piece::Word(line), cause);
+}
+
+fn write_font<L: Sink>(log: &mut L, font: u32, cause: u8)
+    ensures { Gets (L.written log.old) (L.written log.new) (L.faults log.old) (L.faults log.new) (log_line (Status.BadTfm font cause)) }
+{
+    write_place(log, b"mathset: font ", Piece::Word(font), cause);
+}
+
+fn write_source_byte<L: Sink>(log: &mut L, offset: u64, cause: u8)
+    ensures { Gets (L.written log.old) (L.written log.new) (L.faults log.old) (L.faults log.new) (log_line (Status.BadSource offset cause)) }
+{
+    write_place(log, b"mathset: source byte ", Piece::Long(offset), cause);
+}
+
+fn write_dvi_byte<L: Sink>(log: &mut L, offset: u64, cause: u8)
+    ensures { Gets (L.written log.old) (L.written log.new) (L.faults log.old) (L.faults log.new) (log_line (Status.BadDvi offset cause)) }
+{
+    write_place(log, b"mathset: dvi byte ", Piece::Long(offset), cause);
+}
+
+fn write_family<L: Sink>(log: &mut L, fam: u8, size: Size, cause: u8)
+    ensures { Gets (L.written log.old) (L.written log.new) (L.faults log.old) (L.faults log.new) (log_line (Status.BadFamily fam size cause)) }
+{
+    write_pieces(
+        log,
+        &[
+            Piece::Text(b"mathset: family "),
+            Piece::Byte(fam),
+            Piece::Text(b" size "),
+            Piece::Size(size),
+            Piece::Text(b" cause "),
+            Piece::Byte(cause),
+            Piece::Text(b"\n"),
+        ],
+    );
+}
+
+// A formula, by its number, and what is the matter with it as a whole.
+fn write_formula<L: Sink>(log: &mut L, n: u32, tail: &[u8])
+    ensures { Gets (L.written log.old) (L.written log.new) (L.faults log.old) (L.faults log.new) (concat (codes "mathset: formula " ∷ decimal n ∷ tail.now ∷ [])) }
+{
+    write_pieces(
+        log,
+        &[
+            Piece::Text(b"mathset: formula "),
+            Piece::Word(n),
+            Piece::Text(tail),
+        ],
+    );
+}
+
+fn write_token<L: Sink>(log: &mut L, n: u32, token: u32, cause: u8)
+    ensures { Gets (L.written log.old) (L.written log.new) (L.faults log.old) (L.faults log.new) (log_line (Status.BadFormula n token cause)) }
+{
+    write_pieces(
+        log,
+        &[
+            Piece::Text(b"mathset: formula "),
+            Piece::Word(n),
+            Piece::Text(b" token "),
+            Piece::Word(token),
+            Piece::Text(b" cause "),
+            Piece::Byte(cause),
+            Piece::Text(b"\n"),
+        ],
+    );
+}
+
+fn write_depth<L: Sink>(log: &mut L, n: u32, token: u32)
+    ensures { Gets (L.written log.old) (L.written log.new) (L.faults log.old) (L.faults log.new) (log_line (Status.TooDeep n token)) }
+{
+    write_pieces(
+        log,
+        &[
+            Piece::Text(b"mathset: formula "),
+            Piece::Word(n),
+            Piece::Text(b" token "),
+            Piece::Word(token),
+            Piece::Text(b" depth\n"),
+        ],
+    );
+}
+
+fn write_missing_family<L: Sink>(log: &mut L, n: u32, fam: u8, size: Size)
+    ensures { Gets (L.written log.old) (L.written log.new) (L.faults log.old) (L.faults log.new) (log_line (Status.MissingFamily n fam size)) }
+{
+    write_pieces(
+        log,
+        &[
+            Piece::Text(b"mathset: formula "),
+            Piece::Word(n),
+            Piece::Text(b" family "),
+            Piece::Byte(fam),
+            Piece::Text(b" size "),
+            Piece::Size(size),
+            Piece::Text(b" missing\n"),
+        ],
+    );
+}
+
+fn write_char<L: Sink>(log: &mut L, n: u32, fam: u8, size: Size, code: u8)
+    ensures { Gets (L.written log.old) (L.written log.new) (L.faults log.old) (L.faults log.new) (log_line (Status.MissingChar n fam size code)) }
+{
+    write_pieces(
+        log,
+        &[
+            Piece::Text(b"mathset: formula "),
+            Piece::Word(n),
+            Piece::Text(b" family "),
+            Piece::Byte(fam),
+            Piece::Text(b" size "),
+            Piece::Size(size),
+            Piece::Text(b" code "),
+            Piece::Byte(code),
+            Piece::Text(b" missing\n"),
+        ],
+    );
+}
+
+fn write_pair<L: Sink>(log: &mut L, n: u32, fam: u8, size: Size, first: u8, second: u8)
+    ensures { Gets (L.written log.old) (L.written log.new) (L.faults log.old) (L.faults log.new) (log_line (Status.SmartLigature n fam size first second)) }
+{
+    write_pieces(
+        log,
+        &[
+            Piece::Text(b"mathset: formula "),
+            Piece::Word(n),
+            Piece::Text(b" family "),
+            Piece::Byte(fam),
+            Piece::Text(b" size "),
+            Piece::Size(size),
+            Piece::Text(b" pair "),
+            Piece::Byte(first),
+            Piece::Text(b" "),
+            Piece::Byte(second),
+            Piece::Text(b"\n"),
+        ],
+    );
+}
+
+fn write_overflow<L: Sink>(log: &mut L, n: u32, value: &i128)
+    ensures { Gets (L.written log.old) (L.written log.new) (L.faults log.old) (L.faults log.new) (log_line (Status.Overflow n value.now)) }
+{
+    write_pieces(
+        log,
+        &[
+            Piece::Text(b"mathset: formula "),
+            Piece::Word(n),
+            Piece::Text(b" overflow "),
+            Piece::Signed(value),
+            Piece::Text(b"\n"),
+        ],
+    );
+}
+
+fn write_repeats<L: Sink>(log: &mut L, n: u32, count: u64)
+    ensures { Gets (L.written log.old) (L.written log.new) (L.faults log.old) (L.faults log.new) (log_line (Status.TooTall n count)) }
+{
+    write_pieces(
+        log,
+        &[
+            Piece::Text(b"mathset: formula "),
+            Piece::Word(n),
+            Piece::Text(b" repeats "),
+            Piece::Long(count),
+            Piece::Text(b"\n"),
+        ],
+    );
 }
 
 fn much_text(kind: Much) -> &'static [u8]
@@ -63,6 +243,21 @@ fn much_text(kind: Much) -> &'static [u8]
     }
 }
 
+fn write_too_many<L: Sink>(log: &mut L, kind: Much, count: u64)
+    ensures { Gets (L.written log.old) (L.written log.new) (L.faults log.old) (L.faults log.new) (log_line (Status.TooMuch kind count)) }
+{
+    write_pieces(
+        log,
+        &[
+            Piece::Text(b"mathset: too many "),
+            Piece::Text(much_text(kind)),
+            Piece::Text(b" "),
+            Piece::Long(count),
+            Piece::Text(b"\n"),
+        ],
+    );
+}
+
 /// Writes the line of a refusal, and nothing for `Done`. A fault of the log changes nothing else.
 ///
 /// It takes no memory, so that want of memory can be told too.
@@ -71,199 +266,31 @@ pub fn write_line<L: Sink>(log: &mut L, status: &Status)
 {
     match status {
         Status::Done => {}
-        Status::BadWords => write_pieces(log, &[Piece::Text(b"mathset: words\n")]),
-        Status::ReadFault { name } => write_pieces(
-            log,
-            &[
-                Piece::Text(b"mathset: cannot read "),
-                Piece::Text(name.as_slice()),
-                Piece::Text(b"\n"),
-            ],
-        ),
-        Status::TooLong { name } => write_pieces(
-            log,
-            &[
-                Piece::Text(b"mathset: too long "),
-                Piece::Text(name.as_slice()),
-                Piece::Text(b"\n"),
-            ],
-        ),
-        Status::WriteFault { written } => write_pieces(
-            log,
-            &[
-                Piece::Text(b"mathset: cannot write after "),
-                Piece::Long(*written),
-                Piece::Text(b" bytes\n"),
-            ],
-        ),
-        Status::FontList { line, cause } => write_pieces(
-            log,
-            &[
-                Piece::Text(b"mathset: font list line "),
-                Piece::Word(*line),
-                Piece::Text(b" cause "),
-                Piece::Byte(*cause),
-                Piece::Text(b"\n"),
-            ],
-        ),
-        Status::BadTfm { font, cause } => write_pieces(
-            log,
-            &[
-                Piece::Text(b"mathset: font "),
-                Piece::Word(*font),
-                Piece::Text(b" cause "),
-                Piece::Byte(*cause),
-                Piece::Text(b"\n"),
-            ],
-        ),
-        Status::BadFamily { fam, size, cause } => write_pieces(
-            log,
-            &[
-                Piece::Text(b"mathset: family "),
-                Piece::Byte(*fam),
-                Piece::Text(b" size "),
-                Piece::Size(*size),
-                Piece::Text(b" cause "),
-                Piece::Byte(*cause),
-                Piece::Text(b"\n"),
-            ],
-        ),
-        Status::BadSource { offset, cause } => write_pieces(
-            log,
-            &[
-                Piece::Text(b"mathset: source byte "),
-                Piece::Long(*offset),
-                Piece::Text(b" cause "),
-                Piece::Byte(*cause),
-                Piece::Text(b"\n"),
-            ],
-        ),
-        Status::BadFormula { n, token, cause } => write_pieces(
-            log,
-            &[
-                Piece::Text(b"mathset: formula "),
-                Piece::Word(*n),
-                Piece::Text(b" token "),
-                Piece::Word(*token),
-                Piece::Text(b" cause "),
-                Piece::Byte(*cause),
-                Piece::Text(b"\n"),
-            ],
-        ),
-        Status::Budget { n } => write_pieces(
-            log,
-            &[
-                Piece::Text(b"mathset: formula "),
-                Piece::Word(*n),
-                Piece::Text(b" budget\n"),
-            ],
-        ),
-        Status::MissingFamily { n, fam, size } => write_pieces(
-            log,
-            &[
-                Piece::Text(b"mathset: formula "),
-                Piece::Word(*n),
-                Piece::Text(b" family "),
-                Piece::Byte(*fam),
-                Piece::Text(b" size "),
-                Piece::Size(*size),
-                Piece::Text(b" missing\n"),
-            ],
-        ),
-        Status::MissingChar { n, fam, size, code } => write_pieces(
-            log,
-            &[
-                Piece::Text(b"mathset: formula "),
-                Piece::Word(*n),
-                Piece::Text(b" family "),
-                Piece::Byte(*fam),
-                Piece::Text(b" size "),
-                Piece::Size(*size),
-                Piece::Text(b" code "),
-                Piece::Byte(*code),
-                Piece::Text(b" missing\n"),
-            ],
-        ),
+        Status::BadWords => write_text(log, b"mathset: words\n"),
+        Status::ReadFault { name } => write_file(log, b"mathset: cannot read ", name),
+        Status::TooLong { name } => write_file(log, b"mathset: too long ", name),
+        Status::WriteFault { written } => write_written(log, *written),
+        Status::FontList { line, cause } => write_list_line(log, *line, *cause),
+        Status::BadTfm { font, cause } => write_font(log, *font, *cause),
+        Status::BadFamily { fam, size, cause } => write_family(log, *fam, *size, *cause),
+        Status::BadSource { offset, cause } => write_source_byte(log, *offset, *cause),
+        Status::BadFormula { n, token, cause } => write_token(log, *n, *token, *cause),
+        Status::Budget { n } => write_formula(log, *n, b" budget\n"),
+        Status::MissingFamily { n, fam, size } => write_missing_family(log, *n, *fam, *size),
+        Status::MissingChar { n, fam, size, code } => write_char(log, *n, *fam, *size, *code),
         Status::SmartLigature {
             n,
             fam,
             size,
             first,
             second,
-        } => write_pieces(
-            log,
-            &[
-                Piece::Text(b"mathset: formula "),
-                Piece::Word(*n),
-                Piece::Text(b" family "),
-                Piece::Byte(*fam),
-                Piece::Text(b" size "),
-                Piece::Size(*size),
-                Piece::Text(b" pair "),
-                Piece::Byte(*first),
-                Piece::Text(b" "),
-                Piece::Byte(*second),
-                Piece::Text(b"\n"),
-            ],
-        ),
-        Status::Overflow { n, value } => write_pieces(
-            log,
-            &[
-                Piece::Text(b"mathset: formula "),
-                Piece::Word(*n),
-                Piece::Text(b" overflow "),
-                Piece::Signed(value),
-                Piece::Text(b"\n"),
-            ],
-        ),
-        Status::TooTall { n, count } => write_pieces(
-            log,
-            &[
-                Piece::Text(b"mathset: formula "),
-                Piece::Word(*n),
-                Piece::Text(b" repeats "),
-                Piece::Long(*count),
-                Piece::Text(b"\n"),
-            ],
-        ),
-        Status::TooDeep { n, token } => write_pieces(
-            log,
-            &[
-                Piece::Text(b"mathset: formula "),
-                Piece::Word(*n),
-                Piece::Text(b" token "),
-                Piece::Word(*token),
-                Piece::Text(b" depth\n"),
-            ],
-        ),
-        Status::TooMuch { kind, count } => write_pieces(
-            log,
-            &[
-                Piece::Text(b"mathset: too many "),
-                Piece::Text(much_text(*kind)),
-                Piece::Text(b" "),
-                Piece::Long(*count),
-                Piece::Text(b"\n"),
-            ],
-        ),
-        Status::BadDvi { offset, cause } => write_pieces(
-            log,
-            &[
-                Piece::Text(b"mathset: dvi byte "),
-                Piece::Long(*offset),
-                Piece::Text(b" cause "),
-                Piece::Byte(*cause),
-                Piece::Text(b"\n"),
-            ],
-        ),
-        Status::OutOfMemory => write_pieces(log, &[Piece::Text(b"mathset: out of memory\n")]),
-        Status::NotBuilt { n } => write_pieces(
-            log,
-            &[
-                Piece::Text(b"mathset: formula "),
-                Piece::Word(*n),
-                Piece::Text(b" not built\n"),
-            ],
-        ),
+        } => write_pair(log, *n, *fam, *size, *first, *second),
+        Status::Overflow { n, value } => write_overflow(log, *n, value),
+        Status::TooTall { n, count } => write_repeats(log, *n, *count),
+        Status::TooDeep { n, token } => write_depth(log, *n, *token),
+        Status::TooMuch { kind, count } => write_too_many(log, *kind, *count),
+        Status::BadDvi { offset, cause } => write_dvi_byte(log, *offset, *cause),
+        Status::OutOfMemory => write_text(log, b"mathset: out of memory\n"),
+        Status::NotBuilt { n } => write_formula(log, *n, b" not built\n"),
     }
 }

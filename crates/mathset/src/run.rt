@@ -1,9 +1,9 @@
 //! The top call.
 ghost use Rattle.std.specs.Prelude.{◌≡◌, ◌↔◌, ◌⊎◌, ◌<◌, Err, None, Some, List, ℕ, Contains, map, string_bytes};
-ghost use Rattle.mt_outside.specs.Counts.{Rose};
+ghost use Rattle.mt_outside.specs.Counts.{IsSteady, Rose};
 ghost use Rattle.mt_outside.specs.declared.files.Held.{Held};
 ghost use Rattle.mathset.specs.Answer.{answer, steps};
-ghost use Rattle.mathset.specs.Ends.{EndsAs, IsQuiet, IsReadFaultOrNoMemory, IsSteady, IsToldRefusal, IsWriteFault, WritesFile, WritesPart};
+ghost use Rattle.mathset.specs.Ends.{EndsAs, IsQuiet, IsReadFaultOrNoMemory, IsToldRefusal, IsWriteFault, WritesFile, WritesPart};
 ghost use Rattle.mathset.specs.Log.{Gets, log_line};
 ghost use Rattle.mathset.specs.Words.{set_words};
 

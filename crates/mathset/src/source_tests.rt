@@ -5,43 +5,26 @@ use crate::fonts::read_set;
 use crate::source::source_pages;
 use crate::status::Status;
 use crate::symbols::{Symbol, source_symbols};
+use crate::test_files::{LARGE, bytes_of, calls, toy_files};
 use mt_box::Place;
 use mt_family::FontSet;
-use mt_outside::{CallList, FileList, Held, MemoryCabinet};
-use mt_samples::{Toy, toy_list, toy_tfm};
-use mt_scaled::{Bytes, Name};
+use mt_outside::{FileList, MemoryCabinet};
+use mt_samples::toy_list;
+use mt_scaled::Bytes;
 use std::alloc::{AllocError, Global};
 use std::process::Abort;
 use std::test::Fail;
 
-fn held(alloc: Global, name: &[u8], bytes: Bytes) -> Result<Held, AllocError> {
-    Ok(Held {
-        name: Name::from_vec(name.to_vec(alloc)?),
-        bytes,
-    })
-}
-
-// The toy fonts, and a list of them.
+// The toy fonts, by a list of them.
 fn fonts(rt: &impl Abort, alloc: Global, list: Bytes) -> Result<FontSet, AllocError> {
-    let mut files = Vec::new(alloc);
-    files.push(held(alloc, b"fonts", list)?)?;
-    files.push(held(alloc, b"toyr.tfm", toy_tfm(alloc, Toy::Roman)?)?)?;
-    files.push(held(alloc, b"toym.tfm", toy_tfm(alloc, Toy::Italic)?)?)?;
-    files.push(held(alloc, b"toys.tfm", toy_tfm(alloc, Toy::Symbols)?)?)?;
-    files.push(held(alloc, b"toyx.tfm", toy_tfm(alloc, Toy::Extension)?)?)?;
-    let mut cabinet = MemoryCabinet::new(
-        FileList::from_vec(files),
-        CallList::from_vec(Vec::new(alloc)),
-    );
-    Ok(read_set(alloc, "fonts", &mut cabinet).expect(rt, "the fonts"))
+    let files = FileList::from_vec(toy_files(alloc, list)?);
+    let mut cabinet = MemoryCabinet::new(files, calls(alloc, &[])?);
+    Ok(read_set(alloc, "toy.fonts", &mut cabinet).expect(rt, "the fonts"))
 }
 
-// Lists of the toy fonts with family 1 at another size.
+// A list of the toy fonts with small letters.
 const SMALL: &[u8] =
     b"mathset fonts 1\nfont toyr 655360 -\nfont toym 32768 127\nfont toys 655360 -\nfont toyx 655360 -\nfamily 0 0 0 0\nfamily 1 1 1 1\nfamily 2 2 2 2\nfamily 3 3 3 3\n";
-
-const LARGE: &[u8] =
-    b"mathset fonts 1\nfont toyr 655360 -\nfont toym 134217727 127\nfont toys 655360 -\nfont toyx 655360 -\nfamily 0 0 0 0\nfamily 1 1 1 1\nfamily 2 2 2 2\nfamily 3 3 3 3\n";
 
 // A formula of a letter so many times.
 fn letters(alloc: Global, count: usize) -> Result<Vec<u8>, AllocError> {
@@ -175,7 +158,7 @@ fn sets_rows(rt: HostRuntime) -> Result<(), Fail> {
 #[test]
 fn sets_long_rows(rt: HostRuntime) -> Result<(), Fail> {
     let alloc = rt.alloc();
-    let fonts = fonts(&rt, alloc, Bytes::from_vec(SMALL.to_vec(alloc)?))?;
+    let fonts = fonts(&rt, alloc, bytes_of(alloc, SMALL)?)?;
     let page = places(&rt, alloc, &fonts, &letters(alloc, 50_000)?)?;
     assert_eq!(rt; page.len(), 50_000);
     let last = Place::Glyph {
@@ -192,7 +175,7 @@ fn sets_long_rows(rt: HostRuntime) -> Result<(), Fail> {
 fn finds_the_width_out_of_range(rt: HostRuntime) -> Result<(), Fail> {
     let alloc = rt.alloc();
     // At this size half of it is 67108856 by the rule for fix_words: 16 letters are 127 within the range.
-    let fonts = fonts(&rt, alloc, Bytes::from_vec(LARGE.to_vec(alloc)?))?;
+    let fonts = fonts(&rt, alloc, bytes_of(alloc, LARGE)?)?;
     let page = places(&rt, alloc, &fonts, &letters(alloc, 16)?)?;
     assert_eq!(rt; page.last().map(|place| place.h()), Some(1_006_632_840));
     let source = letters(alloc, 17)?;
@@ -208,7 +191,7 @@ fn needs_a_font(rt: HostRuntime) -> Result<(), Fail> {
     let alloc = rt.alloc();
     let list =
         b"mathset fonts 1\nfont toys 655360 -\nfont toyx 655360 -\nfont toym 655360 127\nfamily 1 2 2 2\nfamily 2 0 0 0\nfamily 3 1 1 1\n";
-    let fonts = fonts(&rt, alloc, Bytes::from_vec(list.to_vec(alloc)?))?;
+    let fonts = fonts(&rt, alloc, bytes_of(alloc, list)?)?;
     let page = places(&rt, alloc, &fonts, b"$a$")?;
     assert_eq!(rt; page.as_slice(), [glyph(2, b'a', 0)].as_slice());
     let status = source_pages(alloc, &fonts, b"$a1$")
