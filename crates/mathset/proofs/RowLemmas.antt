@@ -1,6 +1,7 @@
 -- The glyphs of symbols, their row, and the places of the row.
 use Rattle.std.proofs.Common.{◌≡◌, ℕ, zero, suc, ◌+◌, ◌-◌, ◌<◌, ◌≤◌, ◌^◌, List, [], ◌∷◌, ◌++◌, length, get_or, take, drop, map, refl, sym, ◌∙◌, ap, subst, append_assoc, add-one, drop-cons, true, false, arith}
 use Rattle.std.specs.Prelude.{ℤ, pos, negsuc, ◌+ℤ◌, Bool, ◌&&◌, not, ◌==◌, Option, Some, None, Result, Ok, Err, All, IfOk, IsSomeAnd, slice_get, if◌then◌else◌, nat_lt}
+use Rattle.std.specs.Option.{option_or}
 use Rattle.std.specs.Ordering.{int_eq}
 use Rattle.std.proofs.lemmas.Bool.Decides.{nat_tests}
 use Rattle.std.proofs.lemmas.Int.{ints}
@@ -28,7 +29,7 @@ use Rattle.mt_dvi.specs.Marks.{HasGlyph, IsWritable, all_marks}
 use Rattle.mt_dvi.specs.Refusal.{refusal_of}
 use Rattle.mathset.specs.Reads.{IsPure}
 use Rattle.mathset.specs.Symbols.{character_of}
-use Rattle.mathset.specs.Rows.{extents_of, family_of, glyph_at, glyph_by, glyph_of, glyph_piece, glyphs_of, glyphs_out, or_else, overflow, page_by, page_of, placed, placed_by, standing, with_glyph, within, row_of}
+use Rattle.mathset.specs.Rows.{extents_of, family_of, glyph_at, glyph_by, glyph_of, glyph_piece, glyphs_of, glyphs_out, overflow, page_by, page_of, placed, placed_by, standing, with_glyph, within, row_of}
 use Rattle.mathset.specs.declared.row.Glyph.{Glyph}
 use Rattle.mathset.specs.declared.status.Status.{Status}
 use Rattle.mathset.specs.declared.status.Status.TheVariants.{NotBuilt}
@@ -54,7 +55,7 @@ extents_in e is =
     let each = all_in (is_in_range e.width) (is_in_range e.height) (is_in_range e.depth) e.width e.height e.depth is in
     record { width = in_range e.width each.0; height = in_range e.height each.1; depth = in_range e.depth each.2 }
 
-or_none : (a b : Option ℤ) → or_else a b ≡ None → (a ≡ None) × (b ≡ None)
+or_none : (a b : Option ℤ) → option_or a b ≡ None → (a ≡ None) × (b ≡ None)
 or_none None b is = (refl, is)
 or_none (Some v) b is = absurd (cc)
 
@@ -202,13 +203,13 @@ glyph_there glyphs i d lt = rw add-one (drop-cons glyphs i d lt)
 pub out_more : (glyphs : List Glyph) (i : ℕ) (d : Glyph) → i < length glyphs → first_out (get_or glyphs i d).extents ≡ None
     → glyphs_out (drop i glyphs) ≡ glyphs_out (drop (i + 1) glyphs)
 out_more glyphs i d lt is =
-    ap glyphs_out (glyph_there glyphs i d lt) ∙ ap (λ (o : Option ℤ). or_else o (glyphs_out (drop (i + 1) glyphs))) is
+    ap glyphs_out (glyph_there glyphs i d lt) ∙ ap (λ (o : Option ℤ). option_or o (glyphs_out (drop (i + 1) glyphs))) is
 
 -- the first that is not
 pub out_there : (glyphs : List Glyph) (i : ℕ) (d : Glyph) (value : ℤ) → i < length glyphs → first_out (get_or glyphs i d).extents ≡ Some value
     → glyphs_out (drop i glyphs) ≡ Some value
 out_there glyphs i d value lt is =
-    ap glyphs_out (glyph_there glyphs i d lt) ∙ ap (λ (o : Option ℤ). or_else o (glyphs_out (drop (i + 1) glyphs))) is
+    ap glyphs_out (glyph_there glyphs i d lt) ∙ ap (λ (o : Option ℤ). option_or o (glyphs_out (drop (i + 1) glyphs))) is
 
 pub out_none : (glyphs : List Glyph) (i : ℕ) → length glyphs ≤ i → glyphs_out (drop i glyphs) ≡ None
 out_none glyphs i past = ap glyphs_out (drop_all i glyphs past)

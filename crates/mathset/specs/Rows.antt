@@ -1,6 +1,7 @@
 -- The row of a formula's glyphs, and the page that it stands on.
 use Rattle.std.specs.Prelude.{ℕ, ℤ, pos, List, [], ◌∷◌, map, Option, Some, None, Result, Ok, Err, if◌then◌else◌}
 use Rattle.std.specs.List.{slice_get}
+use Rattle.std.specs.Option.{option_or}
 use Rattle.mt_tfm.specs.Font.{Metrics, bare, width_of, height_of, depth_of}
 use Rattle.mt_family.specs.SetValue.{SetValue, number_in}
 use Rattle.mt_family.specs.declared.size.Size.TheVariants.{Text}
@@ -62,14 +63,10 @@ glyphs_of set (s ∷ ss) = with_glyph (glyph_of set s) (glyphs_of set ss)
 abbrev pub overflow : ℤ → Status
 overflow value = Overflow 1 value
 
-abbrev pub or_else : Option ℤ → Option ℤ → Option ℤ
-or_else None other = other
-or_else (Some value) other = Some value
-
 -- the first extent of a glyph that is out of range
 abbrev pub glyphs_out : List Glyph → Option ℤ
 glyphs_out [] = None
-glyphs_out (g ∷ gs) = or_else (first_out g.extents) (glyphs_out gs)
+glyphs_out (g ∷ gs) = option_or (first_out g.extents) (glyphs_out gs)
 
 abbrev pub glyph_piece : Glyph → Piece
 glyph_piece g = GlyphPiece g.font g.code g.extents

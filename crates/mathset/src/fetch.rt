@@ -28,6 +28,11 @@ fn refusal(alloc: Global, word: &str, error: FetchError) -> Status
 }
 
 /// Fetches the whole file of a name, if it has at most `limit` bytes.
+///
+/// # Errors
+///
+/// `ReadFault` where the cabinet could not read the file, `TooLong` where it is longer than `limit`, both with the name.
+/// `OutOfMemory` where memory ran out.
 pub fn fetch_file<C: Cabinet>(
     alloc: Global,
     cabinet: &mut C,

@@ -21,15 +21,17 @@ const FONT_LIST_LIMIT: u64 = 65_536;
 /// The most bytes that a TFM file may have: its head can speak of no more.
 const TFM_LIMIT: u64 = 131_068;
 
-fn list_refusal(error: ListError) -> Status
-    ensures { result ≡ list_refusal error }
-{
-    match error {
-        ListError::BadLine(line) => Status::FontList { line, cause: 1 },
-        ListError::Repeated(line) => Status::FontList { line, cause: 2 },
-        ListError::UnknownFont(line) => Status::FontList { line, cause: 3 },
-        ListError::TooMany(line) => Status::FontList { line, cause: 4 },
-        ListError::OutOfMemory => Status::OutOfMemory,
+impl From<ListError> for Status {
+    ghost from_gives = { λ error status. status ≡ list_refusal error };
+
+    fn from(error: ListError) -> Self {
+        match error {
+            ListError::BadLine(line) => Status::FontList { line, cause: 1 },
+            ListError::Repeated(line) => Status::FontList { line, cause: 2 },
+            ListError::UnknownFont(line) => Status::FontList { line, cause: 3 },
+            ListError::TooMany(line) => Status::FontList { line, cause: 4 },
+            ListError::OutOfMemory => Status::OutOfMemory,
+        }
     }
 }
 
@@ -50,21 +52,23 @@ fn font_refusal(font: u32, error: TfmError) -> Status
     }
 }
 
-fn set_refusal(error: SetError) -> Status
-    ensures { result ≡ set_refusal error }
-{
-    match error {
-        SetError::NoMathFamily { fam, size } => Status::BadFamily {
-            fam,
-            size,
-            cause: 1,
-        },
-        SetError::FewParameters { fam, size } => Status::BadFamily {
-            fam,
-            size,
-            cause: 2,
-        },
-        SetError::OutOfMemory => Status::OutOfMemory,
+impl From<SetError> for Status {
+    ghost from_gives = { λ error status. status ≡ set_refusal error };
+
+    fn from(error: SetError) -> Self {
+        match error {
+            SetError::NoMathFamily { fam, size } => Status::BadFamily {
+                fam,
+                size,
+                cause: 1,
+            },
+            SetError::FewParameters { fam, size } => Status::BadFamily {
+                fam,
+                size,
+                cause: 2,
+            },
+            SetError::OutOfMemory => Status::OutOfMemory,
+        }
     }
 }
 
@@ -73,10 +77,7 @@ fn list_in(alloc: Global, bytes: &[u8]) -> Result<FontList, Status>
     ensures is { IsPure (list_by (font_list bytes.now)) result }
     ensures facts { IfOk result (λ list. IsFontList list) }
 {
-    match read_font_list(alloc, bytes) {
-        Ok(list) => Ok(list),
-        Err(error) => Err(list_refusal(error)),
-    }
+    Ok(read_font_list(alloc, bytes)?)
 }
 
 fn read_list<C: Cabinet>(alloc: Global, name: &str, cabinet: &mut C) -> Result<FontList, Status>
@@ -123,9 +124,7 @@ fn read_font<C: Cabinet>(
     ensures skew { IfOk result (λ font. font.skew ≡ line.now.skew) }
     ensures holds { C.holds cabinet.new ≡ C.holds cabinet.old }
 {
-    let Ok(name) = tfm_name(alloc, &line.name) else {
-        return Err(Status::OutOfMemory);
-    };
+    let name = tfm_name(alloc, &line.name)?;
     let bytes = fetch_file(alloc, cabinet, &name, TFM_LIMIT)?;
     font_in(alloc, number, line, bytes.as_slice())
 }
@@ -144,14 +143,8 @@ fn read_fonts<C: Cabinet>(
 {
     let mut fonts = Vec::new(alloc);
     for line in lines {
-        let font = match read_font(alloc, fonts.len() as u32, line, cabinet) {
-            Ok(font) => font,
-            Err(status) => return Err(status),
-        };
-        match fonts.push(font) {
-            Ok(()) => {}
-            Err(_) => return Err(Status::OutOfMemory),
-        }
+        let font = read_font(alloc, fonts.len() as u32, line, cabinet)?;
+        fonts.push(font)?;
     }
     Ok(Fonts::from_vec(fonts))
 }
@@ -160,23 +153,24 @@ fn set_of(alloc: Global, list: FontList, fonts: Fonts) -> Result<FontSet, Status
     requires { AreLoaded list.lines fonts }
     ensures is { IsPure (set_of list fonts) result }
 {
-    match FontSet::build(alloc, list, fonts) {
-        Ok(set) => Ok(set),
-        Err(error) => Err(set_refusal(error)),
-    }
+    Ok(FontSet::build(alloc, list, fonts)?)
 }
 
 fn load<C: Cabinet>(alloc: Global, list: FontList, cabinet: &mut C) -> Result<FontSet, Status>
     ensures is { IsStep (C.holds cabinet.old) (C.faults cabinet.old) (C.faults cabinet.new) (C.lost cabinet.new) (loaded_step list) result }
     ensures holds { C.holds cabinet.new ≡ C.holds cabinet.old }
 {
-    match read_fonts(alloc, list.lines.as_slice(), cabinet) {
-        Ok(fonts) => set_of(alloc, list, fonts),
-        Err(status) => Err(status),
-    }
+    let fonts = read_fonts(alloc, list.lines.as_slice(), cabinet)?;
+    set_of(alloc, list, fonts)
 }
 
-/// Reads the font list of a name, and the fonts that it names.
+/// Reads the font list of a name, and the fonts that it names, each from its file NAME.tfm.
+///
+/// # Errors
+///
+/// The first of these, in the order in which the files are read: `ReadFault` or `TooLong` where a file could not be fetched,
+/// `FontList` where the list is at fault, `BadTfm` where a font is, and `BadFamily` where family 2 or 3 does not serve a size.
+/// `OutOfMemory` where memory ran out.
 pub fn read_set<C: Cabinet>(alloc: Global, name: &str, cabinet: &mut C) -> Result<FontSet, Status>
     ensures is { IsStep (C.holds cabinet.old) (C.faults cabinet.old) (C.faults cabinet.new) (C.lost cabinet.new) (set_step name.now) result }
     ensures holds { C.holds cabinet.new ≡ C.holds cabinet.old }

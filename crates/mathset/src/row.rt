@@ -74,9 +74,7 @@ fn glyphs_of(alloc: Global, fonts: &FontSet, symbols: &[Symbol]) -> Result<Items
         let Some(glyph) = glyph_of(fonts, *symbol) else {
             return Err(Status::NotBuilt { n: 1 });
         };
-        if glyphs.push(glyph).is_err() {
-            return Err(Status::OutOfMemory);
-        }
+        glyphs.push(glyph)?;
     }
     Ok(Items::from_vec(glyphs))
 }
@@ -112,9 +110,7 @@ fn row_of(alloc: Global, glyphs: &[Glyph]) -> Result<Row, Status>
         if let Some(value) = first_out(glyph.extents) {
             return Err(overflow(value));
         }
-        if push_glyph(&mut row, *glyph).is_err() {
-            return Err(Status::OutOfMemory);
-        }
+        push_glyph(&mut row, *glyph)?;
     }
     Ok(Items::from_vec(row))
 }
@@ -169,9 +165,7 @@ fn one_page(alloc: Global, page: PlaceList) -> Result<PageList, Status>
     ensures { IsPure (Ok (page ∷ [])) result }
 {
     let mut pages = Vec::new(alloc);
-    if pages.push(page).is_err() {
-        return Err(Status::OutOfMemory);
-    }
+    pages.push(page)?;
     Ok(Items::from_vec(pages))
 }
 

@@ -48,10 +48,8 @@ fn typeset_source(alloc: Global, fonts: FontSet, source: &[u8]) -> Result<Typese
     requires { length source.now ≤ 4194304 }
     ensures is { IsPure (typeset_of fonts source.now) result }
 {
-    match source_pages(alloc, &fonts, source) {
-        Ok(pages) => Ok(Typeset { fonts, pages }),
-        Err(status) => Err(status),
-    }
+    let pages = source_pages(alloc, &fonts, source)?;
+    Ok(Typeset { fonts, pages })
 }
 
 fn read_source<C: Cabinet>(
@@ -63,10 +61,8 @@ fn read_source<C: Cabinet>(
     ensures is { IsStep (C.holds cabinet.old) (C.faults cabinet.old) (C.faults cabinet.new) (C.lost cabinet.new) (source_step name.now fonts) result }
     ensures holds { C.holds cabinet.new ≡ C.holds cabinet.old }
 {
-    match fetch_file(alloc, cabinet, name, SOURCE_LIMIT) {
-        Ok(source) => typeset_source(alloc, fonts, source.as_slice()),
-        Err(status) => Err(status),
-    }
+    let source = fetch_file(alloc, cabinet, name, SOURCE_LIMIT)?;
+    typeset_source(alloc, fonts, source.as_slice())
 }
 
 // The pages of the source, in the fonts of the font list.
@@ -74,10 +70,8 @@ fn make<C: Cabinet>(alloc: Global, files: SetFiles<'_>, cabinet: &mut C) -> Resu
     ensures is { IsStep (C.holds cabinet.old) (C.faults cabinet.old) (C.faults cabinet.new) (C.lost cabinet.new) (set_steps (named files.entry)) result }
     ensures holds { C.holds cabinet.new ≡ C.holds cabinet.old }
 {
-    match read_set(alloc, files.fonts, cabinet) {
-        Ok(fonts) => read_source(alloc, files.source, fonts, cabinet),
-        Err(status) => Err(status),
-    }
+    let fonts = read_set(alloc, files.fonts, cabinet)?;
+    read_source(alloc, files.source, fonts, cabinet)
 }
 
 // Writes the DVI file of the pages, which is made in memory first.
@@ -94,7 +88,10 @@ fn write<K: Sink>(alloc: Global, typeset: &Typeset, out: &mut K) -> Status
     }
 }
 
-/// Sets the source in the fonts of the font list, and writes the DVI file of its pages.
+/// Sets the source in the fonts of the font list, and writes the DVI file of its pages at once.
+///
+/// The first refusal of the font list, of its fonts in order, of the families and of the source is the answer, and nothing is
+/// written then. Else it is `Done`, or `WriteFault` with the number of bytes that the output got.
 pub fn set<C: Cabinet, K: Sink>(
     alloc: Global,
     files: SetFiles<'_>,

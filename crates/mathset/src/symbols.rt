@@ -142,9 +142,7 @@ fn body(alloc: Global, tokens: &[Token]) -> Result<Symbols, Status>
     ensures is { IsPure (body (map kind_of tokens.now)) result }
     ensures few { IfOk result (λ symbols. length symbols ≤ 50000) }
 {
-    let Ok(symbols) = leading(alloc, tokens) else {
-        return Err(Status::OutOfMemory);
-    };
+    let symbols = leading(alloc, tokens)?;
     if !ends_after(symbols.len(), tokens) {
         return Err(Status::NotBuilt { n: 1 });
     }
