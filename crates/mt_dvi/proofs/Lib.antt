@@ -1,5 +1,5 @@
-pub mod SampleFiles
-pub mod MutatedFiles
+mod SampleFiles
+mod MutatedFiles
 pub mod CodeLemmas
 pub mod Prefix
 pub mod Moves

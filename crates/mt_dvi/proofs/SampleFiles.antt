@@ -51,22 +51,22 @@ fonts = record {
 abbrev no_fonts : SetValue
 no_fonts = record { lines = []; families = []; fonts = [] }
 
-pub empty_is : seen (read no_fonts empty) ≡ Ok []
+empty_is : seen (read no_fonts empty) ≡ Ok []
 unfolding read reading operation operand_size
 empty_is = refl
 
-pub empty_cut : seen (read no_fonts (take 55 empty)) ≡ Ok []
+empty_cut : seen (read no_fonts (take 55 empty)) ≡ Ok []
 unfolding read reading operation operand_size
 empty_cut = refl
 
-pub empty_cut_more : seen (read no_fonts (take 47 empty)) ≡ Err (record { cause = Truncated; at = 44 })
+empty_cut_more : seen (read no_fonts (take 47 empty)) ≡ Err (record { cause = Truncated; at = 44 })
 unfolding read reading operation operand_size
 empty_cut_more = refl
 
-pub one_is : seen (read fonts one) ≡ Ok ((record { place = places.Glyph 3 97 (pos 0) (pos 327680); put = false } ∷ []) ∷ [])
+one_is : seen (read fonts one) ≡ Ok ((record { place = places.Glyph 3 97 (pos 0) (pos 327680); put = false } ∷ []) ∷ [])
 unfolding read reading operation operand_size
 one_is = refl
 
-pub one_cut : seen (read fonts (take 100 one)) ≡ Err (record { cause = Truncated; at = 88 })
+one_cut : seen (read fonts (take 100 one)) ≡ Err (record { cause = Truncated; at = 88 })
 unfolding read reading operation operand_size
 one_cut = refl

@@ -8,7 +8,7 @@ use Rattle.mt_macro.specs.declared.table.Macro.{Macro}
 use Rattle.mt_macro.specs.Table.{Table, macro_at}
 use Rattle.std.specs.Borrow.{Bor}
 use Rattle.mt_macro.specs.Arguments.{Arguments, arguments, fill, lent}
-use Rattle.mt_macro.specs.Expansion.{Stepped, Done, Missing, Next, past, step, step_at, replaced, Outcome, Expanded, OverBudget, NoArgument, at_last, further, within, run, Overflows, Fitting}
+use Rattle.mt_macro.specs.Expansion.{Stepped, Done, Missing, Next, past, step, step_at, replaced, Outcome, Expanded, OverBudget, NoArgument, at_last, further, within, run, ExceedsBudget, FitsBudget}
 
 pub lent_length : (ts : List (Bor Token)) → length (lent ts) ≡ length ts
 lent_length [] = refl
@@ -123,12 +123,12 @@ unfolding run
 run_long table zero steps list h = rw (long (length list) h) refl
 run_long table (suc left) steps list h = rw (long (length list) h) refl
 
-pub going_over : (whole : Outcome) (table : Table) (left left' steps n passed : ℕ) (out rest rest' : List Token) (t : Token) (m : Macro) → Going whole table left steps out rest → rest ≡ t ∷ rest' → macro_at table t ≡ Some m → left ≡ suc left' → passed ≡ length out → Overflows passed n (replaced m (arguments m.params rest')) → whole ≡ OverBudget (steps + 1) n
+pub going_over : (whole : Outcome) (table : Table) (left left' steps n passed : ℕ) (out rest rest' : List Token) (t : Token) (m : Macro) → Going whole table left steps out rest → rest ≡ t ∷ rest' → macro_at table t ≡ Some m → left ≡ suc left' → passed ≡ length out → ExceedsBudget passed n (replaced m (arguments m.params rest')) → whole ≡ OverBudget (steps + 1) n
 going_over whole table left left' steps n passed out rest rest' t m g e f l p o =
     let size : length (out ++ o.list) ≡ n = omega (arith, length-append out o.list, o.count, p) in
     going_next whole table left left' steps out rest rest' o.list t m g e f l o.is ∙ (run_long table left' (steps + 1) (out ++ o.list) (omega (arith, size, o.over)) ∙ ap (OverBudget (steps + 1)) size)
 
-pub going_on : (whole : Outcome) (table : Table) (left left' steps passed : ℕ) (out rest rest' after : List Token) (t : Token) (m : Macro) → Going whole table left steps out rest → rest ≡ t ∷ rest' → macro_at table t ≡ Some m → left ≡ suc left' → passed ≡ length out → Fitting passed (replaced m (arguments m.params rest')) after → Going whole table left' (steps + 1) out after
+pub going_on : (whole : Outcome) (table : Table) (left left' steps passed : ℕ) (out rest rest' after : List Token) (t : Token) (m : Macro) → Going whole table left steps out rest → rest ≡ t ∷ rest' → macro_at table t ≡ Some m → left ≡ suc left' → passed ≡ length out → FitsBudget passed (replaced m (arguments m.params rest')) after → Going whole table left' (steps + 1) out after
 going_on whole table left left' steps passed out rest rest' after t m g e f l p o = record {
   is = going_next whole table left left' steps out rest rest' after t m g e f l o.is;
   plain = g.plain;
@@ -140,14 +140,14 @@ going_on whole table left left' steps passed out rest rest' after t m g e f l p 
 filled_next : (m : Macro) (rest after text body : List Token) (given args : List (List Token)) → arguments m.params rest ≡ Some (record { arguments = args; after = after }) → text ≡ m.body → given ≡ args → body ≡ fill given text → replaced m (arguments m.params rest) ≡ Next (body ++ after)
 filled_next m rest after text body given args a x y b = ap (replaced m) a ∙ ap (λ v. Next (v ++ after)) (sym (b ∙ (ap (fill given) x ∙ ap (λ v. fill v m.body) y)))
 
-pub fitting : (passed n : ℕ) (m : Macro) (rest after next text body : List Token) (given args : List (List Token)) → arguments m.params rest ≡ Some (record { arguments = args; after = after }) → text ≡ m.body → given ≡ args → body ≡ fill given text → next ≡ body ++ after → n ≡ passed + length after + length (fill given text) → n ≤ 50000 → Fitting passed (replaced m (arguments m.params rest)) next
-fitting passed n m rest after next text body given args a x y b e k h = record {
+pub fits_budget : (passed n : ℕ) (m : Macro) (rest after next text body : List Token) (given args : List (List Token)) → arguments m.params rest ≡ Some (record { arguments = args; after = after }) → text ≡ m.body → given ≡ args → body ≡ fill given text → next ≡ body ++ after → n ≡ passed + length after + length (fill given text) → n ≤ 50000 → FitsBudget passed (replaced m (arguments m.params rest)) next
+fits_budget passed n m rest after next text body given args a x y b e k h = record {
   is = filled_next m rest after text body given args a x y b ∙ ap Next (sym e);
   room = omega (arith, h, k, ap length e, ap length b, length-append body after);
 }
 
-pub overflows : (passed n : ℕ) (m : Macro) (rest after text : List Token) (given args : List (List Token)) → arguments m.params rest ≡ Some (record { arguments = args; after = after }) → text ≡ m.body → given ≡ args → n ≡ passed + length after + length (fill given text) → 50000 < n → Overflows passed n (replaced m (arguments m.params rest))
-overflows passed n m rest after text given args a x y k h = record {
+pub exceeds_budget : (passed n : ℕ) (m : Macro) (rest after text : List Token) (given args : List (List Token)) → arguments m.params rest ≡ Some (record { arguments = args; after = after }) → text ≡ m.body → given ≡ args → n ≡ passed + length after + length (fill given text) → 50000 < n → ExceedsBudget passed n (replaced m (arguments m.params rest))
+exceeds_budget passed n m rest after text given args a x y k h = record {
   list = fill given text ++ after;
   is = filled_next m rest after text (fill given text) given args a x y refl;
   count = omega (arith, k, length-append (fill given text) after);

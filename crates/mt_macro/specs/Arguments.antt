@@ -25,6 +25,7 @@ argument (t ∷ rest) =
     else if is_space t then argument rest
     else Some (record { argument = t ∷ []; after = rest })
 
+-- arguments that were taken, and the tokens after them
 pub record Arguments : Type 0 where
   pub arguments : List (List Token)
   pub after : List Token
@@ -55,14 +56,16 @@ lent ts = map (λ (t : Bor Token). t.now) ts
 abbrev pub lent_lists : List (List (Bor Token)) → List (List Token)
 lent_lists vs = map (λ (v : List (Bor Token)). lent v) vs
 
--- what a reader of an argument took is this, and it left the rest
+-- what was taken, if anything, is this argument, and these tokens are left after it
 abbrev pub Takes : Option (List Token) → Option Taken → List Token → Type 0
 Takes None expected after = expected ≡ None
 Takes (Some argument) expected after = expected ≡ Some (record { argument = argument; after = after })
 
+-- the same of several arguments
 abbrev pub TakesAll : Option (List (List Token)) → Option Arguments → List Token → Type 0
 TakesAll None expected after = expected ≡ None
 TakesAll (Some all) expected after = expected ≡ Some (record { arguments = all; after = after })
 
-abbrev pub Short : List (Bor Token) → Type 0
-Short argument = length argument < 2 ^ 31
+-- an argument that is short enough for the tokens of a filled body to be counted
+abbrev pub IsShortArgument : List (Bor Token) → Type 0
+IsShortArgument argument = length argument < 2 ^ 31

@@ -4,12 +4,11 @@ use Rattle.mt_token.specs.declared.token.Token.{Token}
 use Rattle.mt_macro.specs.declared.table.Macro.{Macro}
 use Rattle.mt_macro.specs.Braces.{first_unmatched}
 use Rattle.mt_macro.specs.Table.{Table, macro_at}
-use Rattle.std.specs.Borrow.{Bor}
 use Rattle.mt_macro.specs.declared.expansion.ExpandError.{ExpandError}
 use Rattle.mt_macro.specs.declared.expansion.ExpandError.TheVariants.{Budget, MissingArgument, Unbalanced, TooLong, OutOfMemory}
 use Rattle.mt_macro.specs.declared.expansion.Replacement.{Replacement}
 use Rattle.mt_macro.specs.declared.expansion.Replacement.TheVariants.{NoArgument as NoArgumentThere, TooLong as OverLength, Done as ReplacementDone}
-use Rattle.mt_macro.specs.Arguments.{Arguments, arguments, fill, lent}
+use Rattle.mt_macro.specs.Arguments.{Arguments, arguments, fill}
 
 -- what one step makes of a list
 pub data Stepped : Type 0 where
@@ -73,33 +72,33 @@ expansion table list =
     if nat_lt 50000 (length list) then ListTooLong
     else unless_unmatched (first_unmatched 0 list) (run table 20000 0 list)
 
-abbrev pub OfFault : ExpandError → Outcome → Type 0
-OfFault (Budget steps n) o = o ≡ OverBudget steps n
-OfFault (MissingArgument place) o = o ≡ NoArgument place
-OfFault (Unbalanced place) o = o ≡ NoPartner place
-OfFault TooLong o = o ≡ ListTooLong
-OfFault OutOfMemory o = Unit {0}
+-- the error is that of this outcome, or want of memory
+abbrev pub IsErrorOf : ExpandError → Outcome → Type 0
+IsErrorOf (Budget steps n) o = o ≡ OverBudget steps n
+IsErrorOf (MissingArgument place) o = o ≡ NoArgument place
+IsErrorOf (Unbalanced place) o = o ≡ NoPartner place
+IsErrorOf TooLong o = o ≡ ListTooLong
+IsErrorOf OutOfMemory o = Unit {0}
 
 -- the result is this outcome, or want of memory
 abbrev pub Expands : Result (List Token) ExpandError → Outcome → Type 0
 Expands (Ok list) o = o ≡ Expanded list
-Expands (Err e) o = OfFault e o
+Expands (Err e) o = IsErrorOf e o
 
-abbrev pub Runs : Result (List (Bor Token)) ExpandError → Outcome → Type 0
-Runs (Ok list) o = o ≡ Expanded (lent list)
-Runs (Err e) o = OfFault e o
-
-pub record Overflows (passed n : ℕ) (s : Stepped) : Type 0 where
+-- a step makes the list longer than 50,000 tokens, which is its length, where so many tokens stand before the macro
+pub record ExceedsBudget (passed n : ℕ) (s : Stepped) : Type 0 where
   pub list : List Token
   pub is : s ≡ Next list
   pub count : n ≡ passed + length list
   pub over : 50000 < n
 
-pub record Fitting (passed : ℕ) (s : Stepped) (after : List Token) : Type 0 where
+-- a step leaves these tokens from the macro's place on, and the list has at most 50,000 tokens
+pub record FitsBudget (passed : ℕ) (s : Stepped) (after : List Token) : Type 0 where
   pub is : s ≡ Next after
   pub room : passed + length after ≤ 50000
 
+-- what became of a macro is what the step makes of it, where so many tokens stand before it
 abbrev pub Replaces : ℕ → Replacement → Stepped → List Token → Type 0
 Replaces passed NoArgumentThere s after = s ≡ Missing 0
-Replaces passed (OverLength n) s after = Overflows passed n s
-Replaces passed ReplacementDone s after = Fitting passed s after
+Replaces passed (OverLength n) s after = ExceedsBudget passed n s
+Replaces passed ReplacementDone s after = FitsBudget passed s after

@@ -39,10 +39,10 @@ abbrev pub own_count : Table → ℕ
 own_count table = sum_by (λ (m : Macro). if m.own then 1 else 0) (values_of table)
 
 -- a body whose tokens can be counted
-abbrev pub IsShort : Macro → Type 0
-IsShort m = length m.body ≤ 2 ^ 32
+abbrev pub HasShortBody : Macro → Type 0
+HasShortBody m = length m.body ≤ 2 ^ 32
 
 -- what holds of the macros beside a count of the user's own names
 pub record IsKept (table : Table) (own_names : ℕ) : Type 0 where
   pub counted : own_names ≡ own_count table
-  pub short : All IsShort (values_of table)
+  pub short : All HasShortBody (values_of table)

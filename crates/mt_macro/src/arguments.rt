@@ -2,10 +2,11 @@
 ghost use Rattle.std.specs.Prelude.{◌≡◌, ◌<◌, ◌≤◌, ◌+◌, ◌^◌, ◌++◌, ◌∷◌, [], IfOk, IfSome, OnOk, length, All};
 ghost use Rattle.std.specs.Option.{option_map};
 ghost use Rattle.mt_macro.specs.Braces.{group};
-ghost use Rattle.mt_macro.specs.Arguments.{is_space, argument, arguments, lent, Takes, TakesAll, lent_lists, Short};
+ghost use Rattle.mt_macro.specs.Arguments.{is_space, argument, arguments, lent, Takes, TakesAll, lent_lists, IsShortArgument};
 
 use crate::braces::{closes_none, is_close, is_open, level_after};
 use crate::inputs::Inputs;
+use crate::spare::SpareLists;
 use mt_scaled::Items;
 use mt_token::{Token, TokenKind};
 use std::alloc::{AllocError, Global};
@@ -29,13 +30,16 @@ pub fn push_lent<'a>(list: &mut Vec<&'a Token>, token: &'a Token) -> Result<(), 
 }
 
 // Takes the rest of a group, with the brace that closes it; the brace is left out of what it gives.
-fn take_group<'a>(alloc: Global, rest: &mut Inputs<'a>) -> Result<Option<Argument<'a>>, AllocError>
+fn take_group<'a>(
+    spare: &mut SpareLists<'a>,
+    rest: &mut Inputs<'a>,
+) -> Result<Option<Argument<'a>>, AllocError>
     requires { length rest.old < 2 ^ 31 }
     ensures short { IfOk result (λ taken. IfSome taken (λ a. length a ≤ length rest.old)) }
     ensures takes { IfOk result (λ taken. Takes (option_map (λ v. lent v) taken) (group 0 rest.old) rest.new) }
     ensures falls { length rest.new ≤ length rest.old }
 {
-    let mut inside = Vec::new(alloc);
+    let mut inside = spare.take();
     let mut level = 0;
     while let Some(token) = rest.pop() {
         if closes_none(level, token) {
@@ -49,7 +53,7 @@ fn take_group<'a>(alloc: Global, rest: &mut Inputs<'a>) -> Result<Option<Argumen
 
 // Takes Spaces, and then a token or a group.
 fn take_argument<'a>(
-    alloc: Global,
+    spare: &mut SpareLists<'a>,
     rest: &mut Inputs<'a>,
 ) -> Result<Option<Argument<'a>>, AllocError>
     requires { length rest.old < 2 ^ 31 }
@@ -59,13 +63,13 @@ fn take_argument<'a>(
 {
     while let Some(token) = rest.pop() {
         if is_open(token) {
-            return take_group(alloc, rest);
+            return take_group(spare, rest);
         }
         if is_close(token) {
             return Ok(None);
         }
         if !is_space(token) {
-            let mut one = Vec::new(alloc);
+            let mut one = spare.take();
             push_lent(&mut one, token)?;
             return Ok(Some(Argument::from_vec(one)));
         }
@@ -76,11 +80,12 @@ fn take_argument<'a>(
 /// Takes so many arguments; `None` where one is missing.
 pub fn take_arguments<'a>(
     alloc: Global,
+    spare: &mut SpareLists<'a>,
     rest: &mut Inputs<'a>,
     params: u8,
 ) -> Result<Option<Vec<Argument<'a>>>, AllocError>
     requires { length rest.old < 2 ^ 31 }
-    ensures short { IfOk result (λ taken. IfSome taken (λ all. All Short all.items)) }
+    ensures short { IfOk result (λ taken. IfSome taken (λ all. All IsShortArgument all.items)) }
     ensures takes { IfOk result (λ taken. TakesAll (option_map (λ v. lent_lists v.items) taken) (arguments params rest.old) rest.new) }
     ensures falls { length rest.new ≤ length rest.old }
 {
@@ -88,7 +93,7 @@ pub fn take_arguments<'a>(
     let mut left = params;
     while left > 0 {
         left -= 1;
-        match take_argument(alloc, rest)? {
+        match take_argument(spare, rest)? {
             Some(argument) => push_argument(&mut taken, argument)?,
             None => return Ok(None),
         }
@@ -97,7 +102,7 @@ pub fn take_arguments<'a>(
 }
 
 fn push_argument<'a>(list: &mut Vec<Argument<'a>>, argument: Argument<'a>) -> Result<(), AllocError>
-    ensures short { All Short list.old.items → Short argument.entry → OnOk result (All Short list.new.items) }
+    ensures short { All IsShortArgument list.old.items → IsShortArgument argument.entry → OnOk result (All IsShortArgument list.new.items) }
     ensures is { OnOk result (lent_lists list.new.items ≡ lent_lists list.old.items ++ lent argument.entry ∷ []) }
 {
     list.push(argument)?;

@@ -1,14 +1,15 @@
 //! Expansion: macros are replaced, one step after another, until none is left.
 ghost use Rattle.std.specs.Prelude.{◌≡◌, ◌<◌, ◌≤◌, ◌+◌, IfOk, length};
-ghost use Rattle.mt_macro.specs.Table.{IsShort};
+ghost use Rattle.mt_macro.specs.Table.{HasShortBody};
 ghost use Rattle.mt_macro.specs.Arguments.{lent, arguments};
-ghost use Rattle.mt_macro.specs.Expansion.{run, expansion, Expands, Runs, Replaces, replaced};
+ghost use Rattle.mt_macro.specs.Expansion.{run, expansion, Expands, Replaces, replaced};
 ghost use Rattle.mt_macro.specs.declared.expansion.ExpandError.TheVariants.{OutOfMemory};
 
 use crate::arguments::{Argument, push_lent, take_arguments};
 use crate::braces::first_unmatched;
 use crate::filling::{filled, filled_len};
 use crate::inputs::Inputs;
+use crate::spare::SpareLists;
 use crate::table::{Macro, Macros};
 use mt_token::{Token, TokenList};
 use std::alloc::{AllocError, Global};
@@ -67,8 +68,7 @@ pub fn expand(alloc: Global, macros: &Macros, list: &[Token]) -> Result<TokenLis
     if let Some(place) = first_unmatched(list) {
         return Err(ExpandError::Unbalanced(place as u32));
     }
-    let passed = run_steps(alloc, macros, list)?;
-    Ok(lent_tokens(alloc, passed.as_slice())?)
+    run_steps(alloc, macros, list)
 }
 
 // Lent tokens, in memory of their own.
@@ -95,13 +95,14 @@ fn replace<'a>(
     alloc: Global,
     found: &'a Macro,
     rest: &mut Inputs<'a>,
+    spare: &mut SpareLists<'a>,
     passed: usize,
 ) -> Result<Replacement, AllocError>
     requires rest { passed + length rest.old ≤ 50000 }
-    requires body { IsShort found.now }
+    requires body { HasShortBody found.now }
     ensures { IfOk result (λ r. Replaces passed r (replaced found.now (arguments found.now.params rest.old)) rest.new) }
 {
-    let Some(arguments) = take_arguments(alloc, rest, found.params)? else {
+    let Some(arguments) = take_arguments(alloc, spare, rest, found.params)? else {
         return Ok(Replacement::NoArgument);
     };
     let text = found.body.as_slice();
@@ -110,22 +111,32 @@ fn replace<'a>(
     if length > MAX_TOKENS as u64 {
         return Ok(Replacement::TooLong(length));
     }
-    let body = filled(alloc, text, given)?;
+    let body = filled(spare, text, given)?;
     rest.push_all(body.as_slice())?;
+    spare.keep(body)?;
+    keep_all(spare, arguments)?;
     Ok(Replacement::Done)
 }
 
+// Keeps the lists of arguments that are done with.
+fn keep_all<'a>(
+    spare: &mut SpareLists<'a>,
+    arguments: Vec<Argument<'a>>,
+) -> Result<(), AllocError> {
+    for argument in arguments {
+        spare.keep(argument.into_vec())?;
+    }
+    Ok(())
+}
+
 // The tokens that the steps leave.
-fn run_steps<'a>(
-    alloc: Global,
-    macros: &'a Macros,
-    list: &'a [Token],
-) -> Result<Argument<'a>, ExpandError>
+fn run_steps(alloc: Global, macros: &Macros, list: &[Token]) -> Result<TokenList, ExpandError>
     requires { length list.now ≤ 50000 }
-    ensures { Runs result (run macros.now 20000 0 list.now) }
+    ensures { Expands result (run macros.now 20000 0 list.now) }
 {
     let mut passed = Vec::new(alloc);
     let mut rest = Inputs::of(alloc, list)?;
+    let mut spare = SpareLists::none(alloc);
     let mut steps = 0;
     while let Some(token) = rest.pop() {
         let Some(found) = macros.named_by(token) else {
@@ -137,7 +148,7 @@ fn run_steps<'a>(
             return Err(ExpandError::Budget { steps, length });
         }
         steps += 1;
-        match replace(alloc, found, &mut rest, passed.len())? {
+        match replace(alloc, found, &mut rest, &mut spare, passed.len())? {
             Replacement::NoArgument => {
                 return Err(ExpandError::MissingArgument(passed.len() as u32));
             }
@@ -145,5 +156,5 @@ fn run_steps<'a>(
             Replacement::Done => {}
         }
     }
-    Ok(Argument::from_vec(passed))
+    Ok(lent_tokens(alloc, &passed)?)
 }

@@ -1,13 +1,14 @@
 //! A body with arguments in place of its parameters.
 ghost use Rattle.std.specs.Prelude.{◌≡◌, ◌<◌, ◌≤◌, ◌+◌, ◌-◌, ◌^◌, ◌++◌, [], IfOk, OnOk, length, All, get_or};
 ghost use Rattle.mt_token.specs.Character.{character_of};
-ghost use Rattle.mt_macro.specs.Arguments.{fill, lent, lent_lists, Short};
+ghost use Rattle.mt_macro.specs.Arguments.{fill, lent, lent_lists, IsShortArgument};
 
 use crate::arguments::{Argument, push_lent};
 use crate::braces::character;
 use crate::parameters::is_hash;
+use crate::spare::SpareLists;
 use mt_token::Token;
-use std::alloc::{AllocError, Global};
+use std::alloc::AllocError;
 
 // The index of a parameter's argument, by its digit.
 fn index_of(digit: &Token) -> usize
@@ -18,7 +19,7 @@ fn index_of(digit: &Token) -> usize
 
 // How many tokens a parameter's argument has, 0 where there is none.
 fn argument_len(arguments: &[Argument], digit: &Token) -> usize
-    requires { All Short arguments.now }
+    requires { All IsShortArgument arguments.now }
     ensures is { result ≡ length (get_or (lent_lists arguments.now) (character_of digit.now.kind - 49) []) }
     ensures short { result < 2 ^ 31 }
 {
@@ -31,7 +32,7 @@ fn argument_len(arguments: &[Argument], digit: &Token) -> usize
 /// How many tokens a body has with arguments in place of its parameters.
 pub fn filled_len(body: &[Token], arguments: &[Argument]) -> u64
     requires body { length body.now ≤ 2 ^ 32 }
-    requires arguments { All Short arguments.now }
+    requires arguments { All IsShortArgument arguments.now }
     ensures is { result ≡ length (fill (lent_lists arguments.now) body.now) }
     ensures small { result ≤ 2 ^ 63 }
 {
@@ -54,13 +55,13 @@ pub fn filled_len(body: &[Token], arguments: &[Argument]) -> u64
 
 /// A body with arguments in place of its parameters.
 pub fn filled<'a>(
-    alloc: Global,
+    spare: &mut SpareLists<'a>,
     body: &'a [Token],
     arguments: &[Argument<'a>],
 ) -> Result<Vec<&'a Token>, AllocError>
     ensures { IfOk result (λ tokens. lent tokens.items ≡ fill (lent_lists arguments.now) body.now) }
 {
-    let mut tokens = Vec::new(alloc);
+    let mut tokens = spare.take();
     let mut rest = body;
     loop {
         match rest {

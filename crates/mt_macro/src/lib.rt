@@ -8,6 +8,7 @@ mod expansion;
 mod filling;
 mod inputs;
 mod parameters;
+mod spare;
 mod table;
 
 pub use definition::MacroError;

@@ -1,7 +1,7 @@
 //! The macros by their names.
 ghost use Rattle.std.specs.Prelude.{◌≡◌, ◌≤◌, ◌^◌, ◌<◌, ◌+◌, ◌||◌, ◌&&◌, not, if◌then◌else◌, [], true, false, length, IfOk, IfSome, OnOk, OnErr};
 ghost use Rattle.std.specs.Option.{option_copied};
-ghost use Rattle.mt_macro.specs.Table.{macro_of, macro_at, is_own, own_count, with_macro, IsShort};
+ghost use Rattle.mt_macro.specs.Table.{macro_of, macro_at, is_own, own_count, with_macro, HasShortBody};
 
 use mt_scaled::Name;
 use mt_token::{Token, TokenKind, TokenList};
@@ -31,7 +31,7 @@ pub struct Macros {
 }
 
 impl Model for Macros {
-    ghost use Rattle.std.specs.Prelude.{List, map};
+    ghost use Rattle.std.specs.Prelude.{map};
     ghost use Rattle.mt_macro.specs.Table.{Table, IsKept};
 
     ghost Value = { Table };
@@ -56,7 +56,7 @@ impl Macros {
     /// The macro of a name.
     pub(crate) fn named(&self, name: &[u8]) -> Option<&Macro>
         ensures is { option_copied result ≡ macro_of self.now name.now }
-        ensures short { IfSome result (λ m. IsShort m.now) }
+        ensures short { IfSome result (λ m. HasShortBody m.now) }
     {
         self.by_name.get(name)
     }
@@ -64,7 +64,7 @@ impl Macros {
     /// The macro that a token names.
     pub(crate) fn named_by(&self, token: &Token) -> Option<&Macro>
         ensures is { option_copied result ≡ macro_at self.now token.now }
-        ensures short { IfSome result (λ m. IsShort m.now) }
+        ensures short { IfSome result (λ m. HasShortBody m.now) }
     {
         match &token.kind {
             TokenKind::Control(name) => self.named(name.as_slice()),

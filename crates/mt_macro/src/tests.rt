@@ -96,14 +96,7 @@ fn expands_leftmost_macro_first(rt: HostRuntime) -> Result<(), Fail> {
 #[test]
 fn keeps_to_its_budget(rt: HostRuntime) -> Result<(), Fail> {
     let alloc = rt.alloc();
-    let macros = defined(
-        alloc,
-        &[
-            (b"x", 0, b""),
-            (b"d", 1, b"\\d{#1#1}"),
-            (b"w", 1, b"\\w{{#1}}"),
-        ],
-    )?;
+    let macros = defined(alloc, &[(b"x", 0, b""), (b"d", 1, b"\\d{#1#1}")])?;
     let mut text = Vec::new(alloc);
     for _ in 0..20_000 {
         text.extend_from_slice(b"\\x")?;

@@ -1,5 +1,5 @@
 //! The piece of a source that stands in front: bytes without a token, a token, or a fault.
-ghost use Rattle.std.specs.Prelude.{◌≡◌, ◌<◌, ◌≤◌, ◌+◌, ◌==◌, ℕ, IfOk, IfSome, IsTrue, length, position, take, List};
+ghost use Rattle.std.specs.Prelude.{◌≡◌, ◌<◌, ◌≤◌, ◌+◌, ◌==◌, IfOk, length};
 ghost use Rattle.mt_token.specs.Pieces.{is_letter, is_visible, line_end, letters, comment, piece, piece_after_escape, Fits};
 
 use crate::token::TokenKind;

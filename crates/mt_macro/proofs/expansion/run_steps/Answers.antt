@@ -30,4 +30,6 @@ loop-token-preserved c =
     going_on _ _ _ _ _ _ _ _ _ _ _ _ c.loop-token.invariant c.in-Some.ensures (sym c.in-Some-named_by.ensures.is) (omega arith) l r
 
 pub returns : goal.returns
-returns c = going_end _ _ _ _ _ _ c.loop-token.invariant c.in_default.ensures.0 ∙ ap (λ x. Expanded (lent x)) (sym c.from_vec.ensures)
+returns c =
+    let tokens = rw c.deref.ensures.value at c.in_ok-lent_tokens.ensures in
+    going_end _ _ _ _ _ _ c.loop-token.invariant c.in_default.ensures.0 ∙ ap Expanded (sym tokens)

@@ -1,0 +1,41 @@
+//! Lists whose memory is used again.
+ghost use Rattle.std.specs.Prelude.{◌≡◌, []};
+
+use mt_token::Token;
+use std::alloc::{AllocError, Global};
+
+/// Lists of lent tokens that are done with. Later lists take their memory.
+#[derive(Drop)]
+pub struct SpareLists<'a> {
+    alloc: Global,
+    lists: Vec<Vec<&'a Token>>,
+}
+
+impl<'a> SpareLists<'a> {
+    /// No lists.
+    pub fn none(alloc: Global) -> SpareLists<'a> {
+        SpareLists {
+            alloc,
+            lists: Vec::new(alloc),
+        }
+    }
+
+    /// An empty list, in the memory of one that is done with if there is one.
+    pub fn take(&mut self) -> Vec<&'a Token>
+        ensures { result.items ≡ [] }
+    {
+        match self.lists.pop() {
+            Some(mut list) => {
+                list.clear();
+                list
+            }
+            None => Vec::new(self.alloc),
+        }
+    }
+
+    /// Keeps a list that is done with.
+    pub fn keep(&mut self, list: Vec<&'a Token>) -> Result<(), AllocError> {
+        self.lists.push(list)?;
+        Ok(())
+    }
+}
