@@ -7,7 +7,7 @@ use Rattle.mt_box.specs.declared.piece.Piece.{Piece}
 use Rattle.mt_box.specs.declared.piece.Piece.TheVariants.{Glyph as GlyphPiece, Boxed as BoxPiece, Kern, Space}
 use Rattle.mt_box.specs.declared.rows.Pen.{Pen}
 use Rattle.mt_box.specs.Marks.{Mark, mark_of, marks_of, mark_width, mark_height, mark_depth, marks_width, marks_height, marks_depth, mark_shrink, marks_shrink}
-use Rattle.mt_box.specs.Pack.{IsModest, AllModest}
+use Rattle.mt_box.specs.Pack.{IsMeasurable, AllMeasurable}
 
 -- what is left goes on from the pen
 pub record Measuring (row rest : List Piece) (p : Pen) : Type 0 where
@@ -18,7 +18,7 @@ pub record Measuring (row rest : List Piece) (p : Pen) : Type 0 where
   pub down_low : pos 0 ≤ℤ p.depth
   pub up_high : p.height ≤ℤ pos (2 ^ 41)
   pub down_high : p.depth ≤ℤ pos (2 ^ 41)
-  pub modest : AllModest rest
+  pub measurable : AllMeasurable rest
   pub few : length rest ≤ 2 ^ 21
   pub near : Within (2 ^ 40 * (2 ^ 21 - length rest)) p.x
 
@@ -57,8 +57,8 @@ max_high a b d n e h k = omega (arith, ints, clamps, k.high)
 sum_assoc : (x w r t d : ℤ) → d ≡ x +ℤ w → (x +ℤ (w +ℤ r)) ≡ t → (d +ℤ r) ≡ t
 sum_assoc x w r t d e f = omega (arith, ints)
 
-pub measuring_start : (row rest : List Piece) → rest ≡ row → length row ≤ 2 ^ 21 → AllModest row → Measuring row rest record { x = pos 0; height = pos 0; depth = pos 0; level = 1 }
-measuring_start row rest f few modest = rw f (record {
+pub measuring_start : (row rest : List Piece) → rest ≡ row → length row ≤ 2 ^ 21 → AllMeasurable row → Measuring row rest record { x = pos 0; height = pos 0; depth = pos 0; level = 1 }
+measuring_start row rest f few all = rw f (record {
   width = omega (arith, ints);
   up = from_zero _ (height_low (marks_of row));
   down = from_zero _ (depth_low (marks_of row));
@@ -66,7 +66,7 @@ measuring_start row rest f few modest = rw f (record {
   down_low = omega (arith, ints);
   up_high = omega (arith, ints);
   down_high = omega (arith, ints);
-  modest = modest;
+  measurable = all;
   few = few;
   near = record { low = omega (arith, ints); high = omega (arith, ints) };
 })
@@ -74,9 +74,9 @@ measuring_start row rest f few modest = rw f (record {
 pub x_within : (row rest : List Piece) (p : Pen) → Measuring row rest p → Within (2 ^ 61) p.x
 x_within row rest p h = record { low = omega (arith, ints, h.near.low, h.few); high = omega (arith, ints, h.near.high, h.few) }
 
-pub next_modest : (row rest rest' : List Piece) (p : Pen) (q : Piece) → Measuring row rest p → rest ≡ q ∷ rest' → IsModest q
-next_modest row rest rest' p q h e =
-    let h' : Measuring row (q ∷ rest') p = subst (λ r. Measuring row r p) e h in h'.modest.0
+pub next_measurable : (row rest rest' : List Piece) (p : Pen) (q : Piece) → Measuring row rest p → rest ≡ q ∷ rest' → IsMeasurable q
+next_measurable row rest rest' p q h e =
+    let h' : Measuring row (q ∷ rest') p = subst (λ r. Measuring row r p) e h in h'.measurable.0
 
 -- also used for sums of shrinks
 pub moved_on : (n m : ℕ) (x w d : ℤ) → m ≡ n + 1 → m ≤ 2 ^ 21 → d ≡ x +ℤ w → Within (2 ^ 40 * (2 ^ 21 - m)) x → Within (2 ^ 40) w → Within (2 ^ 40 * (2 ^ 21 - n)) d
@@ -93,7 +93,7 @@ measuring_step row rest rest' q p p' h e g =
       down_low = max_low p.depth (mark_depth (mark_of q)) p'.depth g.depth h'.down_low;
       up_high = max_high p.height (mark_height (mark_of q)) p'.height (2 ^ 41) g.height h'.up_high g.high;
       down_high = max_high p.depth (mark_depth (mark_of q)) p'.depth (2 ^ 41) g.depth h'.down_high g.deep;
-      modest = h'.modest.1;
+      measurable = h'.measurable.1;
       few = omega (arith, h'.few);
       near = moved_on (length rest') (length (q ∷ rest')) p.x (mark_width (mark_of q)) p'.x (omega arith) h'.few g.x h'.near g.wide;
     }
@@ -122,27 +122,27 @@ measuring_end row rest p h e =
 
 pub record Shrinking (row rest : List Piece) (s : ℤ) : Type 0 where
   pub sum : s +ℤ marks_shrink (marks_of rest) ≡ marks_shrink (marks_of row)
-  pub modest : AllModest rest
+  pub measurable : AllMeasurable rest
   pub few : length rest ≤ 2 ^ 21
   pub near : Within (2 ^ 40 * (2 ^ 21 - length rest)) s
 
-shrink_within : (q : Piece) → IsModest q → Within (2 ^ 40) (mark_shrink (mark_of q))
+shrink_within : (q : Piece) → IsMeasurable q → Within (2 ^ 40) (mark_shrink (mark_of q))
 shrink_within (GlyphPiece f c e) h = record { low = omega (arith, ints); high = omega (arith, ints) }
 shrink_within (BoxPiece r b) h = record { low = omega (arith, ints); high = omega (arith, ints) }
 shrink_within (Kern k) h = record { low = omega (arith, ints); high = omega (arith, ints) }
 shrink_within (Space w s) h = h.1
 
-pub shrinking_start : (row rest : List Piece) → rest ≡ row → length row ≤ 2 ^ 21 → AllModest row → Shrinking row rest (pos 0)
-shrinking_start row rest f few modest = rw f (record {
+pub shrinking_start : (row rest : List Piece) → rest ≡ row → length row ≤ 2 ^ 21 → AllMeasurable row → Shrinking row rest (pos 0)
+shrinking_start row rest f few all = rw f (record {
   sum = omega (arith, ints);
-  modest = modest;
+  measurable = all;
   few = few;
   near = record { low = omega (arith, ints); high = omega (arith, ints) };
 })
 
-pub shrink_modest : (row rest rest' : List Piece) (s : ℤ) (q : Piece) → Shrinking row rest s → rest ≡ q ∷ rest' → IsModest q
-shrink_modest row rest rest' s q h e =
-    let h' : Shrinking row (q ∷ rest') s = subst (λ r. Shrinking row r s) e h in h'.modest.0
+pub shrink_measurable : (row rest rest' : List Piece) (s : ℤ) (q : Piece) → Shrinking row rest s → rest ≡ q ∷ rest' → IsMeasurable q
+shrink_measurable row rest rest' s q h e =
+    let h' : Shrinking row (q ∷ rest') s = subst (λ r. Shrinking row r s) e h in h'.measurable.0
 
 pub shrinking_within : (row rest : List Piece) (s : ℤ) → Shrinking row rest s → Within (2 ^ 61) s
 shrinking_within row rest s h = record { low = omega (arith, ints, h.near.low, h.few); high = omega (arith, ints, h.near.high, h.few) }
@@ -152,9 +152,9 @@ shrinking_step row rest rest' q s s' h e g =
     let h' : Shrinking row (q ∷ rest') s = subst (λ r. Shrinking row r s) e h in
     record {
       sum = sum_assoc s (mark_shrink (mark_of q)) (marks_shrink (marks_of rest')) _ s' g h'.sum;
-      modest = h'.modest.1;
+      measurable = h'.measurable.1;
       few = omega (arith, h'.few);
-      near = moved_on (length rest') (length (q ∷ rest')) s (mark_shrink (mark_of q)) s' (omega arith) h'.few g h'.near (shrink_within q h'.modest.0);
+      near = moved_on (length rest') (length (q ∷ rest')) s (mark_shrink (mark_of q)) s' (omega arith) h'.few g h'.near (shrink_within q h'.measurable.0);
     }
 
 pub shrinking_end : (row rest : List Piece) (s : ℤ) → Shrinking row rest s → rest ≡ [] → s ≡ marks_shrink (marks_of row)

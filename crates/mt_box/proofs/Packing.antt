@@ -8,7 +8,7 @@ use Rattle.mt_box.specs.declared.piece.Piece.TheVariants.{Glyph as GlyphPiece, B
 use Rattle.mt_box.specs.declared.rows.Pen.{Pen}
 use Rattle.mt_box.specs.Tree.{FitsIn, AllFit, places_of_nodes}
 use Rattle.mt_box.specs.Pen.{pen_extents}
-use Rattle.mt_box.specs.Pack.{row_level, level_of_piece, IsModest, AllModest}
+use Rattle.mt_box.specs.Pack.{row_level, level_of_piece, IsModest, AllModest, IsMeasurable, AllMeasurable}
 use Rattle.mt_box.specs.Marks.{mark_of, marks_of, mark_places, marks_places, pack}
 use Rattle.mt_box.proofs.Lists.{nil_right}
 use Rattle.mt_box.proofs.Equalities.{picture_eq, extents_eq}
@@ -37,9 +37,19 @@ level_of_row : (row : List Piece) → AllModest row → row_level row ≤ 2 ^ 20
 level_of_row [] h = omega arith
 level_of_row (q ∷ qs) h = omega (arith, level_of_modest q h.0, level_of_row qs h.1)
 
+measurable_one : (q : Piece) → IsModest q → IsMeasurable q
+measurable_one (GlyphPiece f c e) h = h
+measurable_one (BoxPiece r b) h = h.0
+measurable_one (Kern k) h = h
+measurable_one (Space w s) h = h
+
+pub measurable : (row : List Piece) → AllModest row → AllMeasurable row
+measurable [] h = tt
+measurable (q ∷ qs) h = (measurable_one q h.0, measurable qs h.1)
+
 pub packing_start : (row rest : List Piece) (nodes : List Node) → nodes ≡ [] → rest ≡ row → length row ≤ 2 ^ 21 → AllModest row → Packing row rest record { x = pos 0; height = pos 0; depth = pos 0; level = 1 } nodes
 packing_start row rest nodes e f few modest = rw (e, f) (record {
-  measures = measuring_start row row refl few modest;
+  measures = measuring_start row row refl few (measurable row modest);
   levels = omega (arith, level_low row);
   level_low = omega arith;
   places = refl;

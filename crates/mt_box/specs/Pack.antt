@@ -15,7 +15,18 @@ abbrev pub row_level : List Piece → ℕ
 row_level [] = 1
 row_level (p ∷ ps) = max (level_of_piece p + 1) (row_level ps)
 
--- numbers are at most 2^40 in size, and a box has a level below 2^20
+-- numbers are at most 2^40 in size
+abbrev pub IsMeasurable : Piece → Type 0
+IsMeasurable (GlyphPiece f c e) = Within (2 ^ 40) e.width × Within (2 ^ 40) e.height × Within (2 ^ 40) e.depth
+IsMeasurable (BoxPiece r b) = Within (2 ^ 40) r
+IsMeasurable (Kern k) = Within (2 ^ 40) k
+IsMeasurable (Space w s) = Within (2 ^ 40) w × Within (2 ^ 40) s
+
+abbrev pub AllMeasurable : List Piece → Type 0
+AllMeasurable [] = Unit {0}
+AllMeasurable (p ∷ ps) = IsMeasurable p × AllMeasurable ps
+
+-- the same, and a box has a level below 2^20
 abbrev pub IsModest : Piece → Type 0
 IsModest (GlyphPiece f c e) = Within (2 ^ 40) e.width × Within (2 ^ 40) e.height × Within (2 ^ 40) e.depth
 IsModest (BoxPiece r b) = Within (2 ^ 40) r × (b.level < 2 ^ 20)

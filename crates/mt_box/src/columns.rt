@@ -29,8 +29,8 @@ struct Edge {
 ///
 /// The first entry's top is `top` scaled points above the reference point. The height is `top`, the depth the rest. The
 /// width is the greatest of 0 and of each box's width plus its shift to the right. A rule is as wide as the column; it
-/// marks nothing where its height or its width is not positive. The column has at most 2^21 entries, and each number in
-/// it is at most 2^40 in size.
+/// marks nothing where its height or its width is not positive. The column has at most 2^21 entries, each number in it is
+/// at most 2^40 in size, and so is `top`; the level of each box in it is below 2^20.
 pub fn vpack(alloc: Global, entries: Column, top: i64) -> Result<Packed, PackError>
     requires few { length entries ≤ 2 ^ 21 }
     requires modest { AllModestEntries entries }

@@ -6,7 +6,7 @@ ghost use Rattle.mt_box.specs.Tree.{AllFit, places_of_nodes, ExtentsInRange, Fit
 ghost use Rattle.mt_box.specs.Marks.{mark_of, marks_of, mark_width, mark_height, mark_depth, mark_shrink, mark_places, marks_width, marks_height, marks_depth, marks_shrink, pack};
 ghost use Rattle.mt_box.specs.Pen.{pen_extents};
 ghost use Rattle.mt_box.specs.Packs.{Packs};
-ghost use Rattle.mt_box.specs.Pack.{level_of_piece, row_level, IsModest, AllModest};
+ghost use Rattle.mt_box.specs.Pack.{level_of_piece, row_level, IsMeasurable, AllMeasurable, AllModest};
 
 use crate::packed::{Node, seal};
 use crate::{Extents, PackError, Packed, Piece, Row};
@@ -16,8 +16,8 @@ use std::alloc::{AllocError, Global};
 /// The row packed: the box of its pieces, each directly to the right of the one before it.
 ///
 /// Its width is the sum of the widths; its height and depth are the greatest of 0 and of those of the pieces, where a
-/// box that is raised counts with its raise. The row has at most 2^21 pieces, and each number in it is at most 2^40 in
-/// size.
+/// box that is raised counts with its raise. The row has at most 2^21 pieces, each number in it is at most 2^40 in size,
+/// and the level of each box in it is below 2^20.
 pub fn hpack(alloc: Global, row: Row) -> Result<Packed, PackError>
     requires few { length row ≤ 2 ^ 21 }
     requires modest { AllModest row }
@@ -36,9 +36,10 @@ pub fn hpack(alloc: Global, row: Row) -> Result<Packed, PackError>
 }
 
 /// How far a row reaches, in scaled points, with its spaces as they are. Its box, if it is in range, has these extents.
+/// The row has at most 2^21 pieces, and each number in it is at most 2^40 in size.
 pub fn row_extents(row: &Row) -> Extents
     requires few { length row.now ≤ 2 ^ 21 }
-    requires modest { AllModest row.now }
+    requires measurable { AllMeasurable row.now }
     ensures width { result.width ≡ marks_width (marks_of row.now) }
     ensures height { result.height ≡ marks_height (marks_of row.now) }
     ensures depth { result.depth ≡ marks_depth (marks_of row.now) }
@@ -53,10 +54,11 @@ pub fn row_extents(row: &Row) -> Extents
     pen.extents()
 }
 
-/// How much all spaces of a row may shrink together, in scaled points.
+/// How much all spaces of a row may shrink together, in scaled points. The row has at most 2^21 pieces, and each number
+/// in it is at most 2^40 in size.
 pub fn shrink_of(row: &Row) -> i64
     requires few { length row.now ≤ 2 ^ 21 }
-    requires modest { AllModest row.now }
+    requires measurable { AllMeasurable row.now }
     ensures is { result ≡ marks_shrink (marks_of row.now) }
     ensures small { Within (2 ^ 61) result }
 {
@@ -69,7 +71,7 @@ pub fn shrink_of(row: &Row) -> i64
 
 #[tactic(auto, using(std::proofs::lemmas::Int::ints))]
 fn with_shrink(total: Length, piece: &Piece) -> Length
-    requires modest { IsModest piece.now }
+    requires measurable { IsMeasurable piece.now }
     requires total { Within (2 ^ 61) total.sp }
     ensures is { result.sp ≡ total.sp +ℤ mark_shrink (mark_of piece.now) }
 {
@@ -101,7 +103,7 @@ impl Pen {
     // The pen behind a piece.
     #[tactic(auto, using(std::proofs::lemmas::Int::ints))]
     fn after(self, piece: &Piece) -> Pen
-        requires modest { IsModest piece.now }
+        requires measurable { IsMeasurable piece.now }
         requires x { Within (2 ^ 61) self.x }
         ensures x { result.x ≡ self.x +ℤ mark_width (mark_of piece.now) }
         ensures height { result.height ≡ int_max self.height (mark_height (mark_of piece.now)) }
@@ -145,7 +147,7 @@ impl Pen {
 
 fn push_node(nodes: &mut Vec<Node>, pen: Pen, piece: Piece) -> Result<(), AllocError>
     requires x { Within (2 ^ 61) pen.x }
-    requires modest { IsModest piece }
+    requires measurable { IsMeasurable piece }
     ensures places { OnOk result (places_of_nodes nodes.new.items ≡ places_of_nodes nodes.old.items ++ mark_places pen.x (mark_of piece)) }
     ensures fits { OnOk result ((level : ℕ) → level_of_piece piece < level → AllFit level nodes.old.items → AllFit level nodes.new.items) }
 {
@@ -158,7 +160,7 @@ fn push_node(nodes: &mut Vec<Node>, pen: Pen, piece: Piece) -> Result<(), AllocE
 // How far a piece reaches from the row's baseline.
 #[tactic(auto, using(std::proofs::lemmas::Int::ints))]
 fn measure(piece: &Piece) -> Extents
-    requires { IsModest piece.now }
+    requires { IsMeasurable piece.now }
     ensures width { result.width ≡ mark_width (mark_of piece.now) }
     ensures height { result.height ≡ mark_height (mark_of piece.now) }
     ensures depth { result.depth ≡ mark_depth (mark_of piece.now) }
@@ -185,8 +187,8 @@ fn measure(piece: &Piece) -> Extents
 }
 
 fn level_of(piece: &Piece) -> u32
-    requires { IsModest piece.now }
-    ensures { result ≡ level_of_piece piece.now }
+    ensures is { result ≡ level_of_piece piece.now }
+    ensures small { result ≤ 2 ^ 20 }
 {
     match piece {
         Piece::Boxed { body, .. } => body.level(),
@@ -196,7 +198,7 @@ fn level_of(piece: &Piece) -> u32
 
 fn node_at(pen: Pen, piece: Piece) -> Option<Node>
     requires x { Within (2 ^ 61) pen.x }
-    requires modest { IsModest piece }
+    requires measurable { IsMeasurable piece }
     ensures places { places_of_option result ≡ mark_places pen.x (mark_of piece) }
     ensures fits { IfSome result (λ n. (level : ℕ) → level_of_piece piece < level → FitsIn level n) }
 {
