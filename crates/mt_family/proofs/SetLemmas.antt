@@ -1,10 +1,10 @@
 -- The table of the families' numbers.
-use Rattle.std.proofs.Common.{◌≡◌, ◌≤◌, ◌<◌, ◌+◌, ◌∙◌, ℕ, List, [], ◌∷◌, ◌++◌, length, map, Bool, true, false, Option, Some, None, unwrap_or, All, refl, arith, ap, nat_eq, nat_lt, if◌then◌else◌, inl, inr, subst, length-append}
+use Rattle.std.proofs.Common.{◌≡◌, ◌≤◌, ◌<◌, ◌+◌, ◌∙◌, ℕ, List, [], ◌∷◌, ◌++◌, length, map, Bool, true, false, Option, Some, None, unwrap_or, All, refl, arith, ap, nat_eq, nat_lt, if◌then◌else◌, subst, length-append}
 use Rattle.std.specs.List.{find, slice_get, range_with_len}
 use Rattle.std.proofs.lemmas.Bool.Decides.{nat_tests}
-use Rattle.std.proofs.lemmas.List.Elements.{All-head, All-tail, All-weaker, All-get_or}
+use Rattle.std.proofs.lemmas.List.Elements.{All-head, All-tail, All-weaker}
 use Rattle.std.proofs.lemmas.List.FromFn.{map-range_with_len_more, get_or-map-range_with_len, length-map-range_with_len}
-use Rattle.std.proofs.lemmas.Option.{slice_get-get_or, slice_get_past, slice_get_cases}
+use Rattle.std.proofs.lemmas.Option.{slice_get-get_or, slice_get_past}
 use Rattle.std.proofs.lemmas.List.{map-append}
 use Rattle.mt_family.specs.declared.list.FontLine.{FontLine}
 use Rattle.mt_family.specs.declared.list.FamilyLine.{FamilyLine}
@@ -13,6 +13,7 @@ use Rattle.mt_family.specs.Sizes.{font_at_size, index_of}
 use Rattle.mt_family.specs.ListFacts.{is_family, IsFamilyLine, IsKnown}
 use Rattle.mt_family.specs.declared.size.Size.TheVariants.{Text, Script, Scriptscript}
 use Rattle.mt_tfm.specs.Font.{Metrics}
+use Rattle.mt_tfm.proofs.ChainLemmas.{at_place}
 use Rattle.mt_family.specs.SetValue.{SetValue, IsSet, AreLoaded, HasParams, has_params, font_in, numbers_of, numbers_by, table_of, number_in, number_by}
 
 pub table_more : (families : List FamilyLine) (count : ℕ) → table_of families (count + 1) ≡ table_of families count ++ numbers_of families count ∷ []
@@ -57,12 +58,6 @@ pub number_of_set : (s : SetValue) (table : List (List (Option ℕ))) (fam : ℕ
 number_of_set s table fam size set e =
     rw e (number_by_table s.families 16 fam size (All-weaker (IsFamilyLine (length s.lines)) (λ (f : FamilyLine). f.fam < 16) (λ f h. h.fam) s.families set.list.each_family))
 
-at_place : {X : Type 0} (P : X → Type 0) (xs : List X) (i : ℕ) (x : X) → All P xs → slice_get xs i ≡ Some x → P x
-at_place P xs i x a h = elim (slice_get_cases xs i).1 [
-  | inl s ↦ let same : s.0 ≡ x = cc in subst P (s.3 ∙ same) (All-get_or P xs i s.0 s.1 a)
-  | inr s ↦ absurd (cc)
-]
-
 known_by : (count n : ℕ) (number : Option (Option ℕ)) → ((x : Option ℕ) → number ≡ Some x → IsKnown count x) → unwrap_or number None ≡ Some n → n < count
 known_by count n None known h = absurd (cc)
 known_by count n (Some None) known h = absurd (cc)
@@ -97,7 +92,7 @@ fewer least i (Some m) h le = grind (arith, nat_tests)
 pub has_each : (families : List FamilyLine) (fonts : List Metrics) (fam least i : ℕ) (size : Size) → HasParams families fonts fam least → i ≤ least → has_params i (font_in families fonts fam size) ≡ true
 has_each families fonts fam least i Text h le = fewer least i (font_in families fonts fam Text) h.text le
 has_each families fonts fam least i Script h le = fewer least i (font_in families fonts fam Script) h.script le
-has_each families fonts fam least i Scriptscript h le = fewer least i (font_in families fonts fam Scriptscript) h.small le
+has_each families fonts fam least i Scriptscript h le = fewer least i (font_in families fonts fam Scriptscript) h.scriptscript le
 
 -- a font that was read for the next line
 pub loaded_more : (lines : List FontLine) (fonts : List Metrics) (line : FontLine) (m : Metrics) → AreLoaded lines fonts → m.at ≡ line.at → m.skew ≡ line.skew → AreLoaded (lines ++ line ∷ []) (fonts ++ m ∷ [])

@@ -60,7 +60,7 @@ has_params least (Some m) = nat_le least (length m.params)
 pub record HasParams (families : List FamilyLine) (fonts : List Metrics) (fam least : ℕ) : Type 0 where
   pub text : has_params least (font_in families fonts fam Text) ≡ true
   pub script : has_params least (font_in families fonts fam Script) ≡ true
-  pub small : has_params least (font_in families fonts fam Scriptscript) ≡ true
+  pub scriptscript : has_params least (font_in families fonts fam Scriptscript) ≡ true
 
 -- each font line has its font, at its size and with its skew character
 pub record AreLoaded (lines : List FontLine) (fonts : List Metrics) : Type 0 where

@@ -1,5 +1,6 @@
 -- Whether a list and its fonts make a set, and the parameters that a set has.
 use Rattle.std.specs.Prelude.{ℕ, List, length, nat_le, Option, Some, None, ℤ, pos, if◌then◌else◌}
+use Rattle.std.specs.Option.{option_or}
 use Rattle.mt_scaled.specs.declared.unit.Units.{Units}
 use Rattle.mt_tfm.specs.Font.{Metrics, param_of}
 use Rattle.mt_family.specs.declared.list.FamilyLine.{FamilyLine}
@@ -8,10 +9,6 @@ use Rattle.mt_family.specs.declared.size.Size.TheVariants.{Text, Script, Scripts
 use Rattle.mt_family.specs.declared.error.SetError.{SetError}
 use Rattle.mt_family.specs.declared.error.SetError.TheVariants.{NoMathFamily, FewParameters}
 use Rattle.mt_family.specs.SetValue.{SetValue, font_in}
-
-abbrev pub or_else : Option SetError → Option SetError → Option SetError
-or_else None next = next
-or_else (Some fault) next = Some fault
 
 -- a family has a font at a size, with enough parameters
 abbrev pub font_fault : ℕ → Size → ℕ → Option Metrics → Option SetError
@@ -24,12 +21,12 @@ size_fault families fonts fam size least = font_fault fam size least (font_in fa
 -- the sizes in order
 abbrev pub family_fault : List FamilyLine → List Metrics → ℕ → ℕ → Option SetError
 family_fault families fonts fam least =
-    or_else (size_fault families fonts fam Text least)
-    (or_else (size_fault families fonts fam Script least) (size_fault families fonts fam Scriptscript least))
+    option_or (size_fault families fonts fam Text least)
+    (option_or (size_fault families fonts fam Script least) (size_fault families fonts fam Scriptscript least))
 
 -- family 2, the symbols, before family 3, the extensible characters
 abbrev pub set_fault : List FamilyLine → List Metrics → Option SetError
-set_fault families fonts = or_else (family_fault families fonts 2 22) (family_fault families fonts 3 13)
+set_fault families fonts = option_or (family_fault families fonts 2 22) (family_fault families fonts 3 13)
 
 -- parameter i of a font, 0 without one
 abbrev pub param_in : ℕ → Option Metrics → ℤ

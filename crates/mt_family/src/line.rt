@@ -44,10 +44,7 @@ fn dashed(high: u64, field: &[u8]) -> Option<Option<u64>>
     if field == b"-".as_slice() {
         return Some(None);
     }
-    match ranged(0, high, field) {
-        Some(n) => Some(Some(n)),
-        None => None,
-    }
+    ranged(0, high, field).map(Some)
 }
 
 fn copied(alloc: Global, name: &[u8]) -> Result<Name, AllocError>
@@ -90,13 +87,18 @@ fn narrow(skew: Option<u64>) -> Option<u8>
     }
 }
 
-fn family_fields(fam: &[u8], text: &[u8], script: &[u8], small: &[u8]) -> Option<FamilyFields>
-    ensures { option_map Family result ≡ family_fields fam.now text.now script.now small.now }
+fn family_fields(
+    fam: &[u8],
+    text: &[u8],
+    script: &[u8],
+    scriptscript: &[u8],
+) -> Option<FamilyFields>
+    ensures { option_map Family result ≡ family_fields fam.now text.now script.now scriptscript.now }
 {
     let fam = ranged(0, 15, fam)?;
     let text = dashed(9_999_999_999, text)?;
     let script = dashed(9_999_999_999, script)?;
-    let scriptscript = dashed(9_999_999_999, small)?;
+    let scriptscript = dashed(9_999_999_999, scriptscript)?;
     Some(FamilyFields {
         fam: fam as u8,
         text,

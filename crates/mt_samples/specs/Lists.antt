@@ -1,9 +1,6 @@
--- The toy list.
-use Rattle.std.specs.Prelude.{ℕ, List, [], ◌∷◌, Some, None, pos, codes}
+-- What the list of the toy fonts says.
+use Rattle.std.specs.Prelude.{[], ◌∷◌, Some, None, pos, codes}
 use Rattle.mt_family.specs.ListFacts.{ListValue}
-
-abbrev pub list_bytes : List ℕ
-list_bytes = codes "mathset fonts 1\nfont toyr 655360 -\nfont toyr 458752 -\nfont toyr 327680 -\nfont toym 655360 127\nfont toym 458752 127\nfont toym 327680 127\nfont toys 655360 -\nfont toys 458752 -\nfont toys 327680 -\nfont toyx 655360 -\nfamily 0 0 1 2\nfamily 1 3 4 5\nfamily 2 6 7 8\nfamily 3 9 9 9\n"
 
 abbrev pub toy_list : ListValue
 toy_list = record {

@@ -30,7 +30,7 @@ says size m c (Some a) =
     && int_eq (depth_of m c) (sixteenths size a.depth) && int_eq (italic_of m c) (sixteenths size a.italic)
 
 -- the codes of a table's own lines, else those of a range, with 8 8 0 0
-pub record Toy : Type 0 where
+pub record ToyTable : Type 0 where
   pub first : ℕ
   pub last : ℕ
   pub own : List Amounts
@@ -40,11 +40,11 @@ pub record Toy : Type 0 where
   pub skew : Option ℕ
   pub params : List ℕ
 
-abbrev pub own_or_plain : Toy → ℕ → Option Amounts → Option Amounts
+abbrev pub own_or_plain : ToyTable → ℕ → Option Amounts → Option Amounts
 own_or_plain t c (Some a) = Some a
 own_or_plain t c None = if nat_le t.first c && nat_le c t.last then Some (amounts c 8 8 0 0) else None
 
-abbrev pub extents_of : Toy → ℕ → Option Amounts
+abbrev pub extents_of : ToyTable → ℕ → Option Amounts
 extents_of t c = own_or_plain t c (find (λ (a : Amounts). a.code == c) t.own)
 
 abbrev pub same_code : Option ℕ → Option ℕ → Bool
@@ -69,7 +69,7 @@ abbrev pub pair_by : Option (ℕ × ℕ × Pair) → Pair
 pair_by None = NoPair
 pair_by (Some p) = p.2
 
-abbrev pub pair_says : Toy → ℕ → ℕ → Pair
+abbrev pub pair_says : ToyTable → ℕ → ℕ → Pair
 pair_says t c d = pair_by (find (λ (p : ℕ × ℕ × Pair). (p.0 == c) && (p.1 == d)) t.pairs)
 
 abbrev pub same_params : ℕ → List ℤ → List ℕ → Bool
@@ -81,13 +81,13 @@ same_params size as' bs = false
 abbrev pub has_program : Metrics → ℕ → Bool
 has_program m c = exists m c && ((char_at m c).tag == 1)
 
-abbrev pub pairs_say : Toy → ℕ → Metrics → ℕ → Bool
+abbrev pub pairs_say : ToyTable → ℕ → Metrics → ℕ → Bool
 pairs_say t size m c =
     if has_program m c then list_all (λ d. same_pair size (pair_of m c d) (pair_says t c d)) (range_with_len 0 256)
     else not (list_any (λ (p : ℕ × ℕ × Pair). p.0 == c) t.pairs)
 
 -- what the font says of a code
-abbrev pub code_says : Toy → ℕ → Metrics → ℕ → Bool
+abbrev pub code_says : ToyTable → ℕ → Metrics → ℕ → Bool
 code_says t size m c =
     says size m c (extents_of t c)
     && same_code (larger_of m c) (option_map (λ (p : ℕ × ℕ). p.1) (find (λ (p : ℕ × ℕ). p.0 == c) t.links))
@@ -95,19 +95,19 @@ code_says t size m c =
     && pairs_say t size m c
 
 -- each code, each parameter, the checksum 0 and the design size 10pt
-unfoldable pub has_toy : Toy → ℕ → Metrics → Bool
-has_toy t size m =
+unfoldable pub has_table : ToyTable → ℕ → Metrics → Bool
+has_table t size m =
     list_all (λ c. code_says t size m c) (range_with_len 0 256) && same_params size m.params t.params
     && (m.checksum == 0) && (m.design == 655360)
 
 -- bytes that read as a toy font at each of the three sizes
-pub record ReadsAs (bytes : List ℕ) (t : Toy) : Type 0 where
+pub record ReadsAs (bytes : List ℕ) (t : ToyTable) : Type 0 where
   pub passes : first_fault bytes ≡ None
-  pub large : has_toy t 655360 (metrics_of bytes (pos 655360) t.skew) ≡ true
-  pub middle : has_toy t 458752 (metrics_of bytes (pos 458752) t.skew) ≡ true
-  pub small : has_toy t 327680 (metrics_of bytes (pos 327680) t.skew) ≡ true
+  pub large : has_table t 655360 (metrics_of bytes (pos 655360) t.skew) ≡ true
+  pub middle : has_table t 458752 (metrics_of bytes (pos 458752) t.skew) ≡ true
+  pub small : has_table t 327680 (metrics_of bytes (pos 327680) t.skew) ≡ true
 
-abbrev pub roman : Toy
+abbrev pub roman : ToyTable
 roman = record {
   first = 33;
   last = 126;
@@ -119,7 +119,7 @@ roman = record {
   params = 0 ∷ 5 ∷ 0 ∷ 0 ∷ 8 ∷ 16 ∷ 0 ∷ [];
 }
 
-abbrev pub italic : Toy
+abbrev pub italic : ToyTable
 italic = record {
   first = 33;
   last = 127;
@@ -131,7 +131,7 @@ italic = record {
   params = 0 ∷ 0 ∷ 0 ∷ 0 ∷ 8 ∷ 16 ∷ 0 ∷ [];
 }
 
-abbrev pub symbols : Toy
+abbrev pub symbols : ToyTable
 symbols = record {
   first = 0;
   last = 126;
@@ -143,7 +143,7 @@ symbols = record {
   params = 0 ∷ 0 ∷ 0 ∷ 0 ∷ 8 ∷ 16 ∷ 0 ∷ 11 ∷ 6 ∷ 7 ∷ 11 ∷ 6 ∷ 7 ∷ 6 ∷ 5 ∷ 2 ∷ 4 ∷ 6 ∷ 1 ∷ 38 ∷ 16 ∷ 4 ∷ [];
 }
 
-abbrev pub extension : Toy
+abbrev pub extension : ToyTable
 extension = record {
   first = 1;
   last = 0;

@@ -3,7 +3,7 @@
 #![tactic(auto)]
 
 ghost use Rattle.std.specs.Prelude.{◌≡◌, IfOk, Ok};
-ghost use Rattle.mt_samples.specs.Which.{toy_of};
+ghost use Rattle.mt_samples.specs.Which.{table_of};
 ghost use Rattle.mt_family.specs.Lists.{font_list};
 ghost use Rattle.mt_samples.specs.Lists.{toy_list};
 ghost use Rattle.mt_samples.specs.Tables.{ReadsAs};
@@ -33,17 +33,17 @@ family 2 6 7 8
 family 3 9 9 9
 ";
 
-/// The example fonts, of families 0 to 3: upright letters, slanted letters, symbols, and characters that
-/// grow. Their files are named toyr, toym, toys and toyx.
+/// The example fonts, of the families 0 to 3 (The TeXbook, chapter 17): roman, math italic, symbols and
+/// extension. Their files are named toyr, toym, toys and toyx.
 #[derive(Clone, Copy, Debug, PartialEq, Eq)]
 pub enum Toy {
-    /// Upright letters, toyr.
+    /// Roman, toyr.
     Roman,
-    /// Slanted letters, toym.
+    /// Math italic, toym.
     Italic,
     /// Symbols, toys.
     Symbols,
-    /// Characters that grow, toyx.
+    /// Large and extensible characters, toyx.
     Extension,
 }
 
@@ -54,7 +54,7 @@ pub enum Toy {
 ///
 /// Only where there is no memory left.
 pub fn toy_tfm(alloc: Global, which: Toy) -> Result<Bytes, AllocError>
-    ensures { IfOk result (λ bytes. ReadsAs bytes (toy_of which)) }
+    ensures { IfOk result (λ bytes. ReadsAs bytes (table_of which)) }
 {
     match which {
         Toy::Roman => roman_font(alloc),

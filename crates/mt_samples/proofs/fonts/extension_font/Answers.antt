@@ -1,5 +1,5 @@
 use Rattle.std.proofs.Common.{◌≡◌, rules, subst, ℕ, List}
-use Rattle.mt_samples.specs.Bytes.{extension_bytes}
+use Rattle.mt_samples.proofs.Bytes.{extension_bytes}
 use Rattle.mt_samples.specs.Tables.{extension, ReadsAs}
 use Rattle.mt_samples.proofs.Readings.{extension_reads}
 use Rattle.mt_samples.proofs.fonts.extension_font.Goals as goal

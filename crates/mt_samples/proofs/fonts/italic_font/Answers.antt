@@ -1,5 +1,5 @@
 use Rattle.std.proofs.Common.{◌≡◌, rules, subst, ℕ, List}
-use Rattle.mt_samples.specs.Bytes.{italic_bytes}
+use Rattle.mt_samples.proofs.Bytes.{italic_bytes}
 use Rattle.mt_samples.specs.Tables.{italic, ReadsAs}
 use Rattle.mt_samples.proofs.Readings.{italic_reads}
 use Rattle.mt_samples.proofs.fonts.italic_font.Goals as goal

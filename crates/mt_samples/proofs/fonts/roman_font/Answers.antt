@@ -1,5 +1,5 @@
 use Rattle.std.proofs.Common.{◌≡◌, rules, subst, ℕ, List}
-use Rattle.mt_samples.specs.Bytes.{roman_bytes}
+use Rattle.mt_samples.proofs.Bytes.{roman_bytes}
 use Rattle.mt_samples.specs.Tables.{roman, ReadsAs}
 use Rattle.mt_samples.proofs.Readings.{roman_reads}
 use Rattle.mt_samples.proofs.fonts.roman_font.Goals as goal

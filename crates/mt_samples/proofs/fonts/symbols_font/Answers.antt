@@ -1,5 +1,5 @@
 use Rattle.std.proofs.Common.{◌≡◌, rules, subst, ℕ, List}
-use Rattle.mt_samples.specs.Bytes.{symbols_bytes}
+use Rattle.mt_samples.proofs.Bytes.{symbols_bytes}
 use Rattle.mt_samples.specs.Tables.{symbols, ReadsAs}
 use Rattle.mt_samples.proofs.Readings.{symbols_reads}
 use Rattle.mt_samples.proofs.fonts.symbols_font.Goals as goal
