@@ -4,8 +4,8 @@ ghost use Rattle.mt_rules.specs.Styles.{style_index, size_of, sup_of, sub_of, cr
 
 use mt_family::Size;
 
-/// The style in which a part of a formula is set (The TeXbook, chapter 17). Each has a cramped form, in which
-/// superscripts are raised less.
+/// The style in which a part of a formula is set (The TeXbook, chapter 17; tex.web §702). Each has a cramped form, in
+/// which superscripts are raised less.
 #[derive(Clone, Copy, Debug, PartialEq, Eq)]
 pub enum Style {
     /// Display.

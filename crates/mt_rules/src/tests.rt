@@ -4,8 +4,9 @@ ghost use Rattle.mt_rules.specs.View.{element_of};
 
 use crate::{
     Atom, Choice, Class, Delim, Document, Field, Formula, Fraction, Glue, Item, Kind, Limits,
-    MathList, Page, RowList, Style, Symbol, Tag,
+    MathList, Page, PartError, RowList, Style, Symbol, Tag,
 };
+use mt_box::PackError;
 use mt_family::Size;
 use std::alloc::{AllocError, Global};
 use std::test::Fail;
@@ -112,6 +113,7 @@ fn lists_hold_lists(rt: HostRuntime) -> Result<(), Fail> {
         )
     );
     assert_eq!(rt; rows.as_slice().len(), 1);
+    let rows = RowList::from_vec(rows.into_vec());
     let atom = Atom {
         kind: Kind::Vcenter,
         limits: Limits::Default,
@@ -138,4 +140,10 @@ fn lists_hold_lists(rt: HostRuntime) -> Result<(), Fail> {
     let document = Document::from_vec(vec![in alloc; Page::from_vec(vec![in alloc; formula]?)]?);
     assert_eq!(rt; document.len(), 1);
     Ok(())
+}
+
+#[test]
+fn faults_of_packing_are_faults_of_parts(rt: HostRuntime) {
+    let fault = PartError::from(PackError::Overflow(1073741824));
+    assert_eq!(rt; fault, PartError::Overflow(1073741824));
 }
