@@ -19,8 +19,8 @@ pub enum Gap {
     Thick,
 }
 
-/// The space between two atoms with these final classes, in the style of the right one. The two are to be classes
-/// that can stand side by side (The TeXbook, chapter 18).
+/// The space between two atoms with these final classes, in the style of the right one (The TeXbook, chapter 18;
+/// tex.web §764). The two are to be classes that can stand side by side.
 pub fn space_between(left: Class, right: Class, style: Style) -> Gap
     requires { never_meet left right ≡ false }
     ensures { result ≡ gap_of (spacing left right style) }
@@ -60,7 +60,8 @@ fn script_gap(left: Class, right: Class) -> Gap
     }
 }
 
-/// The glue of a space where 1 mu has this many scaled points.
+/// The glue of a space where 1 mu has this many scaled points, at most 2^31 in size. The widths are those of plain TeX
+/// (The TeXbook, chapter 18).
 pub fn math_glue(gap: Gap, mu: i64) -> Glue
     requires { Within (2 ^ 31) mu }
     ensures { result ≡ spacing_glue (spacing_of gap) mu }
