@@ -22,7 +22,8 @@ DefinesEachOnce places definitions = (n : ℕ) → count_by (λ (d : Definition)
 abbrev pub IsOfSet : SetValue → Definition → Type 0
 IsOfSet fonts d = d ≡ definition_of fonts d.number
 
--- the bytes are a file of these pages as the writer makes it; the machine itself sees to it that a font is defined before its first use, and that the pointers from bop to bop are right
+-- the bytes are a file of these pages as the writer makes it. That the machine reads it to its end says also that each font is defined
+-- before its first use, and that the pointers from bop to bop are right
 pub record Written (fonts : SetValue) (bytes : List ℕ) (marked : List (List Place)) : Type 0 where
   -- the machine reads it to its end
   pub file : File

@@ -140,15 +140,19 @@ fn write_file(alloc: Global, fonts: &FontSet, pages: &[PlaceList]) -> Result<Vec
     Ok(out)
 }
 
-/// The DVI file of pages of marks.
+/// The DVI file of pages of marks (tex.web, part 31).
 ///
 /// It is a file of the format's identifier 2, in scaled points, with the magnification 1000. Its k-th page has k in
 /// count 0. The fonts that are used are defined before their first use and once more after the pages; a font's number
-/// is that in the set. The pages are refused where there are more than 65,535 of them, and then where they have more
-/// than 2,000,000 marks together; the number given with the latter is at most 2^64 - 1.
+/// is that in the set.
 ///
 /// The coordinates of the marks and the extents of their glyphs and rules are at most 2^30 - 1 scaled points in size,
 /// each glyph exists in its font, and each rule has a positive height and a positive width.
+///
+/// # Errors
+///
+/// The first of these: `TooManyPages` above 65,535 pages, `TooManyPlaces` above 2,000,000 marks on all pages
+/// together, with their number, which is given as 2^64 - 1 where it is greater. `OutOfMemory` where memory ran out.
 pub fn write_dvi(
     alloc: Global,
     fonts: &FontSet,

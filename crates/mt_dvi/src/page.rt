@@ -18,8 +18,11 @@ use std::alloc::AllocError;
 /// Where the machine stands in a page, and the font that is selected.
 #[derive(Clone, Copy, Debug)]
 pub struct Cursor {
+    /// In scaled points, to the right of the page's origin.
     pub h: i64,
+    /// In scaled points, below the page's origin.
     pub v: i64,
+    /// The font's number in the set.
     pub font: Option<u16>,
 }
 

@@ -54,7 +54,7 @@ const MAX_TOKENS: usize = 50_000;
 /// The greatest number of steps.
 const MAX_STEPS: u32 = 20_000;
 
-/// The list in which no macro is left. Each step replaces the leftmost macro, with its arguments, by its body.
+/// The list in which no macro is left. Each step replaces the leftmost macro, with its arguments, by its body (The TeXbook, chapter 20).
 ///
 /// # Errors
 ///

@@ -47,10 +47,9 @@ fn expanded(
     Ok(expand(alloc, macros, list.as_slice()))
 }
 
-#[test]
-fn expands_leftmost_macro_first(rt: HostRuntime) -> Result<(), Fail> {
-    let alloc = rt.alloc();
-    let macros = defined(
+// \x drops its argument, and \y stands for itself.
+fn four_macros(alloc: Global) -> Result<Macros, Fail> {
+    defined(
         alloc,
         &[
             (b"x", 1, b""),
@@ -58,7 +57,13 @@ fn expands_leftmost_macro_first(rt: HostRuntime) -> Result<(), Fail> {
             (b"f", 2, b"[#2|#1#1]"),
             (b"z", 0, b"bc"),
         ],
-    )?;
+    )
+}
+
+#[test]
+fn expands_leftmost_macro_first(rt: HostRuntime) -> Result<(), Fail> {
+    let alloc = rt.alloc();
+    let macros = four_macros(alloc)?;
     let cases: [(&[u8], &[u8]); 5] = [
         // The argument is dropped before it is expanded.
         (b"\\x\\y", b""),
@@ -72,6 +77,13 @@ fn expands_leftmost_macro_first(rt: HostRuntime) -> Result<(), Fail> {
         let list = expanded(alloc, &macros, text)??;
         assert!(rt; are_same(&list, &tokens(alloc, want)?));
     }
+    Ok(())
+}
+
+#[test]
+fn finds_first_fault(rt: HostRuntime) -> Result<(), Fail> {
+    let alloc = rt.alloc();
+    let macros = four_macros(alloc)?;
     let faults: [(&[u8], ExpandError); 6] = [
         (b"a\\x", ExpandError::MissingArgument(1)),
         // The place is that in the list of the step: \z has become two tokens.

@@ -67,6 +67,19 @@ fn finds_first_fault(rt: HostRuntime) -> Result<(), Fail> {
 }
 
 #[test]
+fn copies_tokens(rt: HostRuntime) -> Result<(), Fail> {
+    let alloc = rt.alloc();
+    let list = tokens(alloc, b"\\alpha x ")?;
+    let mut copies = Vec::new(alloc);
+    for token in list.as_slice() {
+        copies.push(token.copied(alloc)?)?;
+    }
+    let want: [Short; 3] = [(b"alpha", 0, 6), (b"x", 7, 8), (b"", 8, 9)];
+    assert!(rt; are_tokens(&TokenList::from_vec(copies), &want));
+    Ok(())
+}
+
+#[test]
 fn bounds_the_source(rt: HostRuntime) -> Result<(), Fail> {
     let alloc = rt.alloc();
     let mut source = vec![in alloc; b'%'; 4_194_304]?;
