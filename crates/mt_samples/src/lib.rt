@@ -2,7 +2,7 @@
 //! list that names them.
 #![tactic(auto)]
 
-ghost use Rattle.std.specs.Prelude.{◌≡◌, IfOk, Ok};
+ghost use Rattle.std.specs.Prelude.{◌≡◌, ◌≤◌, IfOk, Ok, length};
 ghost use Rattle.mt_samples.specs.Which.{table_of};
 ghost use Rattle.mt_family.specs.Lists.{font_list};
 ghost use Rattle.mt_samples.specs.Lists.{toy_list};
@@ -65,12 +65,14 @@ pub fn toy_tfm(alloc: Global, which: Toy) -> Result<Bytes, AllocError>
 }
 
 /// The list of the example fonts: toyr, toym and toys at 10pt, 7pt and 5pt, toyx at 10pt, and families 0 to 3.
+/// It has at most 65,536 bytes, the limit of a font list.
 ///
 /// # Errors
 ///
 /// Only where there is no memory left.
 pub fn toy_list(alloc: Global) -> Result<Bytes, AllocError>
-    ensures { IfOk result (λ bytes. font_list bytes ≡ Ok toy_list) }
+    ensures reads { IfOk result (λ bytes. font_list bytes ≡ Ok toy_list) }
+    ensures short { IfOk result (λ bytes. length bytes ≤ 65536) }
 {
     Ok(Bytes::from_vec(Vec::from_slice(alloc, LIST.as_bytes())?))
 }
