@@ -42,6 +42,30 @@ fn reads_a_font_of_one_character(rt: HostRuntime) -> Result<(), Fail> {
 }
 
 #[test]
+fn finds_what_a_tag_names(rt: HostRuntime) -> Result<(), Fail> {
+    let alloc = rt.alloc();
+    // The program joins 97 with 97 to 97.
+    let joined = changed(alloc, &[(1, 16), (17, 1), (34, 1)], &[128, 97, 0, 97])?;
+    let font = read_tfm(alloc, &joined, 655360, None)?;
+    assert_eq!(rt; font.pair(97, 97), Pair::Join(97));
+    // The character 98 is larger than 97.
+    let codes = [(1, 16), (7, 98), (34, 2), (35, 98), (36, 1), (37, 16)];
+    let mut changes = codes.to_vec(alloc)?;
+    changes.extend_from_slice(&[(41, 0), (45, 8), (49, 0), (53, 8)])?;
+    let larger = changed(alloc, &changes, &[0; 4])?;
+    let font = read_tfm(alloc, &larger, 655360, None)?;
+    assert_eq!(rt; (font.larger(97), font.larger(98)), (Some(98), None));
+    // The recipe of 97 has no top and no bottom.
+    let extensible = changed(alloc, &[(1, 16), (21, 1), (34, 3)], &[0, 97, 0, 97])?;
+    let font = read_tfm(alloc, &extensible, 655360, None)?;
+    let pieces = font
+        .recipe(97)
+        .map(|recipe| (recipe.top, recipe.middle, recipe.bottom));
+    assert_eq!(rt; pieces, Some((0, 97, 0)));
+    Ok(())
+}
+
+#[test]
 fn a_font_cut_short_is_truncated(rt: HostRuntime) -> Result<(), Fail> {
     for length in 0..60usize {
         let fault = read_tfm(rt.alloc(), &FONT[..length], 655360, None).err();
