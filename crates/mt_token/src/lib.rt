@@ -1,4 +1,4 @@
-//! Tokens: the source's bytes as TeX's eyes read them.
+//! The tokens of a source, which is bytes.
 //!
 //! The rules are those of The TeXbook, chapter 8, and of tex.web part 24 (§§343 to 356), with plain TeX's category codes. What this crate refuses is listed in docs/RULES.md.
 #![tactic(auto)]

@@ -6,7 +6,7 @@ use crate::token::TokenKind;
 use mt_scaled::Name;
 use std::alloc::{AllocError, Global};
 
-/// Where TeX's eyes are in a line (The TeXbook, chapter 8).
+/// The state in which a line is read (The TeXbook, chapter 8).
 #[derive(Clone, Copy, Debug, PartialEq, Eq)]
 pub enum State {
     /// State N: at the beginning of a line, where blanks are skipped and the line's end is a `\par`.

@@ -21,7 +21,7 @@ fn are_tokens(list: &TokenList, want: &[Short]) -> bool {
 #[test]
 fn reads_tokens(rt: HostRuntime) -> Result<(), Fail> {
     let alloc = rt.alloc();
-    // A control word swallows the blanks after it; a line that ends in the middle gives a Space, an empty one \par.
+    // Blanks after a control word are skipped; a line that ends in the middle gives a Space, an empty one \par.
     let list = tokens(alloc, b" \\alpha  x\\, \t y\r\n\n% all\n$a^b$%z")?;
     let want: [Short; 12] = [
         (b"alpha", 1, 7),
@@ -59,7 +59,7 @@ fn finds_first_fault(rt: HostRuntime) -> Result<(), Fail> {
     for (source, fault) in &faults {
         assert_eq!(rt; tokens(alloc, source).err(), Some(*fault));
     }
-    // A control symbol may be any visible character, and a comment hides what stands in it.
+    // A control symbol may be any visible character, and no byte of a comment is a fault.
     let list = tokens(alloc, b"\\^^\\~%~\xff^^")?;
     let want: [Short; 3] = [(b"^", 0, 2), (b"^", 2, 3), (b"~", 3, 5)];
     assert!(rt; are_tokens(&list, &want));
