@@ -1,16 +1,12 @@
 -- Worked files.
-use Rattle.std.specs.Prelude.{◌≡◌, ℕ, pos, List, [], ◌∷◌, map, false, Result, Ok, Err, None, refl, take}
+use Rattle.std.specs.Prelude.{ℕ, pos, List, [], ◌∷◌, None, refl, take}
 use Rattle.mt_family.specs.declared.list.FontLine.{FontLine}
 use Rattle.mt_tfm.specs.Font.{Metrics}
 use Rattle.mt_dvi.specs.Codes.{operand_size, operation}
-use Rattle.mt_dvi.specs.File.{Fault, Page, Reading, read, reading}
-use Rattle.mt_dvi.specs.Machine.{Mark, Truncated}
+use Rattle.mt_dvi.specs.File.{Dvi, DviFault, pages_of, read, reading}
+use Rattle.mt_dvi.specs.Machine.{Truncated}
 use Rattle.mt_family.specs.SetValue.{SetValue}
 use Rattle.mt_box.specs.declared.place.Place.TheVariants as places
-
-abbrev pub seen : Reading → Result (List (List Mark)) Fault
-seen (Ok file) = Ok (map (λ (p : Page). p.marks) file.pages)
-seen (Err e) = Err e
 
 abbrev empty : List ℕ
 empty = 247 ∷ 2 ∷ 1 ∷ 131 ∷ 146 ∷ 192 ∷ 28 ∷ 59 ∷ 0 ∷ 0 ∷ 0 ∷ 0 ∷ 3 ∷ 232 ∷ 0 ∷ 248 ∷ 255 ∷ 255 ∷ 255 ∷ 255 ∷ 1 ∷ 131 ∷ 146 ∷ 192 ∷ 28 ∷ 59 ∷ 0 ∷ 0 ∷ 0 ∷ 0 ∷ 3 ∷ 232 ∷ 0 ∷ 0 ∷ 0 ∷ 0 ∷ 0 ∷ 0 ∷ 0 ∷ 0 ∷ 0 ∷ 0 ∷ 0 ∷ 0 ∷ 249 ∷ 0 ∷ 0 ∷ 0 ∷ 15 ∷ 2 ∷ 223 ∷ 223 ∷ 223 ∷ 223 ∷ 223 ∷ 223 ∷ []
@@ -51,22 +47,22 @@ fonts = record {
 abbrev no_fonts : SetValue
 no_fonts = record { lines = []; families = []; fonts = [] }
 
-empty_is : seen (read no_fonts empty) ≡ Ok []
-unfolding read reading operation operand_size
+empty_is : Dvi no_fonts empty []
+unfolding pages_of read reading operation operand_size
 empty_is = refl
 
-empty_cut : seen (read no_fonts (take 55 empty)) ≡ Ok []
-unfolding read reading operation operand_size
+empty_cut : Dvi no_fonts (take 55 empty) []
+unfolding pages_of read reading operation operand_size
 empty_cut = refl
 
-empty_cut_more : seen (read no_fonts (take 47 empty)) ≡ Err (record { cause = Truncated; at = 44 })
-unfolding read reading operation operand_size
+empty_cut_more : DviFault no_fonts (take 47 empty) (record { cause = Truncated; at = 44 })
+unfolding pages_of read reading operation operand_size
 empty_cut_more = refl
 
-one_is : seen (read fonts one) ≡ Ok ((record { place = places.Glyph 3 97 (pos 0) (pos 327680); put = false } ∷ []) ∷ [])
-unfolding read reading operation operand_size
+one_is : Dvi fonts one ((places.Glyph 3 97 (pos 0) (pos 327680) ∷ []) ∷ [])
+unfolding pages_of read reading operation operand_size
 one_is = refl
 
-one_cut : seen (read fonts (take 100 one)) ≡ Err (record { cause = Truncated; at = 88 })
-unfolding read reading operation operand_size
+one_cut : DviFault fonts (take 100 one) (record { cause = Truncated; at = 88 })
+unfolding pages_of read reading operation operand_size
 one_cut = refl
