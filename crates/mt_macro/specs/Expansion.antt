@@ -85,7 +85,7 @@ abbrev pub Expands : Result (List Token) ExpandError → Outcome → Type 0
 Expands (Ok list) o = o ≡ Expanded list
 Expands (Err e) o = IsErrorOf e o
 
--- a step makes the list longer than 50,000 tokens, which is its length, where so many tokens stand before the macro
+-- a step makes the list n tokens long, more than 50,000, where so many tokens stand before the macro
 pub record ExceedsBudget (passed n : ℕ) (s : Stepped) : Type 0 where
   pub list : List Token
   pub is : s ≡ Next list

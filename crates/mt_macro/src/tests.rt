@@ -174,8 +174,8 @@ fn refuses_definitions(rt: HostRuntime) -> Result<(), Fail> {
         let body = tokens(alloc, text)?;
         assert!(rt; body.len() < 100);
         assert_eq!(rt; macros.define(&x, *params, body.as_slice()), *want);
-        let own = macros.preload(&x, *params, body.as_slice());
-        assert_eq!(rt; own, *want);
+        let preloaded = macros.preload(&x, *params, body.as_slice());
+        assert_eq!(rt; preloaded, *want);
     }
     // The last definition stands.
     let list = expanded(alloc, &macros, b"\\x")??;
