@@ -86,9 +86,10 @@ fn lists_hold_what_they_are_made_of(rt: HostRuntime) -> Result<(), Fail> {
     Ok(())
 }
 
-#[test]
-fn lists_hold_lists(rt: HostRuntime) -> Result<(), Fail> {
-    let alloc = rt.alloc();
+// A letter over a choice of styles.
+fn fraction(alloc: Global) -> Result<Item, AllocError>
+    ensures { IfOk result (λ item. StandsInside (element_of item)) }
+{
     let choice = Choice {
         display: MathList::from_vec(Vec::new(alloc)),
         text: MathList::from_vec(vec![in alloc; Item::Style(Style::S)]?),
@@ -102,7 +103,13 @@ fn lists_hold_lists(rt: HostRuntime) -> Result<(), Fail> {
         num: MathList::from_vec(vec![in alloc; letter(alloc, 97)?]?),
         den: MathList::from_vec(vec![in alloc; Item::Choice(Box::new(alloc, choice)?)]?),
     };
-    let row = MathList::from_vec(vec![in alloc; Item::Fraction(Box::new(alloc, fraction)?)]?);
+    Ok(Item::Fraction(Box::new(alloc, fraction)?))
+}
+
+#[test]
+fn rows_hold_lists(rt: HostRuntime) -> Result<(), Fail> {
+    let alloc = rt.alloc();
+    let row = MathList::from_vec(vec![in alloc; fraction(alloc)?]?);
     let rows = RowList::from_vec(vec![in alloc; row]?);
     assert_eq!(rt; rows.len(), 1);
     assert!(rt; !rows.is_empty() && rows.get(1).is_none());
@@ -113,27 +120,32 @@ fn lists_hold_lists(rt: HostRuntime) -> Result<(), Fail> {
         )
     );
     assert_eq!(rt; rows.as_slice().len(), 1);
-    let rows = RowList::from_vec(rows.into_vec());
+    assert_eq!(rt; rows.into_vec().len(), 1);
+    Ok(())
+}
+
+#[test]
+fn documents_hold_formulas(rt: HostRuntime) -> Result<(), Fail> {
+    let alloc = rt.alloc();
     let atom = Atom {
         kind: Kind::Vcenter,
         limits: Limits::Default,
-        nucleus: Field::Rows(rows),
+        nucleus: Field::Rows(RowList::from_vec(Vec::new(alloc))),
         sup: Field::Empty,
         sub: Field::List(MathList::from_vec(Vec::new(alloc))),
     };
     let body = MathList::from_vec(vec![in alloc; Item::Atom(Box::new(alloc, atom)?)]?);
     assert!(rt; !body.is_empty());
+    let number = Item::MuSpace(Glue {
+        width: 3,
+        shrink: 0,
+    });
     let formula = Formula {
         number: 1,
         display: true,
         body,
         tag: Some(Tag {
-            body: MathList::from_vec(vec![in alloc;
-                Item::MuSpace(Glue {
-                    width: 3,
-                    shrink: 0
-                }),
-            ]?),
+            body: MathList::from_vec(vec![in alloc; number]?),
             left: false,
         }),
     };
