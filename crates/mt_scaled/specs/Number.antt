@@ -1,5 +1,6 @@
 -- The arithmetic of scaled points over unbounded whole numbers.
-use Rattle.std.specs.Prelude.{ℕ, ℤ, pos, negsuc, neg_ℤ, ◌+◌, ◌-◌, ◌*◌, ◌/◌, ◌%◌, ◌≤ℤ◌, ◌+ℤ◌, ◌*ℤ◌, Bool, List, [], ◌∷◌, take, nat_le, nat_abs, int_div}
+use Rattle.std.specs.Prelude.{ℕ, ℤ, pos, negsuc, neg_ℤ, ◌+◌, ◌*◌, ◌/◌, ◌≤ℤ◌, ◌+ℤ◌, ◌*ℤ◌, Bool, List, [], ◌∷◌, take, nat_le, nat_abs, int_div}
+use Rattle.std.specs.Int.{int_div_euclid, int_rem_euclid}
 
 -- x is at most n in size
 pub record Within (n : ℕ) (x : ℤ) : Type 0 where
@@ -23,13 +24,11 @@ ratio_of (negsuc s) x t = neg_ℤ (pos ((2 * ((s + 1) * nat_abs x) + nat_abs t) 
 
 -- mu = 65536·n + f, where 0 ≤ f < 65536: this is n
 abbrev pub whole_of : ℤ → ℤ
-whole_of (pos m) = pos (m / 65536)
-whole_of (negsuc m) = negsuc (m / 65536)
+whole_of mu = int_div_euclid mu (pos 65536)
 
 -- and this is f
 abbrev pub part_of : ℤ → ℤ
-part_of (pos m) = pos (m % 65536)
-part_of (negsuc m) = pos (65535 - m % 65536)
+part_of mu = int_rem_euclid mu (pos 65536)
 
 -- n·x, and x·f/65536 toward zero
 abbrev pub mu_product : ℤ → ℤ → ℤ

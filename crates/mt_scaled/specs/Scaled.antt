@@ -9,14 +9,14 @@ abbrev pub halved_alpha : ℕ → ℕ → ℕ
 halved_alpha size alpha = if nat_le 8388608 size then 2 * alpha else alpha
 
 -- the last three bytes at a size
-abbrev pub carried : ℕ → ℕ → ℕ → ℕ → ℕ
-carried b c d size = ((d * size) / 256 + c * size) / 256 + b * size
+abbrev pub fraction_at : ℕ → ℕ → ℕ → ℕ → ℕ
+fraction_at b c d size = ((d * size) / 256 + c * size) / 256 + b * size
 
 -- at a size below 2^23, where the first byte is the sign
 abbrev pub fixed_at : ℕ → ℕ → ℕ → ℕ → ℕ → ℕ → Option ℤ
 fixed_at a b c d size alpha =
-    if a == 0 then Some (pos (carried b c d size / (256 / alpha)))
-    else (if a == 255 then Some (pos (carried b c d size / (256 / alpha)) -ℤ pos (alpha * size)) else None)
+    if a == 0 then Some (pos (fraction_at b c d size / (256 / alpha)))
+    else (if a == 255 then Some (pos (fraction_at b c d size / (256 / alpha)) -ℤ pos (alpha * size)) else None)
 
 -- four turns bring a size below 2^27 below 2^23
 abbrev pub fixed : ℕ → ℕ → ℕ → ℕ → ℤ → Option ℤ

@@ -12,7 +12,7 @@ pub fn round_decimals(digits: &[u8]) -> i64
     let first = prefix(digits);
     let mut a: u64 = 0;
     for i in (0..first.len()).rev() {
-        a = carried(a, first[i]);
+        a = with_digit(a, first[i]);
     }
     a.div_ceil(2) as i64
 }
@@ -29,7 +29,7 @@ fn prefix(digits: &[u8]) -> &[u8]
 }
 
 // The fraction with one more digit in front, in 2^-17ths.
-fn carried(a: u64, digit: u8) -> u64
+fn with_digit(a: u64, digit: u8) -> u64
     requires a { a ≤ 131072 }
     requires digit { digit ≤ 9 }
     ensures is { result ≡ (a + 131072 * digit) / 10 }

@@ -31,11 +31,7 @@ fn whole(mu: i64) -> i64
     ensures is { result ≡ whole_of mu }
     ensures small { Within (2 ^ 16) result }
 {
-    if mu >= 0 {
-        mu / 65536
-    } else {
-        -1 - (-1 - mu) / 65536
-    }
+    mu.div_euclid(65536)
 }
 
 // The scaled points that 1 mu has besides.
@@ -45,9 +41,5 @@ fn part(mu: i64) -> i64
     ensures low { pos 0 ≤ℤ result }
     ensures high { result ≤ℤ pos 65535 }
 {
-    if mu >= 0 {
-        mu % 65536
-    } else {
-        65535 - (-1 - mu) % 65536
-    }
+    mu.rem_euclid(65536)
 }
