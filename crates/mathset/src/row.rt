@@ -1,6 +1,6 @@
 //! The row of a formula's glyphs, and the page that it stands on.
 ghost use Rattle.std.specs.Prelude.{◌≡◌, ◌≤◌, ◌^◌, ◌++◌, ◌∷◌, [], All, IfOk, OnOk, length, None, Ok};
-ghost use Rattle.mt_box.specs.Layout.{picture_of};
+ghost use Rattle.mt_box.specs.Layout.{layout_of};
 ghost use Rattle.mt_box.specs.Pack.{AllModest};
 ghost use Rattle.mt_dvi.specs.Marks.{IsWritable};
 ghost use Rattle.mt_dvi.specs.Refusal.{refusal_of};
@@ -139,7 +139,7 @@ fn place_refusal(error: PlaceError) -> Status
 
 // The marks of a box whose left end is at 0 and whose top is at 0.
 fn standing(alloc: Global, body: &Packed) -> Result<PlaceList, Status>
-    ensures is { IsPure (placed (standing (picture_of body.now))) result }
+    ensures is { IsPure (placed (standing (layout_of body.now))) result }
     ensures few { IfOk result (λ page. length page ≤ 2000000) }
 {
     match places(alloc, body, 0, body.extents().height, MOST_PLACES) {

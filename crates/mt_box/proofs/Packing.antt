@@ -1,6 +1,6 @@
 -- How far a row is packed.
 use Rattle.std.proofs.Common.{◌≡◌, ℕ, ◌<◌, ◌≤◌, ◌+◌, ◌^◌, max, List, [], ◌∷◌, ◌++◌, length, pos, refl, arith, append_assoc, sym, ◌∙◌, subst}
-use Rattle.mt_box.specs.Layout.{Picture}
+use Rattle.mt_box.specs.Layout.{Layout}
 use Rattle.mt_box.specs.declared.packed.Node.{Node}
 use Rattle.mt_box.specs.declared.packed.Node.TheVariants.{Glyph as GlyphNode, Rule as RuleNode, Boxed as BoxNode}
 use Rattle.mt_box.specs.declared.piece.Piece.{Piece}
@@ -11,7 +11,7 @@ use Rattle.mt_box.specs.Pen.{pen_extents}
 use Rattle.mt_box.specs.Pack.{row_level, level_of_piece, IsModest, AllModest, IsMeasurable, AllMeasurable}
 use Rattle.mt_box.specs.Marks.{mark_of, marks_of, mark_places, marks_places, pack}
 use Rattle.mt_box.proofs.Lists.{nil_right}
-use Rattle.mt_box.proofs.Equalities.{picture_eq, extents_eq}
+use Rattle.mt_box.proofs.Equalities.{layout_eq, extents_eq}
 use Rattle.mt_box.proofs.Measuring.{Measuring, Measured, Passes, measuring_start, measuring_step, measuring_end}
 
 -- what is left goes on from the pen and the nodes
@@ -96,6 +96,6 @@ packing_end row rest p nodes h e =
     }
 
 -- the pen's layout is the row packed
-pub picture_packed : (row : List Piece) (p : Pen) (nodes : List Node) → PackedUp row p nodes → (let q : Picture = record { extents = pen_extents p; places = places_of_nodes nodes } in q) ≡ pack (marks_of row)
-picture_packed row p nodes h =
-    picture_eq (extents_eq h.measured.width h.measured.up h.measured.down) h.places
+pub layout_packed : (row : List Piece) (p : Pen) (nodes : List Node) → PackedUp row p nodes → (let q : Layout = record { extents = pen_extents p; places = places_of_nodes nodes } in q) ≡ pack (marks_of row)
+layout_packed row p nodes h =
+    layout_eq (extents_eq h.measured.width h.measured.up h.measured.down) h.places

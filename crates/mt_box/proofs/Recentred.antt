@@ -7,11 +7,11 @@ use Rattle.mt_scaled.specs.Number.{Within, half_of}
 use Rattle.mt_box.specs.declared.extents.Extents.{Extents}
 use Rattle.mt_box.specs.declared.place.Place.{Place}
 use Rattle.mt_box.specs.declared.packed.Packed.TheInside.{Inside}
-use Rattle.mt_box.specs.Layout.{Layout, Picture, picture_of, all_moved}
-use Rattle.mt_box.specs.Tree.{layout_of, places_of_nodes, IsSound, ExtentsInRange}
+use Rattle.mt_box.specs.Layout.{BoxValue, Layout, layout_of, all_moved}
+use Rattle.mt_box.specs.Tree.{value_of_box, places_of_nodes, IsSound, ExtentsInRange}
 use Rattle.mt_box.specs.Boxes.{rebox}
 use Rattle.mt_box.proofs.Packing.{higher}
-use Rattle.mt_box.proofs.Equalities.{picture_eq, extents_is}
+use Rattle.mt_box.proofs.Equalities.{layout_eq, extents_is}
 use Rattle.mt_box.proofs.Moved.{moved_twice}
 
 pub difference_kept : (w x : ℤ) → Within 1073741823 w → Within 1073741823 x → to_z w64 (of_z w64 (to_z w64 (of_z w64 w) -ℤ to_z w64 (of_z w64 x))) ≡ w -ℤ x
@@ -42,7 +42,7 @@ same_level : (n : ℕ) (s : ℤ) → Within (2 ^ 31 * n) s → Within (2 ^ 31 * 
 same_level n s h = record { low = omega (arith, ints, h.low); high = omega (arith, ints, h.high) }
 
 -- the box with a level more
-pub sound_again : (a : Inside) (b : Layout) → layout_of a ≡ b → IsSound a → b.level < 2 ^ 20 → IsSound record { extents = a.extents; level = a.level + 1; shift = to_z w64 (of_z w64 a.shift); nodes = a.nodes }
+pub sound_again : (a : Inside) (b : BoxValue) → value_of_box a ≡ b → IsSound a → b.level < 2 ^ 20 → IsSound record { extents = a.extents; level = a.level + 1; shift = to_z w64 (of_z w64 a.shift); nodes = a.nodes }
 sound_again a b e h l' =
     let l : a.level < 2 ^ 20 = rw (← e) at l' in
     record {
@@ -53,7 +53,7 @@ sound_again a b e h l' =
       nodes = higher _ _ _ (omega arith) h.nodes;
     }
 
-pub sound_moved : (a : Inside) (b : Layout) (x : Extents) (i : ℤ) → layout_of a ≡ b → IsSound a → b.level < 2 ^ 20 → ExtentsInRange x → Within (2 ^ 31) i → IsSound record { extents = x; level = a.level + 1; shift = to_z w64 (of_z w64 (to_z w64 (of_z w64 a.shift) +ℤ to_z w64 (of_z w64 i))); nodes = a.nodes }
+pub sound_moved : (a : Inside) (b : BoxValue) (x : Extents) (i : ℤ) → value_of_box a ≡ b → IsSound a → b.level < 2 ^ 20 → ExtentsInRange x → Within (2 ^ 31) i → IsSound record { extents = x; level = a.level + 1; shift = to_z w64 (of_z w64 (to_z w64 (of_z w64 a.shift) +ℤ to_z w64 (of_z w64 i))); nodes = a.nodes }
 sound_moved a b x i e h l' k m =
     let l : a.level < 2 ^ 20 = rw (← e) at l' in
     record {
@@ -70,7 +70,7 @@ shifted_on s i ps = sym (moved_twice i (pos 0) s (pos 0) ps)
 pub kept_width : (x w : ℤ) → x ≤ℤ w → w ≤ℤ pos 1073741823 → Within 1073741823 x → to_z w64 (of_z w64 w) ≡ w
 kept_width x w h k g = omega (arith, ints, g.low, h, k)
 
-pub wide_within : (a : Inside) (b : Layout) (w : ℤ) → layout_of a ≡ b → IsSound a → b.extents.width ≤ℤ w → w ≤ℤ pos 1073741823 → Within 1073741823 w
+pub wide_within : (a : Inside) (b : BoxValue) (w : ℤ) → value_of_box a ≡ b → IsSound a → b.extents.width ≤ℤ w → w ≤ℤ pos 1073741823 → Within 1073741823 w
 wide_within a b w e h low k =
     let l : a.extents.width ≤ℤ w = rw (← e) at low in
     record { low = omega (arith, ints, h.extents.width.low, l); high = k }
@@ -78,6 +78,6 @@ wide_within a b w e h low k =
 pub kept_wide : (w : ℤ) → Within 1073741823 w → to_z w64 (of_z w64 w) ≡ w
 kept_wide w h = omega (arith, ints, h.low, h.high)
 
-pub recentred : (a : Inside) (b : Layout) (x : Extents) (w w' i : ℤ) → layout_of a ≡ b → IsSound a → w' ≡ w → int_eq a.extents.width w' ≡ false → x.width ≡ w' → x.height ≡ int_max (pos 0) a.extents.height → x.depth ≡ int_max (pos 0) a.extents.depth → i ≡ half_of (w' -ℤ a.extents.width) → Within (2 ^ 31) i → (let p : Picture = record { extents = x; places = all_moved (to_z w64 (of_z w64 (to_z w64 (of_z w64 a.shift) +ℤ to_z w64 (of_z w64 i)))) (pos 0) (places_of_nodes a.nodes.items) } in p) ≡ rebox (picture_of b) w
+pub recentred : (a : Inside) (b : BoxValue) (x : Extents) (w w' i : ℤ) → value_of_box a ≡ b → IsSound a → w' ≡ w → int_eq a.extents.width w' ≡ false → x.width ≡ w' → x.height ≡ int_max (pos 0) a.extents.height → x.depth ≡ int_max (pos 0) a.extents.depth → i ≡ half_of (w' -ℤ a.extents.width) → Within (2 ^ 31) i → (let p : Layout = record { extents = x; places = all_moved (to_z w64 (of_z w64 (to_z w64 (of_z w64 a.shift) +ℤ to_z w64 (of_z w64 i)))) (pos 0) (places_of_nodes a.nodes.items) } in p) ≡ rebox (layout_of b) w
 recentred a b x w w' i e h same ne p q r is m =
-    rw (← e, ← same, ne, shift_kept a.level a.shift i h.level h.shift m, ← is) (picture_eq (extents_is x _ _ _ p q r) (shifted_on a.shift i (places_of_nodes a.nodes.items)))
+    rw (← e, ← same, ne, shift_kept a.level a.shift i h.level h.shift m, ← is) (layout_eq (extents_is x _ _ _ p q r) (shifted_on a.shift i (places_of_nodes a.nodes.items)))

@@ -3,7 +3,7 @@ use Rattle.std.proofs.Common.{◌≡◌, ℕ, ◌<◌, ◌≤◌, ◌+◌, ◌-�
 use Rattle.std.proofs.lemmas.Int.{ints, clamps}
 use Rattle.std.specs.Int.{int_max}
 use Rattle.mt_scaled.specs.Number.{Within}
-use Rattle.mt_box.specs.Layout.{Layout, Picture, all_moved}
+use Rattle.mt_box.specs.Layout.{BoxValue, Layout, all_moved}
 use Rattle.mt_box.specs.declared.extents.Extents.{Extents}
 use Rattle.mt_box.specs.declared.packed.Node.{Node}
 use Rattle.mt_box.specs.declared.entry.Entry.{Entry}
@@ -12,10 +12,10 @@ use Rattle.mt_box.specs.declared.place.Place.{Place}
 use Rattle.mt_box.specs.declared.columns.Frame.{Frame}
 use Rattle.mt_box.specs.declared.columns.Edge.{Edge}
 use Rattle.mt_box.specs.Tree.{AllFit, places_of_nodes, ExtentsInRange}
-use Rattle.mt_box.specs.Edge.{edge_picture}
+use Rattle.mt_box.specs.Edge.{edge_layout}
 use Rattle.mt_box.specs.Columns.{Layer, layer_of, layers_of, layer_width, layer_drop, layer_places, layers_width, layers_drop, layers_places, level_of_entry, column_level, IsModestEntry, AllModestEntries, stack}
 use Rattle.mt_box.proofs.Lists.{nil_right}
-use Rattle.mt_box.proofs.Equalities.{extents_is, extents_eq, picture_eq}
+use Rattle.mt_box.proofs.Equalities.{extents_is, extents_eq, layout_eq}
 use Rattle.mt_box.proofs.Packing.{higher}
 
 pub top_within : (x t : ℤ) → x ≡ t → Within (2 ^ 40) t → Within (2 ^ 40) x
@@ -23,13 +23,13 @@ top_within x t e h = rw e h
 
 -- ---- one entry
 
-pub drop_within_boxed : (q : Entry) (s : ℤ) (b : Layout) (i : Extents) → q ≡ BoxEntry s b → i ≡ b.extents → ExtentsInRange i → Within (2 ^ 41) (layer_drop (layer_of q))
+pub drop_within_boxed : (q : Entry) (s : ℤ) (b : BoxValue) (i : Extents) → q ≡ BoxEntry s b → i ≡ b.extents → ExtentsInRange i → Within (2 ^ 41) (layer_drop (layer_of q))
 drop_within_boxed q s b i e f h = rw (e, ← f) (record { low = omega (arith, ints, h.height, h.depth); high = omega (arith, ints, h.height, h.depth) })
 
-pub drop_boxed : (q : Entry) (s y : ℤ) (b : Layout) (i : Extents) → q ≡ BoxEntry s b → i ≡ b.extents → ExtentsInRange i → Within (2 ^ 62 + 2 ^ 41) y → to_z w64 (of_z w64 (to_z w64 (of_z w64 y) -ℤ to_z w64 (of_z w64 (to_z w64 (of_z w64 i.height) +ℤ to_z w64 (of_z w64 i.depth))))) ≡ y -ℤ layer_drop (layer_of q)
+pub drop_boxed : (q : Entry) (s y : ℤ) (b : BoxValue) (i : Extents) → q ≡ BoxEntry s b → i ≡ b.extents → ExtentsInRange i → Within (2 ^ 62 + 2 ^ 41) y → to_z w64 (of_z w64 (to_z w64 (of_z w64 y) -ℤ to_z w64 (of_z w64 (to_z w64 (of_z w64 i.height) +ℤ to_z w64 (of_z w64 i.depth))))) ≡ y -ℤ layer_drop (layer_of q)
 drop_boxed q s y b i e f h k = rw (e, ← f) (omega (arith, ints, h.height, h.depth))
 
-pub width_boxed : (q : Entry) (s w m : ℤ) (b : Layout) (i : Extents) → q ≡ BoxEntry s b → i ≡ b.extents → ExtentsInRange i → IsModestEntry q → m ≡ int_max (to_z w64 (of_z w64 (to_z w64 (of_z w64 i.width) +ℤ to_z w64 (of_z w64 s)))) (to_z w64 (of_z w64 w)) → FitsSigned w64 w → FitsSigned w64 m → to_z w64 (of_z w64 m) ≡ int_max (layer_width (layer_of q)) w
+pub width_boxed : (q : Entry) (s w m : ℤ) (b : BoxValue) (i : Extents) → q ≡ BoxEntry s b → i ≡ b.extents → ExtentsInRange i → IsModestEntry q → m ≡ int_max (to_z w64 (of_z w64 (to_z w64 (of_z w64 i.width) +ℤ to_z w64 (of_z w64 s)))) (to_z w64 (of_z w64 w)) → FitsSigned w64 w → FitsSigned w64 m → to_z w64 (of_z w64 m) ≡ int_max (layer_width (layer_of q)) w
 width_boxed q s w m b i e f h k g fw fm =
     let k' : IsModestEntry (BoxEntry s b) = rw e at k in
     let a : to_z w64 (of_z w64 (to_z w64 (of_z w64 i.width) +ℤ to_z w64 (of_z w64 s))) ≡ i.width +ℤ s = omega (arith, ints, h.width, k'.0) in
@@ -37,14 +37,14 @@ width_boxed q s w m b i e f h k g fw fm =
     let r : to_z w64 (of_z w64 m) ≡ m = omega (arith, ints) in
     rw (e, ← f) (r ∙ (g ∙ (ap (λ z. int_max z (to_z w64 (of_z w64 w))) a ∙ ap (int_max (i.width +ℤ s)) d)))
 
-pub places_boxed : (q : Entry) (s y w : ℤ) (b : Layout) (i : Extents) → q ≡ BoxEntry s b → i ≡ b.extents → ExtentsInRange i → IsModestEntry q → Within (2 ^ 62 + 2 ^ 41) y → all_moved (to_z w64 (of_z w64 s)) (to_z w64 (of_z w64 (to_z w64 (of_z w64 y) -ℤ to_z w64 (of_z w64 i.height)))) b.places ≡ layer_places w y (layer_of q)
+pub places_boxed : (q : Entry) (s y w : ℤ) (b : BoxValue) (i : Extents) → q ≡ BoxEntry s b → i ≡ b.extents → ExtentsInRange i → IsModestEntry q → Within (2 ^ 62 + 2 ^ 41) y → all_moved (to_z w64 (of_z w64 s)) (to_z w64 (of_z w64 (to_z w64 (of_z w64 y) -ℤ to_z w64 (of_z w64 i.height)))) b.places ≡ layer_places w y (layer_of q)
 places_boxed q s y w b i e f h k l =
     let k' : IsModestEntry (BoxEntry s b) = rw e at k in
     let a : to_z w64 (of_z w64 s) ≡ s = omega (arith, ints, k'.0) in
     let d : to_z w64 (of_z w64 (to_z w64 (of_z w64 y) -ℤ to_z w64 (of_z w64 i.height))) ≡ y -ℤ i.height = omega (arith, ints, h.height) in
     rw (e, a, d, f) refl
 
-pub fits_boxed : (q : Entry) (s y : ℤ) (b : Layout) (i : Extents) → q ≡ BoxEntry s b → ExtentsInRange i → IsModestEntry q → Within (2 ^ 62 + 2 ^ 41) y → (level : ℕ) → level_of_entry q < level → Within (2 ^ 62 + 2 ^ 42) (to_z w64 (of_z w64 s)) × Within (2 ^ 62 + 2 ^ 42) (to_z w64 (of_z w64 (to_z w64 (of_z w64 y) -ℤ to_z w64 (of_z w64 i.height)))) × (b.level < level)
+pub fits_boxed : (q : Entry) (s y : ℤ) (b : BoxValue) (i : Extents) → q ≡ BoxEntry s b → ExtentsInRange i → IsModestEntry q → Within (2 ^ 62 + 2 ^ 41) y → (level : ℕ) → level_of_entry q < level → Within (2 ^ 62 + 2 ^ 42) (to_z w64 (of_z w64 s)) × Within (2 ^ 62 + 2 ^ 42) (to_z w64 (of_z w64 (to_z w64 (of_z w64 y) -ℤ to_z w64 (of_z w64 i.height)))) × (b.level < level)
 fits_boxed q s y b i e h k l level lt =
     let k' : IsModestEntry (BoxEntry s b) = rw e at k in
     let lt' : level_of_entry (BoxEntry s b) < level = rw e at lt in
@@ -185,14 +185,14 @@ stacking_end column rest f e nodes h g =
 places_at_frame : (ls : List Layer) {w w' t t' : ℤ} → w ≡ w' → t ≡ t' → layers_places w t ls ≡ layers_places w' t' ls
 places_at_frame ls p q = cc
 
-pub edge_sealed : (e : Edge) (f : Frame) (x : Extents) (ps : List Place) → x.width ≡ f.width → x.height ≡ f.top → x.depth ≡ pos 0 -ℤ e.y → (let p : Picture = record { extents = x; places = ps } in p) ≡ edge_picture e f ps
-edge_sealed e f x ps a b c = picture_eq (extents_is x _ _ _ a b c) refl
+pub edge_sealed : (e : Edge) (f : Frame) (x : Extents) (ps : List Place) → x.width ≡ f.width → x.height ≡ f.top → x.depth ≡ pos 0 -ℤ e.y → (let p : Layout = record { extents = x; places = ps } in p) ≡ edge_layout e f ps
+edge_sealed e f x ps a b c = layout_eq (extents_is x _ _ _ a b c) refl
 
-pub stacked_up : (column : List Entry) (top : ℤ) (f : Frame) (e : Edge) (nodes : List Node) → Stacked column f e nodes → f ≡ record { width = layers_width (layers_of column); top = top } → edge_picture e f (places_of_nodes nodes) ≡ stack (layers_of column) top
+pub stacked_up : (column : List Entry) (top : ℤ) (f : Frame) (e : Edge) (nodes : List Node) → Stacked column f e nodes → f ≡ record { width = layers_width (layers_of column); top = top } → edge_layout e f (places_of_nodes nodes) ≡ stack (layers_of column) top
 stacked_up column top f e nodes h g =
     let w : f.width ≡ layers_width (layers_of column) = ap (λ (x : Frame). x.width) g in
     let t : f.top ≡ top = ap (λ (x : Frame). x.top) g in
-    picture_eq (extents_eq w t (h.depth ∙ ap (λ z. layers_drop (layers_of column) -ℤ z) t)) (h.places ∙ places_at_frame (layers_of column) w t)
+    layout_eq (extents_eq w t (h.depth ∙ ap (λ z. layers_drop (layers_of column) -ℤ z) t)) (h.places ∙ places_at_frame (layers_of column) w t)
 
 pub frame_top : (f : Frame) (w t : ℤ) → f ≡ record { width = w; top = to_z w64 (of_z w64 t) } → Within (2 ^ 40) t → f.top ≡ t
 frame_top f w t g h =

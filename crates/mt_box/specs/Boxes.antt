@@ -7,23 +7,23 @@ use Rattle.mt_box.specs.declared.place.Place.TheVariants.{Glyph}
 use Rattle.mt_box.specs.declared.extents.Extents.{Extents}
 use Rattle.mt_box.specs.declared.piece.Piece.{Piece}
 use Rattle.mt_box.specs.declared.piece.Piece.TheVariants.{Glyph as GlyphPiece, Boxed as BoxPiece, Kern, Space}
-use Rattle.mt_box.specs.Layout.{Picture, all_moved}
+use Rattle.mt_box.specs.Layout.{Layout, all_moved}
 use Rattle.mt_box.specs.Marks.{Mark, GlyphMark, BoxMark, KernMark, SpaceMark, pack}
 use Rattle.mt_box.specs.Pack.{level_of_piece, row_level}
 
 -- no box
-abbrev pub nothing : Picture
+abbrev pub nothing : Layout
 nothing = record { extents = record { width = pos 0; height = pos 0; depth = pos 0 }; places = [] }
 
-abbrev pub glyph_picture : ℕ → ℕ → Extents → Picture
-glyph_picture font code e = record { extents = e; places = Glyph font code (pos 0) (pos 0) ∷ [] }
+abbrev pub glyph_layout : ℕ → ℕ → Extents → Layout
+glyph_layout font code e = record { extents = e; places = Glyph font code (pos 0) (pos 0) ∷ [] }
 
 -- in the middle of a width
-abbrev pub rebox : Picture → ℤ → Picture
-rebox p width =
-    if int_eq p.extents.width width then p else record {
-      extents = record { width = width; height = int_max (pos 0) p.extents.height; depth = int_max (pos 0) p.extents.depth };
-      places = all_moved (half_of (width -ℤ p.extents.width)) (pos 0) p.places;
+abbrev pub rebox : Layout → ℤ → Layout
+rebox l width =
+    if int_eq l.extents.width width then l else record {
+      extents = record { width = width; height = int_max (pos 0) l.extents.height; depth = int_max (pos 0) l.extents.depth };
+      places = all_moved (half_of (width -ℤ l.extents.width)) (pos 0) l.places;
     }
 
 -- a lone box that is not raised stays as it is
@@ -32,13 +32,13 @@ is_zero (pos zero) = true
 is_zero (pos (suc n)) = false
 is_zero (negsuc n) = false
 
-abbrev pub clean_one : Mark → Picture
+abbrev pub clean_one : Mark → Layout
 clean_one (GlyphMark f c e) = pack (GlyphMark f c e ∷ [])
 clean_one (BoxMark r b) = if is_zero r then b else pack (BoxMark r b ∷ [])
 clean_one (KernMark k) = pack (KernMark k ∷ [])
 clean_one (SpaceMark w s) = pack (SpaceMark w s ∷ [])
 
-abbrev pub clean_marks : List Mark → Picture
+abbrev pub clean_marks : List Mark → Layout
 clean_marks [] = pack []
 clean_marks (m ∷ []) = clean_one m
 clean_marks (m ∷ n ∷ ms) = pack (m ∷ n ∷ ms)

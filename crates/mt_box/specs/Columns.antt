@@ -6,16 +6,16 @@ use Rattle.mt_box.specs.declared.place.Place.{Place}
 use Rattle.mt_box.specs.declared.place.Place.TheVariants.{Rule}
 use Rattle.mt_box.specs.declared.entry.Entry.{Entry}
 use Rattle.mt_box.specs.declared.entry.Entry.TheVariants.{Boxed as BoxEntry, Kern as KernEntry, Rule as RuleEntry}
-use Rattle.mt_box.specs.Layout.{Picture, picture_of, all_moved}
+use Rattle.mt_box.specs.Layout.{Layout, layout_of, all_moved}
 
 -- an entry of a column, with no level
 pub data Layer : Type 0 where
-  BoxLayer : (shift : ℤ) (body : Picture) → Layer
+  BoxLayer : (shift : ℤ) (body : Layout) → Layer
   KernLayer : (amount : ℤ) → Layer
   RuleLayer : (thickness : ℤ) → Layer
 
 abbrev pub layer_of : Entry → Layer
-layer_of (BoxEntry s b) = BoxLayer s (picture_of b)
+layer_of (BoxEntry s b) = BoxLayer s (layout_of b)
 layer_of (KernEntry k) = KernLayer k
 layer_of (RuleEntry t) = RuleLayer t
 
@@ -58,7 +58,7 @@ layers_places width y [] = []
 layers_places width y (l ∷ ls) = layer_places width y l ++ layers_places width (y -ℤ layer_drop l) ls
 
 -- the column, whose first entry's top is at `top`
-abbrev pub stack : List Layer → ℤ → Picture
+abbrev pub stack : List Layer → ℤ → Layout
 stack ls top = record {
   extents = record { width = layers_width ls; height = top; depth = layers_drop ls -ℤ top };
   places = layers_places (layers_width ls) top ls;

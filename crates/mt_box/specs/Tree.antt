@@ -7,7 +7,7 @@ use Rattle.mt_box.specs.declared.extents.Extents.{Extents}
 use Rattle.mt_box.specs.declared.packed.Node.{Node}
 use Rattle.mt_box.specs.declared.packed.Node.TheVariants.{Glyph as GlyphNode, Rule as RuleNode, Boxed as BoxNode}
 use Rattle.mt_box.specs.declared.packed.Packed.TheInside.{Inside}
-use Rattle.mt_box.specs.Layout.{Layout, all_moved}
+use Rattle.mt_box.specs.Layout.{BoxValue, all_moved}
 
 abbrev pub places_of_node : Node → List Place
 places_of_node (GlyphNode x y f c) = Glyph f c x (pos 0 -ℤ y) ∷ []
@@ -18,8 +18,8 @@ abbrev pub places_of_nodes : List Node → List Place
 places_of_nodes [] = []
 places_of_nodes (n ∷ ns) = places_of_node n ++ places_of_nodes ns
 
-abbrev pub layout_of : Inside → Layout
-layout_of a = record { extents = a.extents; places = all_moved a.shift (pos 0) (places_of_nodes a.nodes.items); level = a.level }
+abbrev pub value_of_box : Inside → BoxValue
+value_of_box a = record { extents = a.extents; places = all_moved a.shift (pos 0) (places_of_nodes a.nodes.items); level = a.level }
 
 abbrev pub places_of_option : Option Node → List Place
 places_of_option None = []

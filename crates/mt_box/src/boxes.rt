@@ -3,12 +3,12 @@ ghost use Rattle.std.specs.Prelude.{◌≡◌, ◌≤◌, ◌<◌, ◌^◌, ◌+
 ghost use Rattle.std.specs.Int.{int_max};
 ghost use Rattle.std.specs.Ordering.{int_eq};
 ghost use Rattle.mt_scaled.specs.Number.{Within, half_of};
-ghost use Rattle.mt_box.specs.Layout.{picture_of};
+ghost use Rattle.mt_box.specs.Layout.{layout_of};
 ghost use Rattle.mt_box.specs.Marks.{marks_of};
 ghost use Rattle.mt_box.specs.Tree.{ExtentsInRange};
 ghost use Rattle.mt_box.specs.Pack.{AllModest};
 ghost use Rattle.mt_box.specs.Packs.{Packs};
-ghost use Rattle.mt_box.specs.Boxes.{glyph_picture, clean_marks, rebox, clean_level, is_lone};
+ghost use Rattle.mt_box.specs.Boxes.{glyph_layout, clean_marks, rebox, clean_level, is_lone};
 
 use crate::packed::{Node, seal};
 use crate::{Extents, PackError, Packed, Piece, Row, hpack};
@@ -17,7 +17,7 @@ use std::alloc::{AllocError, Global};
 
 /// The box of one glyph, which stands at its reference point. The font is its number in the font list.
 pub fn glyph_box(alloc: Global, font: u16, code: u8, extents: Extents) -> Result<Packed, PackError>
-    ensures packs { Packs (glyph_picture font code extents) result }
+    ensures packs { Packs (glyph_layout font code extents) result }
     ensures level { IfOk result (λ b. b.level ≡ 1) }
     ensures in_range { IfOk result (λ b. ExtentsInRange b.extents) }
 {
@@ -36,7 +36,7 @@ pub fn glyph_box(alloc: Global, font: u16, code: u8, extents: Extents) -> Result
 /// The box with the same marks and the same level, and with other extents, which are in range.
 pub fn with_extents(body: Packed, extents: Extents) -> Packed
     requires { ExtentsInRange extents }
-    ensures is { picture_of result ≡ record { extents = extents; places = body.places } }
+    ensures is { layout_of result ≡ record { extents = extents; places = body.places } }
     ensures level { result.level ≡ body.level }
 {
     Packed { extents, ..body }
@@ -50,7 +50,7 @@ pub fn recentre(body: Packed, width: i64) -> Packed
     requires wide { body.extents.width ≤ℤ width }
     requires in_range { width ≤ℤ pos 1073741823 }
     requires level { body.level < 2 ^ 20 }
-    ensures is { picture_of result ≡ rebox (picture_of body) width }
+    ensures is { layout_of result ≡ rebox (layout_of body) width }
     ensures level { result.level ≡ body.level + 1 }
 {
     let extents = body.extents;
@@ -129,7 +129,7 @@ fn is_lone_box(row: &Row) -> bool
 // The only piece of the row, a box that is not raised.
 fn lone_box(row: Row) -> Packed
     requires { is_lone row ≡ true }
-    ensures is { picture_of result ≡ clean_marks (marks_of row) }
+    ensures is { layout_of result ≡ clean_marks (marks_of row) }
     ensures level { result.level ≡ clean_level row }
     ensures in_range { ExtentsInRange result.extents }
 {

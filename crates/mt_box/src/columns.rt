@@ -3,7 +3,7 @@ ghost use Rattle.std.specs.Prelude.{◌≡◌, ◌≤◌, ◌<◌, ◌^◌, ◌+
 ghost use Rattle.std.specs.Int.{int_max};
 ghost use Rattle.mt_scaled.specs.Number.{Within};
 ghost use Rattle.mt_box.specs.Columns.{layers_of, layer_of, layers_width, layer_width, layer_drop, layer_places, rule_places, stack, level_of_entry, column_level, IsModestEntry, AllModestEntries};
-ghost use Rattle.mt_box.specs.Edge.{edge_picture};
+ghost use Rattle.mt_box.specs.Edge.{edge_layout};
 ghost use Rattle.mt_box.specs.Tree.{AllFit, FitsIn, places_of_nodes, places_of_option, ExtentsInRange};
 ghost use Rattle.mt_box.specs.Packs.{Packs};
 
@@ -120,7 +120,7 @@ impl Edge {
         requires level { self.level ≤ 2 ^ 20 }
         requires level_low { 1 ≤ self.level }
         requires fit { AllFit self.level nodes.items }
-        ensures packs { Packs (edge_picture self frame (places_of_nodes nodes.items)) result }
+        ensures packs { Packs (edge_layout self frame (places_of_nodes nodes.items)) result }
         ensures level { IfOk result (λ b. b.level ≡ self.level) }
         ensures in_range { IfOk result (λ b. ExtentsInRange b.extents) }
     {
