@@ -1,5 +1,6 @@
 //! The tokens of a whole source.
-ghost use Rattle.std.specs.Prelude.{◌≡◌, ◌≤◌, ◌++◌, ◌∷◌, [], length, drop, IfOk, OnOk};
+ghost use Rattle.std.specs.Prelude.{◌≡◌, ◌<◌, ◌≤◌, ◌↔◌, ◌++◌, ◌∷◌, [], length, drop, IfOk, OnOk, Err};
+ghost use Rattle.mt_token.specs.declared.token.TokenError.TheVariants.{TooLong};
 ghost use Rattle.mt_token.specs.Tokens.{lexed, Lexes, SpansInOrder, IsUnique};
 
 use crate::piece::{Piece, State, next_piece};
@@ -9,7 +10,8 @@ use std::alloc::{AllocError, Global};
 /// The greatest number of bytes of a source.
 const MAX_SOURCE: usize = 4_194_304;
 
-fn from(bytes: &[u8], at: usize) -> &[u8]
+// The bytes from an offset on.
+fn rest_from(bytes: &[u8], at: usize) -> &[u8]
     requires { at ≤ length bytes.now }
     ensures { result.now ≡ drop at bytes.now }
 {
@@ -29,9 +31,10 @@ fn push_token(list: &mut Vec<Token>, token: Token) -> Result<(), AllocError>
 ///
 /// # Errors
 ///
-/// `TooLong` exactly above 4,194,304 bytes. Otherwise `NotAscii` or `BadByte` with the offset of the first byte at fault: `NotAscii` at a byte above 127 outside a comment, `BadByte` at any other byte that cannot stand there, at a `\` that nothing or a blank follows, and at the second `^` of `^^`. `OutOfMemory` where memory ran out.
+/// `TooLong` exactly above 4,194,304 bytes. Otherwise `NotAscii` or `BadByte` with the offset of the first byte at fault: `NotAscii` at a byte above 127 outside a comment, `BadByte` at any other byte that cannot stand there, at a `\` that nothing, a blank or a line end follows, and at the second `^` of `^^`. `OutOfMemory` where memory ran out.
 pub fn tokens(alloc: Global, bytes: &[u8]) -> Result<TokenList, TokenError>
     ensures is { Lexes result (lexed bytes.now) }
+    ensures too_long { (result ≡ Err TooLong) ↔ (4194304 < length bytes.now) }
     ensures ordered { IfOk result (λ list. SpansInOrder 0 list (length bytes.now)) }
     ensures unique { IfOk result (IsUnique (lexed bytes.now)) }
 {
@@ -42,7 +45,7 @@ pub fn tokens(alloc: Global, bytes: &[u8]) -> Result<TokenList, TokenError>
     let mut state = State::New;
     let mut at = 0;
     while at < bytes.len() {
-        match next_piece(alloc, state, from(bytes, at))? {
+        match next_piece(alloc, state, rest_from(bytes, at))? {
             Piece::Passed(count, next) => {
                 at += count;
                 state = next;
