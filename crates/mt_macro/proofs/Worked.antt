@@ -5,6 +5,7 @@ use Rattle.mt_token.specs.declared.token.Token.{Token}
 use Rattle.mt_token.specs.declared.token.TokenKind.TheVariants.{Control, Char, Space}
 use Rattle.mt_macro.specs.declared.definition.MacroError.TheVariants.{BadParameters}
 use Rattle.mt_macro.specs.Braces.{first_unmatched}
+use Rattle.mt_macro.specs.Parameters.{first_bad_parameter}
 use Rattle.mt_macro.specs.Table.{Table}
 use Rattle.mt_macro.specs.Definition.{defined}
 use Rattle.mt_macro.specs.Expansion.{Expanded, NoArgument, expansion, run}
@@ -20,6 +21,9 @@ hash = record { kind = Char 35; start = 0; end = 0; ascii = omega arith }
 
 abbrev two : Token
 two = record { kind = Char 50; start = 0; end = 0; ascii = omega arith }
+
+abbrev colon : Token
+colon = record { kind = Char 58; start = 0; end = 0; ascii = omega arith }
 
 abbrev left_brace : Token
 left_brace = record { kind = Char 123; start = 0; end = 0; ascii = omega arith }
@@ -43,6 +47,10 @@ missing = refl
 -- the body #2 of a macro with one parameter
 bad_parameter : defined table (codes "x") 1 (hash ∷ two ∷ []) ≡ Err BadParameters
 bad_parameter = refl
+
+-- #: is no parameter, however many there are
+no_digit : first_bad_parameter 10 (hash ∷ colon ∷ []) ≡ Some 0
+no_digit = refl
 
 -- {}{{}
 unmatched : first_unmatched 0 (left_brace ∷ right_brace ∷ left_brace ∷ left_brace ∷ right_brace ∷ []) ≡ Some 2

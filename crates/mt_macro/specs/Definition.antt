@@ -1,5 +1,5 @@
 -- Definitions of macros.
-use Rattle.std.specs.Prelude.{◌≡◌, ℕ, true, not, ◌&&◌, ◌||◌, nat_lt, nat_le, List, Option, Some, None, is_some, Result, Ok, Err, if◌then◌else◌}
+use Rattle.std.specs.Prelude.{◌≡◌, ℕ, true, not, ◌&&◌, ◌||◌, nat_lt, nat_le, List, Option, Some, None, is_some, Result, Ok, Err, IsOk, if◌then◌else◌}
 use Rattle.std.specs.Str.{bytes_eq}
 use Rattle.mt_token.specs.declared.token.Token.{Token}
 use Rattle.mt_macro.specs.declared.definition.MacroError.{MacroError}
@@ -31,10 +31,10 @@ abbrev pub preloaded : Table → List ℕ → ℕ → List Token → Result Tabl
 preloaded table name params body = unless_fault (body_fault params body)
     (Ok (with_macro table name (record { own = is_own (macro_of table name); params = params; body = body })))
 
--- the result and the new table are this answer, or want of memory
+-- the result and the new table are this answer; want of memory comes only in place of a table
 abbrev pub Answers : Result (Unit {0}) MacroError → Table → Result Table MacroError → Type 0
 Answers (Ok done) new answer = answer ≡ Ok new
-Answers (Err OutOfMemory) new answer = Unit {0}
+Answers (Err OutOfMemory) new answer = IsOk answer
 Answers (Err BadParameters) new answer = answer ≡ Err BadParameters
 Answers (Err Unbalanced) new answer = answer ≡ Err Unbalanced
 Answers (Err TooMany) new answer = answer ≡ Err TooMany

@@ -11,7 +11,7 @@ is_hash t = character_of t.kind == 35
 -- whether a digit from 1 to the number of parameters stands in front
 abbrev pub begins_with_parameter : ℕ → List Token → Bool
 begins_with_parameter params [] = false
-begins_with_parameter params (t ∷ rest) = nat_le 49 (character_of t.kind) && nat_le (character_of t.kind) (48 + params)
+begins_with_parameter params (t ∷ rest) = nat_le 49 (character_of t.kind) && nat_le (character_of t.kind) 57 && nat_le (character_of t.kind) (48 + params)
 
 -- the place of the first # that no such digit follows
 abbrev pub first_bad_parameter : ℕ → List Token → Option ℕ

@@ -1,5 +1,6 @@
 //! Expansion: macros are replaced, one step after another, until none is left.
-ghost use Rattle.std.specs.Prelude.{◌≡◌, ◌<◌, ◌≤◌, ◌+◌, IfOk, length};
+ghost use Rattle.std.specs.Prelude.{◌≡◌, ◌<◌, ◌≤◌, ◌+◌, IfOk, length, Err, None};
+ghost use Rattle.mt_macro.specs.Braces.{first_unmatched};
 ghost use Rattle.mt_macro.specs.Table.{HasShortBody};
 ghost use Rattle.mt_macro.specs.Arguments.{lent, arguments};
 ghost use Rattle.mt_macro.specs.Expansion.{run, expansion, Expands, Replaces, replaced};
@@ -58,9 +59,10 @@ const MAX_STEPS: u32 = 20_000;
 ///
 /// # Errors
 ///
-/// `TooLong`, then `Unbalanced`, of the list given. Then, by the steps, `Budget` and `MissingArgument`: at a list of more than 50,000 tokens, and after 20,000 steps, it is `Budget`. `OutOfMemory` where memory ran out.
+/// `TooLong`, then `Unbalanced`, of the list given. Then, by the steps, `Budget` and `MissingArgument`: at a list of more than 50,000 tokens, and where a macro is left after 20,000 steps, with or without its arguments, it is `Budget`. `OutOfMemory` where memory ran out, and neither `TooLong` nor `Unbalanced` applies.
 pub fn expand(alloc: Global, macros: &Macros, list: &[Token]) -> Result<TokenList, ExpandError>
-    ensures { Expands result (expansion macros.now list.now) }
+    ensures is { Expands result (expansion macros.now list.now) }
+    ensures memory { result ≡ Err OutOfMemory → (length list.now ≤ 50000) × (first_unmatched 0 list.now ≡ None) }
 {
     if list.len() > MAX_TOKENS {
         return Err(ExpandError::TooLong);

@@ -19,7 +19,7 @@ fn begins_with_parameter(params: u8, rest: &[Token]) -> bool
     match rest {
         [digit, ..] => {
             let c = character(digit);
-            c >= b'1' && u16::from(c) <= 48 + u16::from(params)
+            c >= b'1' && c <= b'9' && u16::from(c) <= 48 + u16::from(params)
         }
         [] => false,
     }

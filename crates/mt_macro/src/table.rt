@@ -137,7 +137,7 @@ fn bytes_of(alloc: Global, bytes: &[u8]) -> Result<Vec<u8>, AllocError>
     Ok(copy)
 }
 
-/// The same tokens once more, in memory of their own.
+// The same tokens once more, in memory of their own.
 fn copied(alloc: Global, list: &[Token]) -> Result<TokenList, AllocError>
     ensures { IfOk result (λ tokens. tokens ≡ list.now) }
 {

@@ -2,6 +2,7 @@ use crate::{ExpandError, MacroError, Macros, expand, first_bad_parameter};
 use mt_scaled::Name;
 use mt_token::{Token, TokenKind, TokenList, tokens};
 use std::alloc::{AllocError, Global};
+use std::process::Abort;
 use std::test::Fail;
 
 fn name(alloc: Global, bytes: &[u8]) -> Result<Name, AllocError> {
@@ -26,13 +27,16 @@ fn are_same(one: &TokenList, other: &TokenList) -> bool {
 }
 
 // Macros with these names, numbers of parameters and bodies.
-fn defined(alloc: Global, list: &[(&[u8], u8, &[u8])]) -> Result<Macros, Fail> {
+fn defined(
+    rt: &impl Abort,
+    alloc: Global,
+    list: &[(&[u8], u8, &[u8])],
+) -> Result<Macros, Fail> {
     let mut macros = Macros::empty(alloc);
     for (word, params, text) in list {
         let body = tokens(alloc, text)?;
-        if body.len() < 100 {
-            macros.define(&name(alloc, word)?, *params, body.as_slice())?;
-        }
+        assert!(rt; body.len() < 100);
+        macros.define(&name(alloc, word)?, *params, body.as_slice())?;
     }
     Ok(macros)
 }
@@ -48,8 +52,9 @@ fn expanded(
 }
 
 // \x drops its argument, and \y stands for itself.
-fn four_macros(alloc: Global) -> Result<Macros, Fail> {
+fn four_macros(rt: &impl Abort, alloc: Global) -> Result<Macros, Fail> {
     defined(
+        rt,
         alloc,
         &[
             (b"x", 1, b""),
@@ -63,7 +68,7 @@ fn four_macros(alloc: Global) -> Result<Macros, Fail> {
 #[test]
 fn expands_leftmost_macro_first(rt: HostRuntime) -> Result<(), Fail> {
     let alloc = rt.alloc();
-    let macros = four_macros(alloc)?;
+    let macros = four_macros(&rt, alloc)?;
     let cases: [(&[u8], &[u8]); 5] = [
         // The argument is dropped before it is expanded.
         (b"\\x\\y", b""),
@@ -83,7 +88,7 @@ fn expands_leftmost_macro_first(rt: HostRuntime) -> Result<(), Fail> {
 #[test]
 fn finds_first_fault(rt: HostRuntime) -> Result<(), Fail> {
     let alloc = rt.alloc();
-    let macros = four_macros(alloc)?;
+    let macros = four_macros(&rt, alloc)?;
     let faults: [(&[u8], ExpandError); 6] = [
         (b"a\\x", ExpandError::MissingArgument(1)),
         // The place is that in the list of the step: \z has become two tokens.
@@ -108,7 +113,7 @@ fn finds_first_fault(rt: HostRuntime) -> Result<(), Fail> {
 #[test]
 fn keeps_to_its_budget(rt: HostRuntime) -> Result<(), Fail> {
     let alloc = rt.alloc();
-    let macros = defined(alloc, &[(b"x", 0, b""), (b"d", 1, b"\\d{#1#1}")])?;
+    let macros = defined(&rt, alloc, &[(b"x", 0, b""), (b"d", 1, b"\\d{#1#1}")])?;
     let mut text = Vec::new(alloc);
     for _ in 0..20_000 {
         text.extend_from_slice(b"\\x")?;
@@ -142,7 +147,7 @@ fn keeps_to_its_budget(rt: HostRuntime) -> Result<(), Fail> {
 #[test]
 fn wraps_an_argument_at_each_step(rt: HostRuntime) -> Result<(), Fail> {
     let alloc = rt.alloc();
-    let macros = defined(alloc, &[(b"w", 1, b"\\w{{#1}}")])?;
+    let macros = defined(&rt, alloc, &[(b"w", 1, b"\\w{{#1}}")])?;
     // Each step adds two braces: 4 tokens and 2 more a step.
     let wrapped = expanded(alloc, &macros, b"\\w a")?.err();
     assert_eq!(rt;
@@ -182,6 +187,9 @@ fn refuses_definitions(rt: HostRuntime) -> Result<(), Fail> {
     assert!(rt; are_same(&list, &tokens(alloc, b"b")?));
     let body = tokens(alloc, b"a#1#3")?;
     assert_eq!(rt; first_bad_parameter(2, body.as_slice()), Some(3));
+    // A colon follows the digit 9 in ASCII.
+    let body = tokens(alloc, b"#9#:")?;
+    assert_eq!(rt; first_bad_parameter(10, body.as_slice()), Some(2));
     Ok(())
 }
 
