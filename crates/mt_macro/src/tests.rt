@@ -27,11 +27,7 @@ fn are_same(one: &TokenList, other: &TokenList) -> bool {
 }
 
 // Macros with these names, numbers of parameters and bodies.
-fn defined(
-    rt: &impl Abort,
-    alloc: Global,
-    list: &[(&[u8], u8, &[u8])],
-) -> Result<Macros, Fail> {
+fn defined(rt: &impl Abort, alloc: Global, list: &[(&[u8], u8, &[u8])]) -> Result<Macros, Fail> {
     let mut macros = Macros::empty(alloc);
     for (word, params, text) in list {
         let body = tokens(alloc, text)?;
