@@ -18,11 +18,17 @@ use std::alloc::{AllocError, Global};
 /// The tables of dimensions at a size, in scaled points: the parameters but the first are among them.
 #[derive(Drop)]
 pub struct Measures {
+    /// The widths.
     pub widths: Vec<i64>,
+    /// The heights.
     pub heights: Vec<i64>,
+    /// The depths.
     pub depths: Vec<i64>,
+    /// The italic corrections.
     pub italics: Vec<i64>,
+    /// The kerns.
     pub kerns: Vec<i64>,
+    /// The parameters from the second on.
     pub params: Vec<i64>,
 }
 

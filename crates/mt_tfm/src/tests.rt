@@ -10,15 +10,15 @@ const FONT: [u8; 60] = [
     0x00, 0x08, 0x00, 0x00, 0x00, 0x00, 0x00, 0x00, 0x00, 0x00, 0x00, 0x00,
 ];
 
-// The font with bytes changed, and a word after it.
-fn changed(alloc: Global, changes: &[(usize, u8)], word: &[u8]) -> Result<Vec<u8>, AllocError> {
+// The font with bytes changed, and words after it.
+fn changed(alloc: Global, changes: &[(usize, u8)], words: &[u8]) -> Result<Vec<u8>, AllocError> {
     let mut bytes = FONT.to_vec(alloc)?;
     for (place, value) in changes {
         if let Some(byte) = bytes.get_mut(*place) {
             *byte = *value;
         }
     }
-    bytes.extend_from_slice(word)?;
+    bytes.extend_from_slice(words)?;
     Ok(bytes)
 }
 
@@ -66,6 +66,17 @@ fn finds_what_a_tag_names(rt: HostRuntime) -> Result<(), Fail> {
 }
 
 #[test]
+fn a_boundary_character_need_not_exist(rt: HostRuntime) -> Result<(), Fail> {
+    // The boundary character is 98, and the program joins 97 with it to 97.
+    let changes = [(1, 17), (17, 2), (34, 1), (35, 1)];
+    let joined = changed(rt.alloc(), &changes, &[255, 98, 0, 0, 128, 98, 0, 97])?;
+    let font = read_tfm(rt.alloc(), &joined, 655360, None)?;
+    assert!(rt; !font.exists(98));
+    assert_eq!(rt; font.pair(97, 98), Pair::Join(97));
+    Ok(())
+}
+
+#[test]
 fn a_font_cut_short_is_truncated(rt: HostRuntime) -> Result<(), Fail> {
     for length in 0..60usize {
         let fault = read_tfm(rt.alloc(), &FONT[..length], 655360, None).err();
@@ -76,12 +87,20 @@ fn a_font_cut_short_is_truncated(rt: HostRuntime) -> Result<(), Fail> {
 
 #[test]
 fn each_check_has_its_fault(rt: HostRuntime) -> Result<(), Fail> {
-    let faults: [(&[(usize, u8)], &[u8], TfmError); 8] = [
+    let faults: [(&[(usize, u8)], &[u8], TfmError); 10] = [
         (&[(3, 1)], &[], TfmError::BadCounts),
         (&[(28, 128)], &[], TfmError::BadHeader),
         (&[(33, 0x20)], &[], TfmError::BadIndex(97)),
         (&[(34, 2), (35, 97)], &[], TfmError::ChainCycle(97)),
+        // The word of a code that does not exist is checked too.
+        (&[(32, 0), (34, 2), (35, 97)], &[], TfmError::ChainCycle(97)),
         (&[(40, 1)], &[], TfmError::BadFix { table: 1, n: 1 }),
+        // Parameter 1 is not tested, and parameter 2 is entry 0.
+        (
+            &[(1, 17), (23, 2)],
+            &[1, 0, 0, 0, 1, 0, 0, 0],
+            TfmError::BadFix { table: 6, n: 0 },
+        ),
         (&[(47, 1)], &[], TfmError::BadZero(2)),
         (
             &[(1, 16), (17, 1)],
@@ -90,8 +109,8 @@ fn each_check_has_its_fault(rt: HostRuntime) -> Result<(), Fail> {
         ),
         (&[(1, 16), (21, 1)], &[0, 0, 0, 98], TfmError::BadRecipe(0)),
     ];
-    for (changes, word, want) in faults {
-        let bytes = changed(rt.alloc(), changes, word)?;
+    for (changes, words, want) in faults {
+        let bytes = changed(rt.alloc(), changes, words)?;
         let fault = read_tfm(rt.alloc(), &bytes, 655360, None).err();
         assert_eq!(rt; fault, Some(want));
     }
