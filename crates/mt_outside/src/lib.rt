@@ -1,4 +1,4 @@
-//! Where files come from and where bytes go: cabinets and sinks, in memory and over the system's.
+//! Where files come from and where bytes go: cabinets and sinks, in memory and over the system.
 //!
 //! What a cabinet holds and what a sink has taken are told where they can be known, so that contracts can speak of
 //! them. A real file or stream tells nothing. Each failure is counted, so that none can be passed over.

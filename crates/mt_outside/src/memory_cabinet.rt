@@ -76,6 +76,7 @@ impl Cabinet for MemoryCabinet {
         ensures failed { result ≡ Err FetchError.Failed → Fails self.old name.now }
         ensures fails { Fails self.old name.now → (result ≡ Err FetchError.Failed) ⊎ (result ≡ Err FetchError.OutOfMemory) }
     {
+        // A call without memory for the name is counted too, so it gives up only behind the count.
         let lost = copy_name(alloc, name);
         self.calls = self.calls.saturating_add(1);
         let lost = lost?;

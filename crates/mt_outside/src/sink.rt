@@ -1,5 +1,5 @@
 //! Where bytes go.
-ghost use Rattle.std.specs.Prelude.{◌≡◌, ◌<◌, ◌≤◌, ℕ, List, Option, IfOk, IfErr, length};
+ghost use Rattle.std.specs.Prelude.{◌<◌, ◌≤◌, ℕ, List, Option, IfOk, IfErr, length};
 ghost use Rattle.mt_outside.specs.Counts.{WriteLeaves};
 ghost use Rattle.mt_outside.specs.Told.{Appends, taken, taken_all};
 
