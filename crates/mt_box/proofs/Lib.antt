@@ -1,6 +1,5 @@
 pub mod Lists
 pub mod Equalities
-pub mod Bounds
 pub mod Modest
 pub mod Moved
 pub mod Measuring
@@ -8,6 +7,5 @@ pub mod Packing
 pub mod Pushed
 pub mod Placed
 pub mod Stacking
-pub mod Stacks
 pub mod Recentred
 mod Worked

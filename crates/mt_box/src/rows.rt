@@ -1,4 +1,4 @@
-//! Rows: measured and packed (tex.web §649 to §652).
+//! Rows: measured and packed (tex.web §649 to §656).
 ghost use Rattle.std.specs.Prelude.{◌≡◌, ◌<◌, ◌≤◌, ◌^◌, ◌+◌, ◌++◌, ◌+ℤ◌, length, max, ℕ, IfOk, IfSome, OnOk};
 ghost use Rattle.std.specs.Int.{int_max};
 ghost use Rattle.mt_scaled.specs.Number.{Within};
@@ -16,8 +16,10 @@ use std::alloc::{AllocError, Global};
 /// The row packed: the box of its pieces, each directly to the right of the one before it.
 ///
 /// Its width is the sum of the widths; its height and depth are the greatest of 0 and of those of the pieces, where a
-/// box that is raised counts with its raise. The row has at most 2^21 pieces, each number in it is at most 2^40 in size,
-/// and the level of each box in it is below 2^20.
+/// box that is raised counts with its raise. The row has at most 2^21 pieces, each number in it is at most 2^40 scaled
+/// points in size, and the level of each box in it is below 2^20.
+///
+/// Refused with `Overflow` of the first of width, height and depth that is out of range, and with `OutOfMemory`.
 pub fn hpack(alloc: Global, row: Row) -> Result<Packed, PackError>
     requires few { length row ≤ 2 ^ 21 }
     requires modest { AllModest row }
@@ -35,7 +37,7 @@ pub fn hpack(alloc: Global, row: Row) -> Result<Packed, PackError>
     pen.finish(nodes)
 }
 
-/// How far a row reaches, in scaled points, with its spaces as they are. Its box, if it is in range, has these extents.
+/// How far a row reaches, in scaled points, with its spaces as they are. What [`hpack`] makes of it has these extents.
 /// The row has at most 2^21 pieces, and each number in it is at most 2^40 in size.
 pub fn row_extents(row: &Row) -> Extents
     requires few { length row.now ≤ 2 ^ 21 }
