@@ -17,7 +17,7 @@ use Rattle.mt_family.specs.declared.line.Line.{Line}
 use Rattle.mt_family.specs.declared.line.FamilyFields.{FamilyFields}
 use Rattle.mt_family.specs.declared.line.Line.TheVariants.{Nothing, Font, Family}
 use Rattle.mt_family.specs.Fields.{number, is_name, fields_from}
-use Rattle.mt_family.specs.Lines.{in_bounds, ranged, dashed, font_of, font_fields, family_of, family_fields, fields_line, is_comment, starts_blank, ends_blank, line_of}
+use Rattle.mt_family.specs.Lines.{in_bounds, ranged, dashed, font_line, font_fields, family_line, family_fields, fields_line, is_comment, starts_blank, ends_blank, line_of}
 use Rattle.mt_family.specs.ListFacts.{ListValue, is_font, same_family, AreDistinct, IsKnown, IsFontLine, IsFamilyLine, IsFontList}
 use Rattle.mt_family.specs.Lists.{has_font, has_family, is_known, with_form, with_line, and_then, list_from, nothing, font_list}
 
@@ -81,12 +81,12 @@ form_if : (b : Bool) (x y : Option Line) → (b ≡ true → IsForm x) → (b �
 form_if true x y h k = h refl
 form_if false x y h k = k refl
 
-font_is : (name : List ℕ) (at : Option ℕ) (skew : Option (Option ℕ)) → IsTrue (is_name name) → IsBetween 1 134217727 at → IsForm (font_of name at skew)
+font_is : (name : List ℕ) (at : Option ℕ) (skew : Option (Option ℕ)) → IsTrue (is_name name) → IsBetween 1 134217727 at → IsForm (font_line name at skew)
 font_is name None skew h b = tt
 font_is name (Some at) None h b = tt
 font_is name (Some at) (Some skew) h b = record { name = h; above = omega (arith, ints, b.0); below = omega (arith, ints, b.1) }
 
-family_is : (fam : Option ℕ) (a b c : Option (Option ℕ)) → IsBetween 0 15 fam → IsForm (family_of fam a b c)
+family_is : (fam : Option ℕ) (a b c : Option (Option ℕ)) → IsBetween 0 15 fam → IsForm (family_line fam a b c)
 family_is None a b c h = tt
 family_is (Some fam) None b c h = tt
 family_is (Some fam) (Some a) None c h = tt
@@ -99,7 +99,7 @@ fields_are (a ∷ []) = tt
 fields_are (a ∷ b ∷ []) = tt
 fields_are (a ∷ b ∷ c ∷ []) = tt
 fields_are (kind ∷ a ∷ b ∷ c ∷ []) =
-    form_if (bytes_eq kind (codes "font")) (font_fields a b c) None (λ e. form_if (is_name a) (font_of a (ranged 1 134217727 b) (dashed 255 c)) None (λ t. font_is a (ranged 1 134217727 b) (dashed 255 c) t (between 1 134217727 (number b))) (λ t. tt)) (λ e. tt)
+    form_if (bytes_eq kind (codes "font")) (font_fields a b c) None (λ e. form_if (is_name a) (font_line a (ranged 1 134217727 b) (dashed 255 c)) None (λ t. font_is a (ranged 1 134217727 b) (dashed 255 c) t (between 1 134217727 (number b))) (λ t. tt)) (λ e. tt)
 fields_are (kind ∷ a ∷ b ∷ c ∷ d ∷ []) =
     form_if (bytes_eq kind (codes "family")) (family_fields a b c d) None (λ e. family_is (ranged 0 15 a) (dashed 9999999999 b) (dashed 9999999999 c) (dashed 9999999999 d) (between 0 15 (number a))) (λ e. tt)
 fields_are (kind ∷ a ∷ b ∷ c ∷ d ∷ e ∷ rest) = tt
@@ -150,11 +150,11 @@ and_parts true true false h = absurd (cc)
 and_parts true false c h = absurd (cc)
 and_parts false b c h = absurd (cc)
 
-abbrev family_line : FamilyFields → FamilyLine
-family_line f = record { fam = f.fam; fonts = f.text ∷ f.script ∷ f.scriptscript ∷ [] }
+abbrev as_family : FamilyFields → FamilyLine
+as_family f = record { fam = f.fam; fonts = f.text ∷ f.script ∷ f.scriptscript ∷ [] }
 
 -- a family line more
-family_added : (list : ListValue) (f : FamilyFields) → f.fam < 16 → has_family list.families f.fam ≡ false → (is_known (length list.lines) f.text && is_known (length list.lines) f.script && is_known (length list.lines) f.scriptscript) ≡ true → IsFontList list → IsFontList (record { lines = list.lines; families = list.families ++ family_line f ∷ [] })
+family_added : (list : ListValue) (f : FamilyFields) → f.fam < 16 → has_family list.families f.fam ≡ false → (is_known (length list.lines) f.text && is_known (length list.lines) f.script && is_known (length list.lines) f.scriptscript) ≡ true → IsFontList list → IsFontList (record { lines = list.lines; families = list.families ++ as_family f ∷ [] })
 family_added list f small new known l =
     let parts = and_parts (is_known (length list.lines) f.text) (is_known (length list.lines) f.script) (is_known (length list.lines) f.scriptscript) known in
     let P = IsKnown (length list.lines) in
@@ -163,14 +163,14 @@ family_added list f small new known l =
       few = l.few;
       each = l.each;
       once = l.once;
-      each_family = All-append (IsFamilyLine (length list.lines)) list.families (family_line f ∷ []) l.each_family (All-cons (IsFamilyLine (length list.lines)) (family_line f) [] (record { fam = small; sizes = refl; known = each }) (All-nil (IsFamilyLine (length list.lines))));
-      family_once = distinct_more same_family list.families (family_line f) (same_fam (family_line f)) new l.family_once;
+      each_family = All-append (IsFamilyLine (length list.lines)) list.families (as_family f ∷ []) l.each_family (All-cons (IsFamilyLine (length list.lines)) (as_family f) [] (record { fam = small; sizes = refl; known = each }) (All-nil (IsFamilyLine (length list.lines))));
+      family_once = distinct_more same_family list.families (as_family f) (same_fam (as_family f)) new l.family_once;
     }
 
-family_by : (n : ℕ) (list out : ListValue) (f : FamilyFields) (b c : Bool) → has_family list.families f.fam ≡ b → (is_known (length list.lines) f.text && is_known (length list.lines) f.script && is_known (length list.lines) f.scriptscript) ≡ c → f.fam < 16 → IsFontList list → (if b then Err (Repeated n) else (if c then Ok (record { lines = list.lines; families = list.families ++ family_line f ∷ [] }) else Err (UnknownFont n))) ≡ Ok out → IsFontList out
+family_by : (n : ℕ) (list out : ListValue) (f : FamilyFields) (b c : Bool) → has_family list.families f.fam ≡ b → (is_known (length list.lines) f.text && is_known (length list.lines) f.script && is_known (length list.lines) f.scriptscript) ≡ c → f.fam < 16 → IsFontList list → (if b then Err (Repeated n) else (if c then Ok (record { lines = list.lines; families = list.families ++ as_family f ∷ [] }) else Err (UnknownFont n))) ≡ Ok out → IsFontList out
 family_by n list out f true c e1 e2 small l h = absurd (cc)
 family_by n list out f false false e1 e2 small l h = absurd (cc)
-family_by n list out f false true e1 e2 small l h = let same : record { lines = list.lines; families = list.families ++ family_line f ∷ [] } ≡ out = cc in subst IsFontList same (family_added list f small e1 e2 l)
+family_by n list out f false true e1 e2 small l h = let same : record { lines = list.lines; families = list.families ++ as_family f ∷ [] } ≡ out = cc in subst IsFontList same (family_added list f small e1 e2 l)
 
 form_added : (n : ℕ) (list out : ListValue) (form : Option Line) → IsForm form → IsFontList list → with_form n list form ≡ Ok out → IsFontList out
 form_added n list out None is l h = absurd (cc)

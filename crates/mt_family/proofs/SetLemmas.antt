@@ -84,6 +84,10 @@ known_in count n fam (f ∷ families) size a h =
 pub known_of_set : (s : SetValue) (fam n : ℕ) (size : Size) → IsSet s → number_in s.families fam size ≡ Some n → n < length s.fonts
 known_of_set s fam n size set h = rw set.loaded.count (known_in (length s.lines) n fam s.families size set.list.each_family h)
 
+-- the place of a font line is the number of a font
+pub known_place : (s : SetValue) (lines : List FontLine) (place n : ℕ) → IsSet s → lines ≡ s.lines → place < length lines → Some place ≡ Some n → n < length s.fonts
+known_place s lines place n set e below h = let same : place ≡ n = cc in rw (set.loaded.count, ← e) (subst (λ (x : ℕ). x < length lines) same below)
+
 fewer : (least i : ℕ) (m : Option Metrics) → has_params least m ≡ true → i ≤ least → has_params i m ≡ true
 fewer least i None h le = absurd (cc)
 fewer least i (Some m) h le = grind (arith, nat_tests)

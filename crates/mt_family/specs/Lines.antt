@@ -1,5 +1,6 @@
 -- What a line of a font list says.
 use Rattle.std.specs.Prelude.{ℕ, List, [], ◌∷◌, Bool, true, false, ◌&&◌, ◌||◌, ◌==◌, nat_le, if◌then◌else◌, Option, Some, None, pos, codes, slice_index, length, ◌-◌}
+use Rattle.std.specs.Option.{option_map}
 use Rattle.std.specs.Str.{bytes_eq}
 use Rattle.mt_family.specs.declared.line.Line.{Line}
 use Rattle.mt_family.specs.declared.line.Line.TheVariants.{Nothing, Font, Family}
@@ -14,30 +15,26 @@ abbrev pub ranged : ℕ → ℕ → List ℕ → Option ℕ
 ranged low high field = in_bounds low high (number field)
 
 -- a field that may be a dash: None is a bad one
-abbrev pub some_of : Option ℕ → Option (Option ℕ)
-some_of None = None
-some_of (Some n) = Some (Some n)
-
 abbrev pub dashed : ℕ → List ℕ → Option (Option ℕ)
-dashed high field = if bytes_eq field (codes "-") then Some None else some_of (ranged 0 high field)
+dashed high field = if bytes_eq field (codes "-") then Some None else option_map Some (ranged 0 high field)
 
-abbrev pub font_of : List ℕ → Option ℕ → Option (Option ℕ) → Option Line
-font_of name None skew = None
-font_of name (Some at) None = None
-font_of name (Some at) (Some skew) = Some (Font (record { name = name; at = pos at; skew = skew }))
+abbrev pub font_line : List ℕ → Option ℕ → Option (Option ℕ) → Option Line
+font_line name None skew = None
+font_line name (Some at) None = None
+font_line name (Some at) (Some skew) = Some (Font (record { name = name; at = pos at; skew = skew }))
 
 abbrev pub font_fields : List ℕ → List ℕ → List ℕ → Option Line
-font_fields name size skew = if is_name name then font_of name (ranged 1 134217727 size) (dashed 255 skew) else None
+font_fields name size skew = if is_name name then font_line name (ranged 1 134217727 size) (dashed 255 skew) else None
 
-abbrev pub family_of : Option ℕ → Option (Option ℕ) → Option (Option ℕ) → Option (Option ℕ) → Option Line
-family_of None a b c = None
-family_of (Some fam) None b c = None
-family_of (Some fam) (Some a) None c = None
-family_of (Some fam) (Some a) (Some b) None = None
-family_of (Some fam) (Some a) (Some b) (Some c) = Some (Family (record { fam = fam; text = a; script = b; scriptscript = c }))
+abbrev pub family_line : Option ℕ → Option (Option ℕ) → Option (Option ℕ) → Option (Option ℕ) → Option Line
+family_line None a b c = None
+family_line (Some fam) None b c = None
+family_line (Some fam) (Some a) None c = None
+family_line (Some fam) (Some a) (Some b) None = None
+family_line (Some fam) (Some a) (Some b) (Some c) = Some (Family (record { fam = fam; text = a; script = b; scriptscript = c }))
 
 abbrev pub family_fields : List ℕ → List ℕ → List ℕ → List ℕ → Option Line
-family_fields fam a b c = family_of (ranged 0 15 fam) (dashed 9999999999 a) (dashed 9999999999 b) (dashed 9999999999 c)
+family_fields fam a b c = family_line (ranged 0 15 fam) (dashed 9999999999 a) (dashed 9999999999 b) (dashed 9999999999 c)
 
 abbrev pub fields_line : List (List ℕ) → Option Line
 fields_line (kind ∷ a ∷ b ∷ c ∷ []) = if bytes_eq kind (codes "font") then font_fields a b c else None

@@ -11,17 +11,24 @@ use std::alloc::{AllocError, Global};
 /// What a line says: nothing (it is empty or a comment), a font, or a family.
 #[derive(Drop)]
 pub enum Line {
+    /// An empty line or a comment.
     Nothing,
+    /// A font line.
     Font(FontLine),
+    /// A family line.
     Family(FamilyFields),
 }
 
 /// A family line, its font numbers as they are written.
 #[derive(Clone, Copy)]
 pub struct FamilyFields {
+    /// The family, 0 to 15.
     pub fam: u8,
+    /// The number at the size text.
     pub text: Option<u64>,
+    /// The number at the size script.
     pub script: Option<u64>,
+    /// The number at the size scriptscript.
     pub scriptscript: Option<u64>,
 }
 

@@ -3,7 +3,7 @@ ghost use Rattle.std.specs.Prelude.{◌≡◌, ◌≤◌, ◌<◌, ◌^◌, ◌�
 ghost use Rattle.mt_family.specs.declared.error.ListError.TheVariants.{OutOfMemory};
 ghost use Rattle.mt_family.specs.ListFacts.{IsFontList};
 ghost use Rattle.mt_family.specs.Reads.{Adds, list_of};
-ghost use Rattle.mt_family.specs.Lists.{has_font, has_family, is_known, with_font, with_family, with_form, with_line, list_from, font_list};
+ghost use Rattle.mt_family.specs.Lists.{has_font, has_family, is_known, with_font, with_family, with_line, font_list};
 
 use crate::error::ListError;
 use crate::line::{FamilyFields, Line, line_of};
@@ -46,7 +46,9 @@ fn known(count: usize, number: Option<u64>) -> Option<u16>
 /// A font list that is being read.
 #[derive(Drop)]
 pub struct Reading {
+    /// The font lines so far.
     pub lines: Vec<FontLine>,
+    /// The family lines so far.
     pub families: Vec<FamilyLine>,
 }
 

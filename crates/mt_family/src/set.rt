@@ -6,7 +6,7 @@ ghost use Rattle.mt_family.specs.declared.error.SetError.TheVariants.{OutOfMemor
 ghost use Rattle.mt_family.specs.declared.list.FamilyLine.{FamilyLine};
 ghost use Rattle.mt_scaled.specs.Number.{Within};
 ghost use Rattle.mt_family.specs.ListFacts.{is_family};
-ghost use Rattle.mt_family.specs.SetValue.{number_in, number_by, numbers_of, numbers_by, table_of, font_at, font_in, name_in, named, has_params, HasParams, AreLoaded, IsSet};
+ghost use Rattle.mt_family.specs.SetValue.{number_in, number_by, numbers_of, table_of, font_at, font_in, name_in, named, has_params, HasParams, AreLoaded, IsSet};
 ghost use Rattle.mt_family.specs.Sets.{size_fault, family_fault, set_fault, param_in, units_of, sy as sy_of, ex as ex_of};
 
 use crate::error::SetError;
@@ -42,7 +42,7 @@ impl Model for FontSet {
     ghost invariant = { λ s. IsSet (record { lines = s.lines.items; families = s.families.items; fonts = s.fonts.items }) × (s.table.items ≡ table_of s.families.items 16) };
 }
 
-fn family_line<'a>(families: &'a [FamilyLine], fam: u8) -> Option<&'a FamilyLine>
+fn family_line(families: &[FamilyLine], fam: u8) -> Option<&FamilyLine>
     ensures { option_copied result ≡ find (λ (line : FamilyLine). is_family fam line) families.now }
 {
     families.iter().find(|line| line.fam == fam)
@@ -89,7 +89,7 @@ fn place_of(lines: &[FontLine], name: &[u8], at: &i64) -> Option<usize>
         .position(|line| line.name.as_slice() == name && line.at == *at)
 }
 
-fn font_at<'a>(fonts: &'a [Font], number: Option<u16>) -> Option<&'a Font>
+fn font_at(fonts: &[Font], number: Option<u16>) -> Option<&Font>
     ensures { option_copied result ≡ font_at fonts.now number }
 {
     match number {
@@ -227,7 +227,8 @@ impl FontSet {
 
     /// The number of the font of a name and a size in scaled points.
     pub fn find(&self, name: &[u8], at: i64) -> Option<u16>
-        ensures { result ≡ named self.now.lines name.now at }
+        ensures is { result ≡ named self.now.lines name.now at }
+        ensures known { (n : ℕ) → result ≡ Some n → n < length self.now.fonts }
     {
         match place_of(&self.lines, name, &at) {
             Some(place) => Some(place as u16),

@@ -7,7 +7,7 @@ use mt_tfm::read_tfm;
 use std::alloc::{AllocError, Global};
 use std::test::Fail;
 
-const FAULTS: [(&str, ListError); 10] = [
+const FAULTS: [(&str, ListError); 11] = [
     ("", ListError::BadLine(1)),
     ("x", ListError::BadLine(1)),
     ("mathset fonts 1\nfont a/b 9 -", ListError::BadLine(2)),
@@ -27,6 +27,10 @@ const FAULTS: [(&str, ListError); 10] = [
         "mathset fonts 1\nfont a 9 -\nfamily 0 0 - 1",
         ListError::UnknownFont(3),
     ),
+    (
+        "mathset fonts 1\nfamily 0 - - -\nfamily 0 7 - -",
+        ListError::Repeated(3),
+    ),
 ];
 
 fn read(alloc: Global, text: &[u8]) -> Result<FontList, ListError> {
@@ -44,9 +48,8 @@ fn each_fault_has_its_line(rt: HostRuntime) -> Result<(), Fail> {
     Ok(())
 }
 
-#[test]
-fn a_list_has_at_most_48_fonts(rt: HostRuntime) -> Result<(), Fail> {
-    let alloc = rt.alloc();
+// A list of 48 fonts, of the sizes 100 to 147.
+fn full(alloc: Global) -> Result<Vec<u8>, AllocError> {
     let mut text = b"mathset fonts 1".to_vec(alloc)?;
     for last in 0..48u8 {
         text.extend_from_slice(b"\nfont a 1")?;
@@ -54,9 +57,33 @@ fn a_list_has_at_most_48_fonts(rt: HostRuntime) -> Result<(), Fail> {
         text.push(b'0' + last % 10)?;
         text.extend_from_slice(b" -")?;
     }
+    Ok(text)
+}
+
+#[test]
+fn a_list_has_at_most_48_fonts(rt: HostRuntime) -> Result<(), Fail> {
+    let alloc = rt.alloc();
+    let mut text = full(alloc)?;
     assert_eq!(rt; read(alloc, &text)?.lines.len(), 48);
     text.extend_from_slice(b"\nfont a 9 -")?;
     assert_eq!(rt; read(alloc, &text).err(), Some(ListError::TooMany(50)));
+    Ok(())
+}
+
+#[test]
+fn a_font_too_many_may_repeat_another(rt: HostRuntime) -> Result<(), Fail> {
+    let alloc = rt.alloc();
+    let mut text = full(alloc)?;
+    text.extend_from_slice(b"\nfont a 100 -")?;
+    assert_eq!(rt; read(alloc, &text).err(), Some(ListError::Repeated(50)));
+    Ok(())
+}
+
+#[test]
+fn sizes_are_numbered(rt: HostRuntime) -> Result<(), Fail> {
+    assert_eq!(rt; Size::Text.index(), 0);
+    assert_eq!(rt; Size::Script.index(), 1);
+    assert_eq!(rt; Size::Scriptscript.index(), 2);
     Ok(())
 }
 
@@ -77,35 +104,46 @@ fn font_file(alloc: Global, params: u8) -> Result<Vec<u8>, AllocError>
     Ok(bytes)
 }
 
-// Each font of a list has this file.
-fn loaded(alloc: Global, lines: &[FontLine], file: &[u8]) -> Result<Fonts, Fail>
+// The file of a font: one for fonts with a skew character, one for those without.
+fn file_of<'a>(line: &FontLine, skewed: &'a [u8], plain: &'a [u8]) -> &'a [u8] {
+    if line.skew.is_some() { skewed } else { plain }
+}
+
+fn loaded(alloc: Global, lines: &[FontLine], skewed: &[u8], plain: &[u8]) -> Result<Fonts, Fail>
     requires { All IsFontLine lines.now }
     ensures { IfOk result (λ fonts. AreLoaded lines.now fonts) }
 {
     let mut fonts = Vec::new(alloc);
     for line in lines {
+        let file = file_of(line, skewed, plain);
         fonts.push(read_tfm(alloc, file, line.at, line.skew)?)?;
     }
     Ok(Fonts::from_vec(fonts))
 }
 
-fn set(alloc: Global, text: &str, params: u8) -> Result<Result<FontSet, SetError>, Fail>
-    requires { params < 100 }
+// The set of a list, whose fonts have so many parameters with a skew character and without.
+fn set(alloc: Global, text: &str, skewed: u8, plain: u8) -> Result<Result<FontSet, SetError>, Fail>
+    requires skewed { skewed < 100 }
+    requires plain { plain < 100 }
 {
     let list = read(alloc, text.as_bytes())?;
-    let file = font_file(alloc, params)?;
-    let fonts = loaded(alloc, list.lines.as_slice(), &file)?;
+    let skewed = font_file(alloc, skewed)?;
+    let plain = font_file(alloc, plain)?;
+    let fonts = loaded(alloc, list.lines.as_slice(), &skewed, &plain)?;
     Ok(FontSet::build(alloc, list, fonts))
 }
 
 const TWO: &str = "mathset fonts 1\nfont a 655360 -\nfont b 327680 97\nfamily 2 0 1 1\n";
+
+const APART: &str =
+    "mathset fonts 1\nfont a 655360 -\nfont b 327680 97\nfamily 2 1 1 1\nfamily 3 0 0 0\n";
 
 const ALL: &str =
     "mathset fonts 1\nfont a 655360 -\nfont b 327680 97\nfamily 2 0 1 1\nfamily 3 0 0 0\nfamily 0 1 - -\n";
 
 #[test]
 fn a_set_looks_fonts_up(rt: HostRuntime) -> Result<(), Fail> {
-    let set = set(rt.alloc(), ALL, 22)??;
+    let set = set(rt.alloc(), ALL, 22, 22)??;
     assert_eq!(rt; set.number_of(2, Size::Text), Some(0));
     assert_eq!(rt; set.number_of(2, Size::Script), Some(1));
     assert_eq!(rt; set.number_of(0, Size::Script), None);
@@ -131,12 +169,16 @@ fn a_set_needs_families_2_and_3(rt: HostRuntime) -> Result<(), Fail> {
     let fam = 3;
     let size = Size::Text;
     assert_eq!(rt;
-        set(alloc, TWO, 22)?.err(),
+        set(alloc, TWO, 22, 22)?.err(),
         Some(SetError::NoMathFamily { fam, size })
+    );
+    assert_eq!(rt;
+        set(alloc, APART, 22, 12)?.err(),
+        Some(SetError::FewParameters { fam, size })
     );
     let fam = 2;
     assert_eq!(rt;
-        set(alloc, ALL, 21)?.err(),
+        set(alloc, ALL, 21, 21)?.err(),
         Some(SetError::FewParameters { fam, size })
     );
     Ok(())
