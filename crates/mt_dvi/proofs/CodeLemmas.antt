@@ -163,7 +163,7 @@ emits_bop o0 o1 o2 o3 o4 n x last e1 e2 e3 e4 is =
 pub emits_post_post : (o0 o1 o2 o3 : List ℕ) (n : ℕ) → o1 ≡ o0 ++ (249 ∷ []) → o2 ≡ o1 ++ four_bytes n → o3 ≡ o2 ++ (2 ∷ []) → Emits 6 o0 o3 (PostPost n 2)
 emits_post_post o0 o1 o2 o3 n e1 e2 e3 = emits_2 6 o0 o2 o3 (249 ∷ four_bytes n) (2 ∷ []) (PostPost n 2) (omega arith) (appends_2 o0 o1 o2 (249 ∷ []) (four_bytes n) e1 e2) e3 (code_post_post n)
 
-abbrev fixed12 : List ℕ
+abbrev pub fixed12 : List ℕ
 fixed12 = 1 ∷ 131 ∷ 146 ∷ 192 ∷ 28 ∷ 59 ∷ 0 ∷ 0 ∷ 0 ∷ 0 ∷ 3 ∷ 232 ∷ []
 
 pub emits_post : (o0 o1 o2 o3 o4 o5 o6 : List ℕ) (x tallest widest pages : ℕ) (last : ℤ) → o1 ≡ o0 ++ (248 ∷ []) → o2 ≡ o1 ++ four_bytes x → o3 ≡ o2 ++ fixed12 → o4 ≡ o3 ++ four_bytes tallest → o5 ≡ o4 ++ four_bytes widest

@@ -1,4 +1,4 @@
--- The greatest_edge edge so far.
+-- The greatest edge so far.
 use Rattle.std.proofs.Common.{◌≡◌, ℕ, ◌+◌, ◌<◌, List, [], ◌∷◌, ◌++◌, length, drop, get_or, refl, sym, ◌∙◌, ap, drop-cons, add-one}
 use Rattle.std.specs.Prelude.{ℤ, max}
 use Rattle.mt_dvi.specs.Marks.{all_marks, greatest_edge, or_zero}

@@ -1,5 +1,5 @@
--- Mutated files, with the answers of another program.
-use Rattle.std.specs.Prelude.{◌≡◌, pos, [], ◌∷◌, Ok, Err, refl}
+-- Mutated files, and one file with the other opcodes, with the answers of another program.
+use Rattle.std.specs.Prelude.{◌≡◌, pos, negsuc, [], ◌∷◌, Ok, Err, refl}
 use Rattle.mt_dvi.specs.Codes.{operand_size, operation}
 use Rattle.mt_dvi.specs.File.{pages_read, read, reading}
 use Rattle.mt_dvi.specs.Machine.{BadOpcode, BadPointer, BadPost, BadPreamble, MissingChar, OutOfRange, StackEmpty, Truncated, UnknownFont}
@@ -285,3 +285,8 @@ case_68 = refl
 case_69 : pages_read (read fonts (247 ∷ 2 ∷ 1 ∷ 131 ∷ 146 ∷ 192 ∷ 28 ∷ 59 ∷ 1 ∷ 0 ∷ 0 ∷ 0 ∷ 3 ∷ 232 ∷ 0 ∷ 139 ∷ 0 ∷ 0 ∷ 0 ∷ 1 ∷ 0 ∷ 0 ∷ 0 ∷ 0 ∷ 0 ∷ 0 ∷ 0 ∷ 0 ∷ 0 ∷ 0 ∷ 0 ∷ 0 ∷ 0 ∷ 0 ∷ 0 ∷ 0 ∷ 0 ∷ 0 ∷ 0 ∷ 0 ∷ 0 ∷ 0 ∷ 0 ∷ 0 ∷ 0 ∷ 0 ∷ 0 ∷ 0 ∷ 0 ∷ 0 ∷ 0 ∷ 0 ∷ 0 ∷ 0 ∷ 0 ∷ 0 ∷ 255 ∷ 255 ∷ 255 ∷ 255 ∷ 243 ∷ 3 ∷ 0 ∷ 0 ∷ 0 ∷ 0 ∷ 0 ∷ 10 ∷ 0 ∷ 0 ∷ 0 ∷ 10 ∷ 0 ∷ 0 ∷ 0 ∷ 4 ∷ 116 ∷ 111 ∷ 121 ∷ 109 ∷ 174 ∷ 141 ∷ 146 ∷ 127 ∷ 255 ∷ 255 ∷ 255 ∷ 142 ∷ 148 ∷ 100 ∷ 147 ∷ 161 ∷ 97 ∷ 154 ∷ 255 ∷ 156 ∷ 152 ∷ 157 ∷ 5 ∷ 162 ∷ 1 ∷ 166 ∷ 132 ∷ 0 ∷ 0 ∷ 0 ∷ 0 ∷ 0 ∷ 0 ∷ 0 ∷ 5 ∷ 137 ∷ 0 ∷ 0 ∷ 0 ∷ 7 ∷ 0 ∷ 0 ∷ 0 ∷ 9 ∷ 133 ∷ 97 ∷ 239 ∷ 2 ∷ 1 ∷ 2 ∷ 138 ∷ 141 ∷ 97 ∷ 141 ∷ 142 ∷ 142 ∷ 235 ∷ 3 ∷ 128 ∷ 97 ∷ 140 ∷ 248 ∷ 0 ∷ 0 ∷ 0 ∷ 15 ∷ 1 ∷ 131 ∷ 146 ∷ 192 ∷ 28 ∷ 59 ∷ 0 ∷ 0 ∷ 0 ∷ 0 ∷ 3 ∷ 232 ∷ 0 ∷ 5 ∷ 0 ∷ 0 ∷ 0 ∷ 5 ∷ 0 ∷ 0 ∷ 0 ∷ 2 ∷ 0 ∷ 1 ∷ 243 ∷ 3 ∷ 0 ∷ 0 ∷ 0 ∷ 0 ∷ 0 ∷ 10 ∷ 0 ∷ 0 ∷ 0 ∷ 10 ∷ 0 ∷ 0 ∷ 0 ∷ 4 ∷ 116 ∷ 111 ∷ 121 ∷ 109 ∷ 249 ∷ 0 ∷ 0 ∷ 0 ∷ 137 ∷ 2 ∷ 223 ∷ 223 ∷ 223 ∷ 223 ∷ 223 ∷ [])) ≡ Err (record { cause = BadPreamble; at = 0 })
 unfolding read reading operation operand_size
 case_69 = refl
+
+-- the opcodes that no file above reaches: other lengths of the operands of set, put, right, w, x, down, y, z, fnt, xxx and fnt_def
+case_70 : pages_read (read fonts (247 ∷ 2 ∷ 1 ∷ 131 ∷ 146 ∷ 192 ∷ 28 ∷ 59 ∷ 0 ∷ 0 ∷ 0 ∷ 0 ∷ 3 ∷ 232 ∷ 0 ∷ 139 ∷ 0 ∷ 0 ∷ 0 ∷ 1 ∷ 0 ∷ 0 ∷ 0 ∷ 0 ∷ 0 ∷ 0 ∷ 0 ∷ 0 ∷ 0 ∷ 0 ∷ 0 ∷ 0 ∷ 0 ∷ 0 ∷ 0 ∷ 0 ∷ 0 ∷ 0 ∷ 0 ∷ 0 ∷ 0 ∷ 0 ∷ 0 ∷ 0 ∷ 0 ∷ 0 ∷ 0 ∷ 0 ∷ 0 ∷ 0 ∷ 0 ∷ 0 ∷ 0 ∷ 0 ∷ 0 ∷ 0 ∷ 255 ∷ 255 ∷ 255 ∷ 255 ∷ 244 ∷ 1 ∷ 44 ∷ 0 ∷ 0 ∷ 0 ∷ 0 ∷ 0 ∷ 10 ∷ 0 ∷ 0 ∷ 0 ∷ 10 ∷ 0 ∷ 0 ∷ 0 ∷ 4 ∷ 116 ∷ 111 ∷ 121 ∷ 109 ∷ 236 ∷ 1 ∷ 44 ∷ 129 ∷ 0 ∷ 97 ∷ 143 ∷ 251 ∷ 144 ∷ 254 ∷ 212 ∷ 145 ∷ 1 ∷ 17 ∷ 112 ∷ 134 ∷ 0 ∷ 97 ∷ 149 ∷ 252 ∷ 24 ∷ 150 ∷ 1 ∷ 134 ∷ 160 ∷ 151 ∷ 254 ∷ 206 ∷ 211 ∷ 0 ∷ 135 ∷ 0 ∷ 0 ∷ 97 ∷ 153 ∷ 249 ∷ 155 ∷ 254 ∷ 238 ∷ 144 ∷ 156 ∷ 1 ∷ 201 ∷ 195 ∷ 128 ∷ 130 ∷ 0 ∷ 0 ∷ 97 ∷ 245 ∷ 1 ∷ 17 ∷ 112 ∷ 0 ∷ 0 ∷ 0 ∷ 0 ∷ 0 ∷ 10 ∷ 0 ∷ 0 ∷ 0 ∷ 10 ∷ 0 ∷ 0 ∷ 0 ∷ 1 ∷ 1 ∷ 237 ∷ 1 ∷ 17 ∷ 112 ∷ 158 ∷ 254 ∷ 112 ∷ 159 ∷ 1 ∷ 56 ∷ 128 ∷ 136 ∷ 0 ∷ 0 ∷ 0 ∷ 97 ∷ 163 ∷ 1 ∷ 244 ∷ 164 ∷ 254 ∷ 160 ∷ 112 ∷ 165 ∷ 2 ∷ 98 ∷ 90 ∷ 0 ∷ 131 ∷ 0 ∷ 0 ∷ 0 ∷ 97 ∷ 246 ∷ 178 ∷ 208 ∷ 94 ∷ 0 ∷ 0 ∷ 0 ∷ 0 ∷ 0 ∷ 0 ∷ 10 ∷ 0 ∷ 0 ∷ 0 ∷ 10 ∷ 0 ∷ 0 ∷ 0 ∷ 1 ∷ 2 ∷ 238 ∷ 178 ∷ 208 ∷ 94 ∷ 0 ∷ 167 ∷ 253 ∷ 168 ∷ 2 ∷ 88 ∷ 169 ∷ 254 ∷ 121 ∷ 96 ∷ 170 ∷ 253 ∷ 5 ∷ 15 ∷ 128 ∷ 97 ∷ 240 ∷ 0 ∷ 3 ∷ 140 ∷ 249 ∷ 250 ∷ 241 ∷ 0 ∷ 0 ∷ 1 ∷ 141 ∷ 242 ∷ 0 ∷ 0 ∷ 0 ∷ 2 ∷ 142 ∷ 255 ∷ 147 ∷ 152 ∷ 161 ∷ 166 ∷ 97 ∷ 140 ∷ 248 ∷ 0 ∷ 0 ∷ 0 ∷ 15 ∷ 1 ∷ 131 ∷ 146 ∷ 192 ∷ 28 ∷ 59 ∷ 0 ∷ 0 ∷ 0 ∷ 0 ∷ 3 ∷ 232 ∷ 0 ∷ 0 ∷ 0 ∷ 0 ∷ 0 ∷ 0 ∷ 0 ∷ 0 ∷ 0 ∷ 0 ∷ 0 ∷ 1 ∷ 244 ∷ 1 ∷ 44 ∷ 0 ∷ 0 ∷ 0 ∷ 0 ∷ 0 ∷ 10 ∷ 0 ∷ 0 ∷ 0 ∷ 10 ∷ 0 ∷ 0 ∷ 0 ∷ 4 ∷ 116 ∷ 111 ∷ 121 ∷ 109 ∷ 245 ∷ 1 ∷ 17 ∷ 112 ∷ 0 ∷ 0 ∷ 0 ∷ 0 ∷ 0 ∷ 10 ∷ 0 ∷ 0 ∷ 0 ∷ 10 ∷ 0 ∷ 0 ∷ 0 ∷ 1 ∷ 1 ∷ 246 ∷ 178 ∷ 208 ∷ 94 ∷ 0 ∷ 0 ∷ 0 ∷ 0 ∷ 0 ∷ 0 ∷ 10 ∷ 0 ∷ 0 ∷ 0 ∷ 10 ∷ 0 ∷ 0 ∷ 0 ∷ 1 ∷ 2 ∷ 249 ∷ 0 ∷ 0 ∷ 0 ∷ 246 ∷ 2 ∷ 223 ∷ 223 ∷ 223 ∷ 223 ∷ 223 ∷ 223 ∷ 223 ∷ [])) ≡ Ok (((places.Glyph 3 97 (pos 0) (pos 0)) ∷ (places.Glyph 3 97 (pos 397375) (pos 0)) ∷ (places.Glyph 3 97 (negsuc 19503624) (pos 0)) ∷ (places.Glyph 3 97 (pos 10426368) (pos 0)) ∷ (places.Glyph 0 97 (pos 10754048) (pos 79600)) ∷ (places.Glyph 0 97 (pos 10754048) (pos 39990100)) ∷ (places.Glyph 1 97 (pos 11081728) (negsuc 10109302)) ∷ (places.Glyph 1 97 (pos 21409408) (negsuc 20109302)) ∷ []) ∷ [])
+unfolding read reading operation operand_size
+case_70 = refl

@@ -21,7 +21,7 @@ pub same_int : (z : ℤ) → int_eq z z ≡ true
 same_int (pos n) = grind (arith, nat_tests)
 same_int (negsuc n) = grind (arith, nat_tests)
 
--- the file in a page that begins at at
+-- the file in a page without marks, where last is the offset of its bop
 abbrev open_file : List Page → ℤ → ℕ → List ℕ → File
 open_file pages last marked counts = record at_start { phase = BetweenPages; mag = pos 1000; pages = pages; last = last; marked = marked; page = record { counts = counts; marks = [] } }
 

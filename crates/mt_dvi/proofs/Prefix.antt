@@ -8,7 +8,7 @@ use Rattle.mt_dvi.specs.File.{Continues, Ends, Fails, File, Reading, Step, advan
 use Rattle.mt_dvi.specs.LeadsTo.{LeadsTo}
 use Rattle.mt_family.specs.SetValue.{SetValue}
 
--- operands are advance over
+-- operands are passed over
 pub skipped : (fonts : SetValue) (file : File) (operands rest : List ℕ) → reading fonts file (length operands) (operands ++ rest) ≡ reading fonts file 0 rest
 unfolding reading
 skipped fonts file [] rest = refl

@@ -36,7 +36,7 @@ or_none : (b : Bool) → b ≡ (b || false)
 or_none true = refl
 or_none false = refl
 
--- a list where each number counts as its membership keeps so when a number is with_number
+-- a list where each number counts as its membership keeps so when a number is added
 count_added : (numbers : List ℕ) (m : ℕ) → ((n : ℕ) → count_of numbers n ≡ bit (is_among numbers n)) → (n : ℕ) → (count_of (with_number numbers m) n ≡ bit (is_among numbers n || (m == n)))
 count_added numbers m before n = by_test (is_among numbers m) refl where
   old : (b t : Bool) → (t ≡ true → b ≡ true) → bit b ≡ bit (b || t)

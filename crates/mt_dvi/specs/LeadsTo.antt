@@ -1,5 +1,5 @@
 -- Where the machine stands after the first bytes of a file, as a writer needs it.
-use Rattle.std.specs.Prelude.{◌≡◌, ◌<◌, ◌≤◌, ℕ, ◌+◌, ◌*◌, pos, true, ◌-ℤ◌, List, [], ◌∷◌, ◌++◌, length, map, Option, Some, None, Bool, ◌==◌, if◌then◌else◌, true, ⊤}
+use Rattle.std.specs.Prelude.{◌≡◌, ◌<◌, ◌≤◌, ℕ, ◌+◌, ◌*◌, pos, true, ◌-ℤ◌, List, [], ◌∷◌, ◌++◌, length, map, Option, Some, None, Bool, ◌==◌, if◌then◌else◌, ⊤}
 use Rattle.std.specs.List.{list_any}
 use Rattle.mt_family.specs.SetValue.{SetValue}
 use Rattle.mt_box.specs.Places.{h_of, v_of}

@@ -14,7 +14,7 @@ use Rattle.mt_dvi.specs.File.{Page}
 abbrev pub InRange : ℤ → Type 0
 InRange x = Within 1073741823 x
 
--- the font has this character, and its extents are in range
+-- the font has this character, and its width and its depth are in range
 pub record HasGlyph (metrics : Metrics) (code : ℕ) : Type 0 where
   pub there : exists metrics code ≡ true
   pub width : InRange (width_of metrics code)

@@ -6,7 +6,7 @@ ghost use Rattle.mt_dvi.specs.Marks.{page_counts};
 
 use crate::opcode::{
     BOP, DOWN4, EOP, FNT_DEF1, FNT_NUM_0, IDENTIFIER, POST, POST_POST, PRE, PUT_RULE, PUT1, RIGHT4,
-    SET_RULE, SET1,
+    SET_RULE, SET1, UNIT,
 };
 use std::alloc::AllocError;
 
@@ -19,7 +19,7 @@ fn push4(out: &mut Vec<u8>, x: u32) -> Result<(), AllocError>
 }
 
 // The number that the two's complement of x is in four bytes.
-fn two_complement(x: i64) -> u32
+fn twos_complement(x: i64) -> u32
     requires { FitsFourBytes x }
     ensures { signed_of 4 result ≡ x }
 {
@@ -35,7 +35,7 @@ fn push_signed(out: &mut Vec<u8>, x: i64) -> Result<(), AllocError>
     requires { FitsFourBytes x }
     ensures { OnOk result (AppendsSigned out.old.items out.new.items x) }
 {
-    push4(out, two_complement(x))?;
+    push4(out, twos_complement(x))?;
     Ok(())
 }
 
@@ -124,9 +124,9 @@ pub fn eop(out: &mut Vec<u8>) -> Result<(), AllocError>
 pub fn pre(out: &mut Vec<u8>) -> Result<(), AllocError>
     ensures { OnOk result (Emits 15 out.old.items out.new.items (Pre own_preamble)) }
 {
-    out.extend_from_slice(&[
-        PRE, IDENTIFIER, 1, 131, 146, 192, 28, 59, 0, 0, 0, 0, 3, 232, 0,
-    ])?;
+    out.extend_from_slice(&[PRE, IDENTIFIER])?;
+    out.extend_from_slice(&UNIT)?;
+    out.push(0)?;
     Ok(())
 }
 
@@ -164,7 +164,7 @@ pub fn post(
 {
     out.push(POST)?;
     push_signed(out, last)?;
-    out.extend_from_slice(&[1, 131, 146, 192, 28, 59, 0, 0, 0, 0, 3, 232])?;
+    out.extend_from_slice(&UNIT)?;
     push4(out, tallest)?;
     push4(out, widest)?;
     out.extend_from_slice(&[0, 0, (pages / 256) as u8, (pages % 256) as u8])?;

@@ -23,9 +23,10 @@ use std::alloc::{AllocError, Global};
 /// The bytes of a DVI file.
 pub type DviBytes = Items<u8>;
 
-// A file states the number of its pages in two bytes, and at most so many marks are read back.
+// A file states the number of its pages in two bytes.
 const MAX_PAGES: usize = 65_535;
 
+// At most so many marks are read back from a file.
 const MAX_PLACES: usize = 2_000_000;
 
 // Writes a page, where last is the offset of the page before, or -1.
@@ -146,8 +147,9 @@ fn write_file(alloc: Global, fonts: &FontSet, pages: &[PlaceList]) -> Result<Vec
 /// count 0. The fonts that are used are defined before their first use and once more after the pages; a font's number
 /// is that in the set.
 ///
-/// The coordinates of the marks and the extents of their glyphs and rules are at most 2^30 - 1 scaled points in size,
-/// each glyph exists in its font, and each rule has a positive height and a positive width.
+/// The coordinates of the marks, the widths and depths of their glyphs and the heights and widths of their rules are
+/// at most 2^30 - 1 scaled points in size, each glyph exists in its font, and each rule has a positive height and a
+/// positive width.
 ///
 /// # Errors
 ///

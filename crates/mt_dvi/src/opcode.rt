@@ -30,3 +30,5 @@ pub const POST: u8 = 248;
 pub const POST_POST: u8 = 249;
 /// The identifier of the format.
 pub const IDENTIFIER: u8 = 2;
+/// num 25400000, den 473628672 and mag 1000, each in four bytes. They make the unit a scaled point.
+pub const UNIT: [u8; 12] = [1, 131, 146, 192, 28, 59, 0, 0, 0, 0, 3, 232];
