@@ -3,7 +3,8 @@ use Rattle.std.proofs.Common.{◌≡◌, ◌↔◌, IsTrue, Bool, true, false, �
 use Rattle.std.specs.Option.{option_map}
 use Rattle.mt_rules.specs.declared.list.Item.{Item}
 use Rattle.mt_rules.specs.Sequence.{Sequence, End, NoRows, sequence_length, element_at, rows_length, row_at}
-use Rattle.mt_rules.specs.View.{sequence_of, element_of, rows_of}
+use Rattle.mt_rules.specs.Rows.{rows_of}
+use Rattle.mt_rules.specs.View.{sequence_of, element_of}
 
 pub sequence_length_of : (is : List Item) → sequence_length (sequence_of is) ≡ length is
 sequence_length_of [] = omega arith

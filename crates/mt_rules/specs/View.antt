@@ -8,7 +8,6 @@ use Rattle.mt_rules.specs.declared.list.Item.{Item}
 use Rattle.mt_rules.specs.declared.list.Item.TheVariants.{Atom, Fraction, Left, Right, Style as StyleItem, Choice, MuSpace, Space, MuKern, Kern, Nonscript}
 use Rattle.mt_rules.specs.declared.list.Field.{Field}
 use Rattle.mt_rules.specs.declared.list.Field.TheVariants.{Empty, Sym, List as OfList, Rows as OfRows}
-pub use Rattle.mt_rules.specs.Rows.{rows_of}
 
 abbrev pub part_of : Field → Part
 part_of Empty = EmptyPart

@@ -1,7 +1,7 @@
-//! Math lists and what stands in them, styles and classes, and the rules by which formulas are set.
+//! Math lists and what stands in them, styles and classes, and the spaces between atoms.
 //!
-//! The rules themselves are the definitions in `specs/`, which the contracts of the crates above cite. They follow
-//! The TeXbook, chapters 17 and 18 and Appendix G.
+//! The rules on styles, classes and spaces are the definitions in `specs/`, which the contracts of the crates above cite.
+//! They follow The TeXbook, chapters 17 and 18 and Appendix G.
 #![tactic(auto)]
 
 mod class;

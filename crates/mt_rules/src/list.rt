@@ -3,7 +3,8 @@ ghost use Rattle.std.specs.Prelude.{◌≡◌, ◌↔◌, IsTrue, slice_get};
 ghost use Rattle.std.specs.Option.{option_copied, option_map};
 ghost use Rattle.mt_rules.specs.Facts.{IsMathList};
 ghost use Rattle.mt_rules.specs.Sequence.{End, NoRows, element_at, row_at, rows_length, sequence_length};
-ghost use Rattle.mt_rules.specs.View.{element_of, rows_of, sequence_of};
+ghost use Rattle.mt_rules.specs.Rows.{rows_of};
+ghost use Rattle.mt_rules.specs.View.{element_of, sequence_of};
 
 use crate::{Delim, Glue, Kind, Limits, Style, Symbol};
 use std::marker::Model;
