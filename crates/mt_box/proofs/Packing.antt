@@ -6,10 +6,9 @@ use Rattle.mt_box.specs.declared.packed.Node.TheVariants.{Glyph as GlyphNode, Ru
 use Rattle.mt_box.specs.declared.piece.Piece.{Piece}
 use Rattle.mt_box.specs.declared.piece.Piece.TheVariants.{Glyph as GlyphPiece, Boxed as BoxPiece, Kern, Space}
 use Rattle.mt_box.specs.declared.rows.Pen.{Pen}
-use Rattle.mt_box.specs.Tree.{FitsIn, AllFit, places_of_nodes}
-use Rattle.mt_box.specs.Pen.{pen_extents}
-use Rattle.mt_box.specs.Pack.{row_level, level_of_piece, IsModest, AllModest, IsMeasurable, AllMeasurable}
-use Rattle.mt_box.specs.Marks.{mark_of, marks_of, mark_places, marks_places, pack}
+use Rattle.mt_box.specs.tree.Nodes.{FitsIn, AllFit, places_of_nodes}
+use Rattle.mt_box.specs.tree.Pen.{pen_extents}
+use Rattle.mt_box.specs.Rows.{row_level, level_of_piece, IsModest, AllModest, IsMeasurable, AllMeasurable, piece_value, piece_values, piece_places, row_places, pack}
 use Rattle.mt_box.proofs.Lists.{nil_right}
 use Rattle.mt_box.proofs.Equalities.{layout_eq, extents_eq}
 use Rattle.mt_box.proofs.Measuring.{Measuring, Measured, Passes, measuring_start, measuring_step, measuring_end}
@@ -19,7 +18,7 @@ pub record Packing (row rest : List Piece) (p : Pen) (nodes : List Node) : Type 
   pub measures : Measuring row rest p
   pub levels : max p.level (row_level rest) ≡ row_level row
   pub level_low : 1 ≤ p.level
-  pub places : places_of_nodes nodes ++ marks_places p.x (marks_of rest) ≡ marks_places (pos 0) (marks_of row)
+  pub places : places_of_nodes nodes ++ row_places p.x (piece_values rest) ≡ row_places (pos 0) (piece_values row)
   pub fit : AllFit p.level nodes
   pub all_modest : AllModest row
 
@@ -67,7 +66,7 @@ pub higher : (a b : ℕ) (ns : List Node) → a ≤ b → AllFit a ns → AllFit
 higher a b [] le h = tt
 higher a b (n ∷ ns) le h = (higher_one a b n le h.0, higher a b ns le h.1)
 
-pub packing_step : (row rest rest' : List Piece) (q : Piece) (p p' : Pen) (nodes nodes' : List Node) → Packing row rest p nodes → rest ≡ q ∷ rest' → Passes q p p' → p'.level ≡ max p.level (level_of_piece q + 1) → places_of_nodes nodes' ≡ places_of_nodes nodes ++ mark_places p.x (mark_of q) → ((level : ℕ) → level_of_piece q < level → AllFit level nodes → AllFit level nodes') → Packing row rest' p' nodes'
+pub packing_step : (row rest rest' : List Piece) (q : Piece) (p p' : Pen) (nodes nodes' : List Node) → Packing row rest p nodes → rest ≡ q ∷ rest' → Passes q p p' → p'.level ≡ max p.level (level_of_piece q + 1) → places_of_nodes nodes' ≡ places_of_nodes nodes ++ piece_places p.x (piece_value q) → ((level : ℕ) → level_of_piece q < level → AllFit level nodes → AllFit level nodes') → Packing row rest' p' nodes'
 packing_step row rest rest' q p p' nodes nodes' h e f l g k =
     let h' : Packing row (q ∷ rest') p nodes = subst (λ r. Packing row r p nodes) e h in
     record {
@@ -83,7 +82,7 @@ pub record PackedUp (row : List Piece) (p : Pen) (nodes : List Node) : Type 0 wh
   pub measured : Measured row p
   pub level : p.level ≡ row_level row
   pub low : p.level ≤ 2 ^ 20
-  pub places : places_of_nodes nodes ≡ marks_places (pos 0) (marks_of row)
+  pub places : places_of_nodes nodes ≡ row_places (pos 0) (piece_values row)
 
 pub packing_end : (row rest : List Piece) (p : Pen) (nodes : List Node) → Packing row rest p nodes → rest ≡ [] → PackedUp row p nodes
 packing_end row rest p nodes h e =
@@ -96,6 +95,6 @@ packing_end row rest p nodes h e =
     }
 
 -- the pen's layout is the row packed
-pub layout_packed : (row : List Piece) (p : Pen) (nodes : List Node) → PackedUp row p nodes → (let q : Layout = record { extents = pen_extents p; places = places_of_nodes nodes } in q) ≡ pack (marks_of row)
+pub layout_packed : (row : List Piece) (p : Pen) (nodes : List Node) → PackedUp row p nodes → (let q : Layout = record { extents = pen_extents p; places = places_of_nodes nodes } in q) ≡ pack (piece_values row)
 layout_packed row p nodes h =
     layout_eq (extents_eq h.measured.width h.measured.up h.measured.down) h.places

@@ -1,4 +1,4 @@
-//! Boxes: rows and columns packed, and the marks that they place.
+//! Boxes: rows and columns packed, and the places of their glyphs and rules.
 //!
 //! A box reaches to the right, up and down from its reference point; in it x grows to the right and y upward.
 #![tactic(auto)]

@@ -2,11 +2,11 @@
 ghost use Rattle.std.specs.Prelude.{◌≡◌, ◌<◌, ◌≤◌, ◌^◌, ◌+◌, ◌++◌, ◌+ℤ◌, length, max, ℕ, IfOk, IfSome, OnOk};
 ghost use Rattle.std.specs.Int.{int_max};
 ghost use Rattle.mt_scaled.specs.Number.{Within};
-ghost use Rattle.mt_box.specs.Tree.{AllFit, places_of_nodes, ExtentsInRange, FitsIn, places_of_option};
-ghost use Rattle.mt_box.specs.Marks.{mark_of, marks_of, mark_width, mark_height, mark_depth, mark_shrink, mark_places, marks_width, marks_height, marks_depth, marks_shrink, pack};
-ghost use Rattle.mt_box.specs.Pen.{pen_extents};
+ghost use Rattle.mt_box.specs.tree.Nodes.{AllFit, places_of_nodes, FitsIn, places_of_option};
+ghost use Rattle.mt_box.specs.Extents.{ExtentsInRange};
+ghost use Rattle.mt_box.specs.Rows.{piece_value, piece_values, piece_width, piece_height, piece_depth, piece_shrink, piece_places, row_width, row_height, row_depth, row_shrink, pack, level_of_piece, row_level, IsMeasurable, AllMeasurable, AllModest};
+ghost use Rattle.mt_box.specs.tree.Pen.{pen_extents};
 ghost use Rattle.mt_box.specs.Packs.{Packs};
-ghost use Rattle.mt_box.specs.Pack.{level_of_piece, row_level, IsMeasurable, AllMeasurable, AllModest};
 
 use crate::packed::{Node, seal};
 use crate::{Extents, PackError, Packed, Piece, Row};
@@ -23,7 +23,7 @@ use std::alloc::{AllocError, Global};
 pub fn hpack(alloc: Global, row: Row) -> Result<Packed, PackError>
     requires few { length row ≤ 2 ^ 21 }
     requires modest { AllModest row }
-    ensures packs { Packs (pack (marks_of row)) result }
+    ensures packs { Packs (pack (piece_values row)) result }
     ensures level { IfOk result (λ b. b.level ≡ row_level row) }
     ensures in_range { IfOk result (λ b. ExtentsInRange b.extents) }
 {
@@ -42,9 +42,9 @@ pub fn hpack(alloc: Global, row: Row) -> Result<Packed, PackError>
 pub fn row_extents(row: &Row) -> Extents
     requires few { length row.now ≤ 2 ^ 21 }
     requires measurable { AllMeasurable row.now }
-    ensures width { result.width ≡ marks_width (marks_of row.now) }
-    ensures height { result.height ≡ marks_height (marks_of row.now) }
-    ensures depth { result.depth ≡ marks_depth (marks_of row.now) }
+    ensures width { result.width ≡ row_width (piece_values row.now) }
+    ensures height { result.height ≡ row_height (piece_values row.now) }
+    ensures depth { result.depth ≡ row_depth (piece_values row.now) }
     ensures wide { Within (2 ^ 61) result.width }
     ensures high { Within (2 ^ 41) result.height }
     ensures deep { Within (2 ^ 41) result.depth }
@@ -61,7 +61,7 @@ pub fn row_extents(row: &Row) -> Extents
 pub fn shrink_of(row: &Row) -> i64
     requires few { length row.now ≤ 2 ^ 21 }
     requires measurable { AllMeasurable row.now }
-    ensures is { result ≡ marks_shrink (marks_of row.now) }
+    ensures is { result ≡ row_shrink (piece_values row.now) }
     ensures small { Within (2 ^ 61) result }
 {
     let mut total = Length { sp: 0 };
@@ -75,7 +75,7 @@ pub fn shrink_of(row: &Row) -> i64
 fn with_shrink(total: Length, piece: &Piece) -> Length
     requires measurable { IsMeasurable piece.now }
     requires total { Within (2 ^ 61) total.sp }
-    ensures is { result.sp ≡ total.sp +ℤ mark_shrink (mark_of piece.now) }
+    ensures is { result.sp ≡ total.sp +ℤ piece_shrink (piece_value piece.now) }
 {
     match piece {
         Piece::Space { shrink, .. } => Length {
@@ -107,13 +107,13 @@ impl Pen {
     fn after(self, piece: &Piece) -> Pen
         requires measurable { IsMeasurable piece.now }
         requires x { Within (2 ^ 61) self.x }
-        ensures x { result.x ≡ self.x +ℤ mark_width (mark_of piece.now) }
-        ensures height { result.height ≡ int_max self.height (mark_height (mark_of piece.now)) }
-        ensures depth { result.depth ≡ int_max self.depth (mark_depth (mark_of piece.now)) }
+        ensures x { result.x ≡ self.x +ℤ piece_width (piece_value piece.now) }
+        ensures height { result.height ≡ int_max self.height (piece_height (piece_value piece.now)) }
+        ensures depth { result.depth ≡ int_max self.depth (piece_depth (piece_value piece.now)) }
         ensures level { result.level ≡ max self.level (level_of_piece piece.now + 1) }
-        ensures wide { Within (2 ^ 40) (mark_width (mark_of piece.now)) }
-        ensures high { Within (2 ^ 41) (mark_height (mark_of piece.now)) }
-        ensures deep { Within (2 ^ 41) (mark_depth (mark_of piece.now)) }
+        ensures wide { Within (2 ^ 40) (piece_width (piece_value piece.now)) }
+        ensures high { Within (2 ^ 41) (piece_height (piece_value piece.now)) }
+        ensures deep { Within (2 ^ 41) (piece_depth (piece_value piece.now)) }
     {
         let measures = measure(piece);
         Pen {
@@ -150,7 +150,7 @@ impl Pen {
 fn push_node(nodes: &mut Vec<Node>, pen: Pen, piece: Piece) -> Result<(), AllocError>
     requires x { Within (2 ^ 61) pen.x }
     requires measurable { IsMeasurable piece }
-    ensures places { OnOk result (places_of_nodes nodes.new.items ≡ places_of_nodes nodes.old.items ++ mark_places pen.x (mark_of piece)) }
+    ensures places { OnOk result (places_of_nodes nodes.new.items ≡ places_of_nodes nodes.old.items ++ piece_places pen.x (piece_value piece)) }
     ensures fits { OnOk result ((level : ℕ) → level_of_piece piece < level → AllFit level nodes.old.items → AllFit level nodes.new.items) }
 {
     if let Some(node) = node_at(pen, piece) {
@@ -163,9 +163,9 @@ fn push_node(nodes: &mut Vec<Node>, pen: Pen, piece: Piece) -> Result<(), AllocE
 #[tactic(auto, using(std::proofs::lemmas::Int::ints))]
 fn measure(piece: &Piece) -> Extents
     requires { IsMeasurable piece.now }
-    ensures width { result.width ≡ mark_width (mark_of piece.now) }
-    ensures height { result.height ≡ mark_height (mark_of piece.now) }
-    ensures depth { result.depth ≡ mark_depth (mark_of piece.now) }
+    ensures width { result.width ≡ piece_width (piece_value piece.now) }
+    ensures height { result.height ≡ piece_height (piece_value piece.now) }
+    ensures depth { result.depth ≡ piece_depth (piece_value piece.now) }
     ensures wide { Within (2 ^ 40) result.width }
     ensures high { Within (2 ^ 41) result.height }
     ensures deep { Within (2 ^ 41) result.depth }
@@ -201,7 +201,7 @@ fn level_of(piece: &Piece) -> u32
 fn node_at(pen: Pen, piece: Piece) -> Option<Node>
     requires x { Within (2 ^ 61) pen.x }
     requires measurable { IsMeasurable piece }
-    ensures places { places_of_option result ≡ mark_places pen.x (mark_of piece) }
+    ensures places { places_of_option result ≡ piece_places pen.x (piece_value piece) }
     ensures fits { IfSome result (λ n. (level : ℕ) → level_of_piece piece < level → FitsIn level n) }
 {
     match piece {

@@ -8,9 +8,9 @@ use Rattle.mt_rules.specs.declared.list.Field.{Field}
 use Rattle.mt_rules.specs.declared.list.Field.TheVariants.{Empty, Sym, List as OfList, Rows as OfRows}
 use Rattle.mt_rules.specs.declared.list.MathList.TheDeep.{deep-Item, deep-Field}
 use Rattle.mt_rules.specs.Sequence.{sequence_size, element_size, part_size}
-use Rattle.mt_rules.specs.View.{sequence_of, element_of, part_of}
+use Rattle.mt_rules.specs.View.{sequence_of, element_of, part_of_field}
 
-pub field_falls : (f : Field) → deep-Field f ≤ part_size (part_of f)
+pub field_falls : (f : Field) → deep-Field f ≤ part_size (part_of_field f)
 field_falls Empty = omega arith
 field_falls (Sym c) = omega arith
 field_falls (OfList l) = omega arith

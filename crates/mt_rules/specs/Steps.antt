@@ -9,26 +9,26 @@ use Rattle.mt_rules.specs.declared.kind.Limits.{Limits}
 use Rattle.mt_rules.specs.declared.kind.Kind.{Kind}
 use Rattle.mt_rules.specs.Sequence.{Sequence, Element, Part, Rows, End, More, AtomElement, FractionElement, LeftElement, RightElement, StyleElement, ChoiceElement, MuSpaceElement, SpaceElement, MuKernElement, KernElement, NonscriptElement, EmptyPart, SymbolPart, ListPart, RowsPart, NoRows, MoreRows}
 
-pub data Step : Type 0 where
-  MakeEnd : Step
-  MakeMore : Step
-  MakeAtom : (kind : Kind) (limits : Limits) → Step
-  MakeFraction : (thickness : Option ℤ) (left : Delim) (right : Delim) → Step
-  MakeLeft : (delim : Delim) → Step
-  MakeRight : (delim : Delim) → Step
-  MakeStyle : (style : Style) → Step
-  MakeChoice : Step
-  MakeMuSpace : (glue : Glue) → Step
-  MakeSpace : (glue : Glue) → Step
-  MakeMuKern : (amount : ℤ) → Step
-  MakeKern : (amount : ℤ) → Step
-  MakeNonscript : Step
-  MakeEmptyPart : Step
-  MakeSymbolPart : (symbol : Symbol) → Step
-  MakeListPart : Step
-  MakeRowsPart : Step
-  MakeNoRows : Step
-  MakeMoreRows : Step
+pub data BuildStep : Type 0 where
+  MakeEnd : BuildStep
+  MakeMore : BuildStep
+  MakeAtom : (kind : Kind) (limits : Limits) → BuildStep
+  MakeFraction : (thickness : Option ℤ) (left : Delim) (right : Delim) → BuildStep
+  MakeLeft : (delim : Delim) → BuildStep
+  MakeRight : (delim : Delim) → BuildStep
+  MakeStyle : (style : Style) → BuildStep
+  MakeChoice : BuildStep
+  MakeMuSpace : (glue : Glue) → BuildStep
+  MakeSpace : (glue : Glue) → BuildStep
+  MakeMuKern : (amount : ℤ) → BuildStep
+  MakeKern : (amount : ℤ) → BuildStep
+  MakeNonscript : BuildStep
+  MakeEmptyPart : BuildStep
+  MakeSymbolPart : (symbol : Symbol) → BuildStep
+  MakeListPart : BuildStep
+  MakeRowsPart : BuildStep
+  MakeNoRows : BuildStep
+  MakeMoreRows : BuildStep
 
 -- what stands on the stack
 pub data Cell : Type 0 where
@@ -38,11 +38,11 @@ pub data Cell : Type 0 where
   RowsCell : Rows → Cell
 
 abbrev mutual
-  pub sequence_steps : Sequence → List Step → List Step
+  pub sequence_steps : Sequence → List BuildStep → List BuildStep
   sequence_steps End k = MakeEnd ∷ k
   sequence_steps (More a b) k = element_steps a (sequence_steps b (MakeMore ∷ k))
 
-  pub element_steps : Element → List Step → List Step
+  pub element_steps : Element → List BuildStep → List BuildStep
   element_steps (AtomElement a b c d e) k = part_steps c (part_steps d (part_steps e (MakeAtom a b ∷ k)))
   element_steps (FractionElement a b c d e) k = sequence_steps d (sequence_steps e (MakeFraction a b c ∷ k))
   element_steps (LeftElement a) k = MakeLeft a ∷ k
@@ -55,17 +55,17 @@ abbrev mutual
   element_steps (KernElement a) k = MakeKern a ∷ k
   element_steps NonscriptElement k = MakeNonscript ∷ k
 
-  pub part_steps : Part → List Step → List Step
+  pub part_steps : Part → List BuildStep → List BuildStep
   part_steps EmptyPart k = MakeEmptyPart ∷ k
   part_steps (SymbolPart a) k = MakeSymbolPart a ∷ k
   part_steps (ListPart a) k = sequence_steps a (MakeListPart ∷ k)
   part_steps (RowsPart a) k = rows_steps a (MakeRowsPart ∷ k)
 
-  pub rows_steps : Rows → List Step → List Step
+  pub rows_steps : Rows → List BuildStep → List BuildStep
   rows_steps NoRows k = MakeNoRows ∷ k
   rows_steps (MoreRows a b) k = sequence_steps a (rows_steps b (MakeMoreRows ∷ k))
 
-abbrev pub take_step : Step → List Cell → List Cell
+abbrev pub take_step : BuildStep → List Cell → List Cell
 take_step MakeEnd st = SequenceCell End ∷ st
 take_step MakeMore (SequenceCell b ∷ ElementCell a ∷ st) = SequenceCell (More a b) ∷ st
 take_step (MakeAtom a b) (PartCell e ∷ PartCell d ∷ PartCell c ∷ st) = ElementCell (AtomElement a b c d e) ∷ st
@@ -87,16 +87,16 @@ take_step MakeNoRows st = RowsCell NoRows ∷ st
 take_step MakeMoreRows (RowsCell b ∷ SequenceCell a ∷ st) = RowsCell (MoreRows a b) ∷ st
 take_step _ st = st
 
-abbrev pub rebuild : List Step → List Cell → List Cell
+abbrev pub rebuild : List BuildStep → List Cell → List Cell
 rebuild [] st = st
 rebuild (w ∷ ws) st = rebuild ws (take_step w st)
 
 mutual
-  pub rebuilt-sequence : (x : Sequence) (k : List Step) (st : List Cell) → rebuild (sequence_steps x k) st ≡ rebuild k (SequenceCell x ∷ st)
+  pub rebuilt-sequence : (x : Sequence) (k : List BuildStep) (st : List Cell) → rebuild (sequence_steps x k) st ≡ rebuild k (SequenceCell x ∷ st)
   rebuilt-sequence End k st = refl
   rebuilt-sequence (More a b) k st = rebuilt-element a (sequence_steps b (MakeMore ∷ k)) st ∙ rebuilt-sequence b (MakeMore ∷ k) (ElementCell a ∷ st)
 
-  pub rebuilt-element : (x : Element) (k : List Step) (st : List Cell) → rebuild (element_steps x k) st ≡ rebuild k (ElementCell x ∷ st)
+  pub rebuilt-element : (x : Element) (k : List BuildStep) (st : List Cell) → rebuild (element_steps x k) st ≡ rebuild k (ElementCell x ∷ st)
   rebuilt-element (AtomElement a b c d e) k st = rebuilt-part c (part_steps d (part_steps e (MakeAtom a b ∷ k))) st ∙ (rebuilt-part d (part_steps e (MakeAtom a b ∷ k)) (PartCell c ∷ st) ∙ rebuilt-part e (MakeAtom a b ∷ k) (PartCell d ∷ PartCell c ∷ st))
   rebuilt-element (FractionElement a b c d e) k st = rebuilt-sequence d (sequence_steps e (MakeFraction a b c ∷ k)) st ∙ rebuilt-sequence e (MakeFraction a b c ∷ k) (SequenceCell d ∷ st)
   rebuilt-element (LeftElement a) k st = refl
@@ -109,13 +109,13 @@ mutual
   rebuilt-element (KernElement a) k st = refl
   rebuilt-element NonscriptElement k st = refl
 
-  pub rebuilt-part : (x : Part) (k : List Step) (st : List Cell) → rebuild (part_steps x k) st ≡ rebuild k (PartCell x ∷ st)
+  pub rebuilt-part : (x : Part) (k : List BuildStep) (st : List Cell) → rebuild (part_steps x k) st ≡ rebuild k (PartCell x ∷ st)
   rebuilt-part EmptyPart k st = refl
   rebuilt-part (SymbolPart a) k st = refl
   rebuilt-part (ListPart a) k st = rebuilt-sequence a (MakeListPart ∷ k) st
   rebuilt-part (RowsPart a) k st = rebuilt-rows a (MakeRowsPart ∷ k) st
 
-  pub rebuilt-rows : (x : Rows) (k : List Step) (st : List Cell) → rebuild (rows_steps x k) st ≡ rebuild k (RowsCell x ∷ st)
+  pub rebuilt-rows : (x : Rows) (k : List BuildStep) (st : List Cell) → rebuild (rows_steps x k) st ≡ rebuild k (RowsCell x ∷ st)
   rebuilt-rows NoRows k st = refl
   rebuilt-rows (MoreRows a b) k st = rebuilt-sequence a (rows_steps b (MakeMoreRows ∷ k)) st ∙ rebuilt-rows b (MakeMoreRows ∷ k) (SequenceCell a ∷ st)
 
@@ -127,19 +127,19 @@ abbrev pub top_rows : List Cell → Rows
 top_rows (RowsCell s ∷ st) = s
 top_rows _ = NoRows
 
-abbrev pub steps : Sequence → List Step
+abbrev pub steps : Sequence → List BuildStep
 steps s = sequence_steps s []
 
-abbrev pub sequence_from : List Step → Sequence
+abbrev pub sequence_from : List BuildStep → Sequence
 sequence_from ws = top_sequence (rebuild ws [])
 
 pub sequence_from-steps : (s : Sequence) → sequence_from (steps s) ≡ s
 sequence_from-steps s = ap top_sequence (rebuilt-sequence s [] [])
 
-abbrev pub steps_of_rows : Rows → List Step
+abbrev pub steps_of_rows : Rows → List BuildStep
 steps_of_rows s = rows_steps s []
 
-abbrev pub rows_from : List Step → Rows
+abbrev pub rows_from : List BuildStep → Rows
 rows_from ws = top_rows (rebuild ws [])
 
 pub rows_from-steps : (s : Rows) → rows_from (steps_of_rows s) ≡ s

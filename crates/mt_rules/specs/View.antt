@@ -9,14 +9,14 @@ use Rattle.mt_rules.specs.declared.list.Item.TheVariants.{Atom, Fraction, Left, 
 use Rattle.mt_rules.specs.declared.list.Field.{Field}
 use Rattle.mt_rules.specs.declared.list.Field.TheVariants.{Empty, Sym, List as OfList, Rows as OfRows}
 
-abbrev pub part_of : Field → Part
-part_of Empty = EmptyPart
-part_of (Sym s) = SymbolPart s
-part_of (OfList l) = ListPart l
-part_of (OfRows r) = RowsPart r
+abbrev pub part_of_field : Field → Part
+part_of_field Empty = EmptyPart
+part_of_field (Sym s) = SymbolPart s
+part_of_field (OfList l) = ListPart l
+part_of_field (OfRows r) = RowsPart r
 
 abbrev pub atom_element : AtomFields → Element
-atom_element a = AtomElement a.kind a.limits (part_of a.nucleus) (part_of a.sup) (part_of a.sub)
+atom_element a = AtomElement a.kind a.limits (part_of_field a.nucleus) (part_of_field a.sup) (part_of_field a.sub)
 
 abbrev pub fraction_element : FractionFields → Element
 fraction_element f = FractionElement f.thickness f.left f.right f.num f.den
