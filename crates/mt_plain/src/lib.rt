@@ -1,0 +1,19 @@
+//! The tables of plain TeX for formulas (The TeXbook, Appendix B): the codes of characters and names, the commands, and the macros.
+#![tactic(auto)]
+
+mod characters;
+mod codes;
+mod error;
+mod macro_texts;
+mod macros;
+mod meaning;
+mod meanings;
+mod names;
+
+pub use codes::Codes;
+pub use error::CodeError;
+pub use macros::plain_macros;
+pub use meaning::{Command, Meaning};
+
+#[cfg(test)]
+mod tests;
