@@ -6,7 +6,7 @@ use Rattle.std.specs.Prelude.{if◌then◌else◌}
 use Rattle.std.specs.Int.{to_be_bytes, w32}
 use Rattle.mt_dvi.specs.Codes.{Bop, Char, Define, Down, Eop, Operation, Post, PostPost, Pre, Right, Rule, Select, operand_size, operation, signed_of, unsigned}
 use Rattle.mt_dvi.specs.Emits.{Emits, IsCode, four_bytes, own_postamble, own_preamble}
-use Rattle.mt_dvi.specs.Marks.{page_counts}
+use Rattle.mt_dvi.specs.WrittenPlaces.{page_counts}
 
 -- the four bytes are the number
 pub whole : (x : ℕ) → unsigned (four_bytes x) ≡ x

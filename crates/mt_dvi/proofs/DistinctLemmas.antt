@@ -4,12 +4,12 @@ use Rattle.std.specs.Prelude.{true, false, Bool, ◌==◌, ◌||◌, if◌then�
 use Rattle.std.proofs.lemmas.Bool.Decides.{nat_tests}
 use Rattle.mt_tfm.specs.Font.{Metrics}
 use Rattle.mt_dvi.specs.Distinct.{AreDistinct, free}
-use Rattle.mt_dvi.specs.LeadsTo.{is_among, used_by, used_by_all, with_number}
-use Rattle.mt_dvi.specs.Marks.{HasGlyph, IsWritable}
+use Rattle.mt_dvi.specs.LeadsTo.{is_among, fonts_after, fonts_after_all, with_number}
+use Rattle.mt_dvi.specs.WrittenPlaces.{HasGlyph, IsWritable}
 use Rattle.mt_family.specs.SetValue.{SetValue}
 use Rattle.mt_box.specs.declared.place.Place.{Place}
 use Rattle.mt_box.specs.declared.place.Place.TheVariants.{Glyph, Rule}
-use Rattle.mt_dvi.proofs.PageMarks.{all_head, all_tail}
+use Rattle.mt_dvi.proofs.PagePlaces.{all_head, all_tail}
 
 among_last : (numbers : List ℕ) (n k : ℕ) → is_among (numbers ++ n ∷ []) k ≡ (is_among numbers k || (n == k))
 among_last [] n k = either (n == k) where
@@ -66,11 +66,11 @@ in_list [] n P some = absurd some
 in_list (font ∷ fonts) zero P some = omega arith
 in_list (font ∷ fonts) (suc n) P some = omega (arith, in_list fonts n P some)
 
-distinct_used : (fonts : SetValue) (numbers : List ℕ) (place : Place) → length fonts.fonts ≤ 48 → IsWritable fonts place → AreDistinct numbers → AreDistinct (used_by numbers place)
+distinct_used : (fonts : SetValue) (numbers : List ℕ) (place : Place) → length fonts.fonts ≤ 48 → IsWritable fonts place → AreDistinct numbers → AreDistinct (fonts_after numbers place)
 distinct_used fonts numbers (Glyph n code h v) lt can few = distinct_added numbers n (omega (arith, in_list fonts.fonts n (λ (metrics : Metrics). HasGlyph metrics code) can.glyph)) few
 distinct_used fonts numbers (Rule h v height width) lt can few = few
 
-pub distinct_all : (fonts : SetValue) (numbers : List ℕ) (places : List Place) → length fonts.fonts ≤ 48 → All (IsWritable fonts) places → AreDistinct numbers → AreDistinct (used_by_all numbers places)
+pub distinct_all : (fonts : SetValue) (numbers : List ℕ) (places : List Place) → length fonts.fonts ≤ 48 → All (IsWritable fonts) places → AreDistinct numbers → AreDistinct (fonts_after_all numbers places)
 distinct_all fonts numbers [] lt can few = few
 distinct_all fonts numbers (place ∷ places) lt can few =
-    distinct_all fonts (used_by numbers place) places lt (all_tail (IsWritable fonts) place places can) (distinct_used fonts numbers place lt (all_head (IsWritable fonts) place places can) few)
+    distinct_all fonts (fonts_after numbers place) places lt (all_tail (IsWritable fonts) place places can) (distinct_used fonts numbers place lt (all_head (IsWritable fonts) place places can) few)

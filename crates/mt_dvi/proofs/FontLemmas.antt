@@ -7,9 +7,9 @@ use Rattle.mt_tfm.specs.Font.{Metrics}
 use Rattle.std.proofs.lemmas.List.{map-append, append-nil}
 use Rattle.mt_dvi.specs.Codes.{Define, Definition, Select}
 use Rattle.mt_dvi.specs.Emits.{Emits}
-use Rattle.mt_dvi.specs.File.{Continues, File, step}
-use Rattle.mt_dvi.specs.Fonts.{metrics_at, defined, definition_of, number_named}
-use Rattle.mt_dvi.specs.LeadsTo.{LeadsTo, in_page, is_among, with_fonts, with_number}
+use Rattle.mt_dvi.specs.File.{Continues, File, file_step}
+use Rattle.mt_dvi.specs.Fonts.{metrics_at, first_definition, definition_of, number_named}
+use Rattle.mt_dvi.specs.LeadsTo.{LeadsTo, in_page, is_among, with_definitions, with_number}
 use Rattle.mt_dvi.specs.Machine.{is_far}
 use Rattle.mt_family.specs.Fields.{is_name}
 use Rattle.mt_family.specs.ListFacts.{IsFontLine}
@@ -18,28 +18,28 @@ use Rattle.mt_family.specs.declared.list.FontLine.{FontLine}
 use Rattle.mt_dvi.specs.declared.page.Cursor.{Cursor}
 use Rattle.mt_dvi.proofs.Prefix.{leads_next}
 
-pub defined_is : (fonts : SetValue) (numbers : List ℕ) (n : ℕ) → defined (map (definition_of fonts) numbers) n ≡ (if is_among numbers n then Some (definition_of fonts n) else None)
+pub defined_is : (fonts : SetValue) (numbers : List ℕ) (n : ℕ) → first_definition (map (definition_of fonts) numbers) n ≡ (if is_among numbers n then Some (definition_of fonts n) else None)
 defined_is fonts [] n = refl
 defined_is fonts (m ∷ numbers) n = first_is (m == n) (λ (e : (m == n) ≡ true). same m n e) (defined_is fonts numbers n) where
   same : (m n : ℕ) → (m == n) ≡ true → definition_of fonts m ≡ definition_of fonts n
   same m n e = ap (definition_of fonts) (grind (arith, nat_tests))
 
-  first_is : (b : Bool) → (b ≡ true → definition_of fonts m ≡ definition_of fonts n) → defined (map (definition_of fonts) numbers) n ≡ (if is_among numbers n then Some (definition_of fonts n) else None)
-      → (if b then Some (definition_of fonts m) else defined (map (definition_of fonts) numbers) n) ≡ (if (b || is_among numbers n) then Some (definition_of fonts n) else None)
+  first_is : (b : Bool) → (b ≡ true → definition_of fonts m ≡ definition_of fonts n) → first_definition (map (definition_of fonts) numbers) n ≡ (if is_among numbers n then Some (definition_of fonts n) else None)
+      → (if b then Some (definition_of fonts m) else first_definition (map (definition_of fonts) numbers) n) ≡ (if (b || is_among numbers n) then Some (definition_of fonts n) else None)
   first_is true e ih = ap Some (e refl)
   first_is false e ih = ih
 
 -- a definition is read
 step_define : (fonts : SetValue) (file : File) (c : Cursor) (numbers : List ℕ) (n : ℕ) (rest : List ℕ) → is_among numbers n ≡ false
-    → step fonts (in_page (with_fonts fonts file numbers) c) (Define (definition_of fonts n)) rest ≡ Continues (in_page (with_fonts fonts file (numbers ++ n ∷ [])) c)
+    → file_step fonts (in_page (with_definitions fonts file numbers) c) (Define (definition_of fonts n)) rest ≡ Continues (in_page (with_definitions fonts file (numbers ++ n ∷ [])) c)
 step_define fonts file c numbers n rest new =
-    let e : defined (map (definition_of fonts) numbers ++ []) n ≡ None = ap (λ (l : List Definition). defined l n) (append-nil (map (definition_of fonts) numbers)) ∙ defined_is fonts numbers n ∙ ap (λ (b : Bool). if b then Some (definition_of fonts n) else None) new in
+    let e : first_definition (map (definition_of fonts) numbers ++ []) n ≡ None = ap (λ (l : List Definition). first_definition l n) (append-nil (map (definition_of fonts) numbers)) ∙ defined_is fonts numbers n ∙ ap (λ (b : Bool). if b then Some (definition_of fonts n) else None) new in
     rw (e, map-append (definition_of fonts) numbers (n ∷ [])) refl
 
 pub introduced : (fonts : SetValue) (old new : List ℕ) (numbers : List ℕ) (n : ℕ) → Emits 271 old new (Define (definition_of fonts n)) → is_among numbers n ≡ false
-    → (file : File) → (c : Cursor) → LeadsTo fonts old (in_page (with_fonts fonts file numbers) c) → LeadsTo fonts new (in_page (with_fonts fonts file (numbers ++ n ∷ [])) c)
+    → (file : File) → (c : Cursor) → LeadsTo fonts old (in_page (with_definitions fonts file numbers) c) → LeadsTo fonts new (in_page (with_definitions fonts file (numbers ++ n ∷ [])) c)
 introduced fonts old new numbers n emits fresh file c leads =
-    leads_next fonts old new (in_page (with_fonts fonts file numbers) c) (in_page (with_fonts fonts file (numbers ++ n ∷ [])) c) (Define (definition_of fonts n)) 271 leads emits
+    leads_next fonts old new (in_page (with_definitions fonts file numbers) c) (in_page (with_definitions fonts file (numbers ++ n ∷ [])) c) (Define (definition_of fonts n)) 271 leads emits
     (λ rest. step_define fonts (record file { at = length old }) c numbers n rest fresh)
 
 pub added_new : (numbers : List ℕ) (n : ℕ) → is_among numbers n ≡ false → numbers ++ n ∷ [] ≡ with_number numbers n
@@ -51,9 +51,9 @@ added_old numbers n fresh = rw fresh refl
 -- a selection is read
 step_select : (fonts : SetValue) (file : File) (c : Cursor) (numbers : List ℕ) (n : ℕ) (rest : List ℕ) → is_among numbers n ≡ true
     → number_named fonts (definition_of fonts n).name (definition_of fonts n).size ≡ Some n → is_far c.h ≡ false → is_far c.v ≡ false
-    → step fonts (in_page (with_fonts fonts file numbers) c) (Select n) rest ≡ Continues (in_page (with_fonts fonts file numbers) (record c { font = Some n }))
+    → file_step fonts (in_page (with_definitions fonts file numbers) c) (Select n) rest ≡ Continues (in_page (with_definitions fonts file numbers) (record c { font = Some n }))
 step_select fonts file c numbers n rest known place h v =
-    let e : defined (map (definition_of fonts) numbers) n ≡ Some (definition_of fonts n) = defined_is fonts numbers n ∙ ap (λ (b : Bool). if b then Some (definition_of fonts n) else None) known in
+    let e : first_definition (map (definition_of fonts) numbers) n ≡ Some (definition_of fonts n) = defined_is fonts numbers n ∙ ap (λ (b : Bool). if b then Some (definition_of fonts n) else None) known in
     rw (e, place, h, v) refl
 
 -- two lists with the same sizes have a font and a line at each place
@@ -102,9 +102,9 @@ listed fonts n set lt =
     }
 
 pub chosen : (fonts : SetValue) (old new : List ℕ) (numbers : List ℕ) (n : ℕ) (c : Cursor) → Emits 1 old new (Select n) → IsSet fonts → n < length fonts.fonts → is_among numbers n ≡ true → is_far c.h ≡ false → is_far c.v ≡ false
-    → (file : File) → LeadsTo fonts old (in_page (with_fonts fonts file numbers) c) → LeadsTo fonts new (in_page (with_fonts fonts file numbers) (record c { font = Some n }))
+    → (file : File) → LeadsTo fonts old (in_page (with_definitions fonts file numbers) c) → LeadsTo fonts new (in_page (with_definitions fonts file numbers) (record c { font = Some n }))
 chosen fonts old new numbers n c emits good lt known h v file leads =
-    leads_next fonts old new (in_page (with_fonts fonts file numbers) c) (in_page (with_fonts fonts file numbers) (record c { font = Some n })) (Select n) 1 leads emits
+    leads_next fonts old new (in_page (with_definitions fonts file numbers) c) (in_page (with_definitions fonts file numbers) (record c { font = Some n })) (Select n) 1 leads emits
     (λ rest. step_select fonts (record file { at = length old }) c numbers n rest known (listed fonts n good lt).found h v)
 
 last_among : (numbers : List ℕ) (n : ℕ) → is_among (numbers ++ n ∷ []) n ≡ true

@@ -4,8 +4,8 @@ pub mod CodeLemmas
 pub mod Prefix
 pub mod Moves
 pub mod FontLemmas
-pub mod MarkLemmas
-pub mod PageMarks
+pub mod PlaceLemmas
+pub mod PagePlaces
 pub mod PageLemmas
 pub mod DistinctLemmas
 pub mod AfterPages

@@ -5,9 +5,9 @@ use Rattle.std.proofs.lemmas.Bool.Decides.{nat_tests}
 use Rattle.std.proofs.lemmas.Int.{ints}
 use Rattle.mt_dvi.specs.Codes.{Down, Right}
 use Rattle.mt_dvi.specs.Emits.{Emits}
-use Rattle.mt_dvi.specs.File.{Continues, File, step}
+use Rattle.mt_dvi.specs.File.{Continues, File, file_step}
 use Rattle.mt_dvi.specs.LeadsTo.{LeadsTo, in_page}
-use Rattle.mt_dvi.specs.Marks.{InRange}
+use Rattle.mt_dvi.specs.WrittenPlaces.{InRange}
 use Rattle.mt_dvi.specs.Machine.{is_far}
 use Rattle.mt_family.specs.SetValue.{SetValue}
 use Rattle.mt_dvi.specs.declared.page.Cursor.{Cursor}
@@ -24,11 +24,11 @@ pub near : (z : ℤ) → nat_abs z < 2147483648 → is_far z ≡ false
 near z lt = grind (arith, nat_tests)
 
 step_right : (fonts : SetValue) (file : File) (c : Cursor) (by : ℤ) (rest : List ℕ) → is_far (c.h +ℤ by) ≡ false → is_far c.v ≡ false
-    → step fonts (in_page file c) (Right by) rest ≡ Continues (in_page file (record c { h = c.h +ℤ by }))
+    → file_step fonts (in_page file c) (Right by) rest ≡ Continues (in_page file (record c { h = c.h +ℤ by }))
 step_right fonts file c by rest h v = rw (h, v) refl
 
 step_down : (fonts : SetValue) (file : File) (c : Cursor) (by : ℤ) (rest : List ℕ) → is_far c.h ≡ false → is_far (c.v +ℤ by) ≡ false
-    → step fonts (in_page file c) (Down by) rest ≡ Continues (in_page file (record c { v = c.v +ℤ by }))
+    → file_step fonts (in_page file c) (Down by) rest ≡ Continues (in_page file (record c { v = c.v +ℤ by }))
 step_down fonts file c by rest h v = rw (h, v) refl
 
 pub moved_right : (fonts : SetValue) (old new : List ℕ) (file : File) (c : Cursor) (by h : ℤ) → Emits 5 old new (Right by) → c.h +ℤ by ≡ h → nat_abs h < 2147483648 → nat_abs c.v < 2147483648

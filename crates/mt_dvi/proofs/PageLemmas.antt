@@ -4,73 +4,74 @@ use Rattle.std.specs.Prelude.{ℤ, pos, negsuc, true, All, min, ◌^◌, ◌-◌
 use Rattle.std.specs.Ordering.{int_eq}
 use Rattle.std.proofs.lemmas.Bool.Decides.{nat_tests}
 use Rattle.std.proofs.lemmas.List.{append-nil, take_more}
+use Rattle.mt_dvi.specs.Limits.{max_pages, max_places}
 use Rattle.mt_dvi.specs.Codes.{Bop, Eop}
 use Rattle.mt_dvi.specs.Emits.{FitsFourBytes, Emits}
-use Rattle.mt_dvi.specs.File.{BetweenPages, Continues, File, Page, at_start, step}
-use Rattle.mt_dvi.specs.LeadsTo.{LeadsTo, at_origin, in_page, used_by, used_by_all, with_fonts, with_marks}
-use Rattle.mt_dvi.specs.Machine.{Mark}
-use Rattle.mt_dvi.specs.Marks.{all_marks, marks_of, numbered_pages, page_counts, page_of}
+use Rattle.mt_dvi.specs.File.{BetweenPages, Continues, File, Page, at_start, file_step}
+use Rattle.mt_dvi.specs.LeadsTo.{LeadsTo, at_origin, in_page, fonts_after, fonts_after_all, with_definitions, with_places}
+use Rattle.mt_dvi.specs.Machine.{WrittenPlace}
+use Rattle.mt_dvi.specs.WrittenPlaces.{all_places, written_places, numbered_pages, page_counts, numbered_page}
 use Rattle.mt_dvi.specs.Pages.{PagesWritten, between_pages}
 use Rattle.mt_family.specs.SetValue.{SetValue}
 use Rattle.mt_box.specs.declared.place.Place.{Place}
 use Rattle.mt_dvi.specs.declared.page.Cursor.{Cursor}
 use Rattle.mt_dvi.proofs.Prefix.{leads_next}
-use Rattle.mt_dvi.proofs.PageMarks.{long}
+use Rattle.mt_dvi.proofs.PagePlaces.{long}
 
 pub same_int : (z : ℤ) → int_eq z z ≡ true
 same_int (pos n) = grind (arith, nat_tests)
 same_int (negsuc n) = grind (arith, nat_tests)
 
--- the file in a page without marks, where last is the offset of its bop
+-- the file in a page without places, where last is the offset of its bop
 abbrev open_file : List Page → ℤ → ℕ → List ℕ → File
-open_file pages last marked counts = record at_start { phase = BetweenPages; mag = pos 1000; pages = pages; last = last; marked = marked; page = record { counts = counts; marks = [] } }
+open_file pages last place_count counts = record at_start { phase = BetweenPages; mag = pos 1000; pages = pages; last = last; place_count = place_count; page = record { counts = counts; places = [] } }
 
-step_bop : (fonts : SetValue) (numbers : List ℕ) (pages : List Page) (last : ℤ) (marked at : ℕ) (counts : List ℕ) (rest : List ℕ)
-    → step fonts (record (between_pages fonts numbers pages last marked) { at = at }) (Bop counts last) rest ≡ Continues (record (in_page (with_fonts fonts (open_file pages (pos at) marked counts) numbers) at_origin) { at = at })
-step_bop fonts numbers pages last marked at counts rest = rw (same_int last) refl
+step_bop : (fonts : SetValue) (numbers : List ℕ) (pages : List Page) (last : ℤ) (place_count at : ℕ) (counts : List ℕ) (rest : List ℕ)
+    → file_step fonts (record (between_pages fonts numbers pages last place_count) { at = at }) (Bop counts last) rest ≡ Continues (record (in_page (with_definitions fonts (open_file pages (pos at) place_count counts) numbers) at_origin) { at = at })
+step_bop fonts numbers pages last place_count at counts rest = rw (same_int last) refl
 
-step_eop : (fonts : SetValue) (numbers : List ℕ) (pages : List Page) (last : ℤ) (marked at : ℕ) (counts : List ℕ) (marks : List Mark) (cursor : Cursor) (rest : List ℕ)
-    → step fonts (record (in_page (with_fonts fonts (with_marks (open_file pages last marked counts) marks) numbers) cursor) { at = at }) Eop rest
-    ≡ Continues (record (between_pages fonts numbers (pages ++ record { counts = counts; marks = marks } ∷ []) last (marked + length marks)) { at = at })
-step_eop fonts numbers pages last marked at counts marks cursor rest = refl
+step_eop : (fonts : SetValue) (numbers : List ℕ) (pages : List Page) (last : ℤ) (place_count at : ℕ) (counts : List ℕ) (places : List WrittenPlace) (cursor : Cursor) (rest : List ℕ)
+    → file_step fonts (record (in_page (with_definitions fonts (with_places (open_file pages last place_count counts) places) numbers) cursor) { at = at }) Eop rest
+    ≡ Continues (record (between_pages fonts numbers (pages ++ record { counts = counts; places = places } ∷ []) last (place_count + length places)) { at = at })
+step_eop fonts numbers pages last place_count at counts places cursor rest = refl
 
 pub page_written : (fonts : SetValue) (o0 o1 o2 o3 : List ℕ) (old_defined new_defined : List ℕ) (number : ℕ) (last : ℤ) (page : List Place)
     → Emits 45 o0 o1 (Bop (page_counts number) last)
-    → ((file : File) → file.marked + length page ≤ 2000000 → LeadsTo fonts o1 (in_page (with_fonts fonts file old_defined) at_origin) → (end : Cursor) × LeadsTo fonts o2 (in_page (with_fonts fonts (with_marks file (marks_of fonts page)) new_defined) end))
+    → ((file : File) → file.place_count + length page ≤ max_places → LeadsTo fonts o1 (in_page (with_definitions fonts file old_defined) at_origin) → (end : Cursor) × LeadsTo fonts o2 (in_page (with_definitions fonts (with_places file (written_places fonts page)) new_defined) end))
     → Emits 1 o2 o3 Eop
-    → (pages : List Page) → (marked : ℕ) → marked + length page ≤ 2000000 → LeadsTo fonts o0 (between_pages fonts old_defined pages last marked)
-    → LeadsTo fonts o3 (between_pages fonts new_defined (pages ++ page_of fonts number page ∷ []) (pos (length o0)) (marked + length page))
-page_written fonts o0 o1 o2 o3 old_defined new_defined number last page bop marking eop pages marked few leads =
+    → (pages : List Page) → (place_count : ℕ) → place_count + length page ≤ max_places → LeadsTo fonts o0 (between_pages fonts old_defined pages last place_count)
+    → LeadsTo fonts o3 (between_pages fonts new_defined (pages ++ numbered_page fonts number page ∷ []) (pos (length o0)) (place_count + length page))
+page_written fonts o0 o1 o2 o3 old_defined new_defined number last page bop marking eop pages place_count few leads =
     let counts = page_counts number in
-    let file = open_file pages (pos (length o0)) marked counts in
-    let s1 : LeadsTo fonts o1 (in_page (with_fonts fonts file old_defined) at_origin) =
-    leads_next fonts o0 o1 (between_pages fonts old_defined pages last marked) (in_page (with_fonts fonts file old_defined) at_origin) (Bop counts last) 45 leads bop
-    (λ rest. step_bop fonts old_defined pages last marked (length o0) counts rest) in
+    let file = open_file pages (pos (length o0)) place_count counts in
+    let s1 : LeadsTo fonts o1 (in_page (with_definitions fonts file old_defined) at_origin) =
+    leads_next fonts o0 o1 (between_pages fonts old_defined pages last place_count) (in_page (with_definitions fonts file old_defined) at_origin) (Bop counts last) 45 leads bop
+    (λ rest. step_bop fonts old_defined pages last place_count (length o0) counts rest) in
     let s2 = marking file few s1 in
-    let s3 : LeadsTo fonts o3 (between_pages fonts new_defined (pages ++ page_of fonts number page ∷ []) (pos (length o0)) (marked + length (marks_of fonts page))) =
-    leads_next fonts o2 o3 (in_page (with_fonts fonts (with_marks file (marks_of fonts page)) new_defined) s2.0) (between_pages fonts new_defined (pages ++ page_of fonts number page ∷ []) (pos (length o0)) (marked + length (marks_of fonts page))) Eop 1 s2.1 eop
-    (λ rest. step_eop fonts new_defined pages (pos (length o0)) marked (length o2) counts (marks_of fonts page) s2.0 rest) in
-    subst (λ (n : ℕ). LeadsTo fonts o3 (between_pages fonts new_defined (pages ++ page_of fonts number page ∷ []) (pos (length o0)) (marked + n))) (long fonts page) s3
+    let s3 : LeadsTo fonts o3 (between_pages fonts new_defined (pages ++ numbered_page fonts number page ∷ []) (pos (length o0)) (place_count + length (written_places fonts page))) =
+    leads_next fonts o2 o3 (in_page (with_definitions fonts (with_places file (written_places fonts page)) new_defined) s2.0) (between_pages fonts new_defined (pages ++ numbered_page fonts number page ∷ []) (pos (length o0)) (place_count + length (written_places fonts page))) Eop 1 s2.1 eop
+    (λ rest. step_eop fonts new_defined pages (pos (length o0)) place_count (length o2) counts (written_places fonts page) s2.0 rest) in
+    subst (λ (n : ℕ). LeadsTo fonts o3 (between_pages fonts new_defined (pages ++ numbered_page fonts number page ∷ []) (pos (length o0)) (place_count + n))) (long fonts page) s3
 
-joined_more : (pages : List (List Place)) (page : List Place) → all_marks (pages ++ page ∷ []) ≡ all_marks pages ++ page
+joined_more : (pages : List (List Place)) (page : List Place) → all_places (pages ++ page ∷ []) ≡ all_places pages ++ page
 joined_more [] page = append-nil page
-joined_more (p ∷ pages) page = ap (λ (l : List Place). p ++ l) (joined_more pages page) ∙ sym (append_assoc p (all_marks pages) page)
+joined_more (p ∷ pages) page = ap (λ (l : List Place). p ++ l) (joined_more pages page) ∙ sym (append_assoc p (all_places pages) page)
 
-numbered_more : (fonts : SetValue) (n : ℕ) (pages : List (List Place)) (page : List Place) → numbered_pages fonts n (pages ++ page ∷ []) ≡ numbered_pages fonts n pages ++ page_of fonts (n + length pages) page ∷ []
-numbered_more fonts n [] page = let e : n ≡ n + 0 = omega arith in ap (λ (k : ℕ). page_of fonts k page ∷ []) e
+numbered_more : (fonts : SetValue) (n : ℕ) (pages : List (List Place)) (page : List Place) → numbered_pages fonts n (pages ++ page ∷ []) ≡ numbered_pages fonts n pages ++ numbered_page fonts (n + length pages) page ∷ []
+numbered_more fonts n [] page = let e : n ≡ n + 0 = omega arith in ap (λ (k : ℕ). numbered_page fonts k page ∷ []) e
 numbered_more fonts n (p ∷ pages) page =
     let e : n + 1 + length pages ≡ n + length (p ∷ pages) = omega arith in
-    ap (λ (l : List Page). page_of fonts n p ∷ l) (numbered_more fonts (n + 1) pages page ∙ ap (λ (k : ℕ). numbered_pages fonts (n + 1) pages ++ page_of fonts k page ∷ []) e)
+    ap (λ (l : List Page). numbered_page fonts n p ∷ l) (numbered_more fonts (n + 1) pages page ∙ ap (λ (k : ℕ). numbered_pages fonts (n + 1) pages ++ numbered_page fonts k page ∷ []) e)
 
-used_more : (numbers : List ℕ) (xs ys : List Place) → used_by_all numbers (xs ++ ys) ≡ used_by_all (used_by_all numbers xs) ys
+used_more : (numbers : List ℕ) (xs ys : List Place) → fonts_after_all numbers (xs ++ ys) ≡ fonts_after_all (fonts_after_all numbers xs) ys
 used_more numbers [] ys = refl
-used_more numbers (x ∷ xs) ys = used_more (used_by numbers x) xs ys
+used_more numbers (x ∷ xs) ys = used_more (fonts_after numbers x) xs ys
 
 -- the pages so far
 pub record PagesSoFar (fonts : SetValue) (old_out out defined : List ℕ) (last : ℤ) (pages : List (List Place)) : Type 0 where
-  pub used : defined ≡ used_by_all [] (all_marks pages)
-  pub leads : LeadsTo fonts old_out (between_pages fonts [] [] (negsuc 0) 0) → LeadsTo fonts out (between_pages fonts defined (numbered_pages fonts 1 pages) last (length (all_marks pages)))
-  pub long : length out ≤ length old_out + 19 * length (all_marks pages) + 46 * length pages + 271 * length defined
+  pub used : defined ≡ fonts_after_all [] (all_places pages)
+  pub leads : LeadsTo fonts old_out (between_pages fonts [] [] (negsuc 0) 0) → LeadsTo fonts out (between_pages fonts defined (numbered_pages fonts 1 pages) last (length (all_places pages)))
+  pub long : length out ≤ length old_out + 19 * length (all_places pages) + 46 * length pages + 271 * length defined
 
 pub pages_none : (fonts : SetValue) (out : List ℕ) → PagesSoFar fonts out out [] (negsuc 0) []
 pages_none fonts out = record { used = refl; leads = λ leads. leads; long = omega arith }
@@ -93,58 +94,58 @@ pages_end fonts old_out out defined last all i lt so_far fits few there =
     let whole = subst (λ (pages : List (List Place)). PagesSoFar fonts old_out out defined last pages) (take_whole all i lt) so_far in
     record { used = whole.used; leads = whole.leads; long = whole.long; last_fits = fits; few = few; there = there }
 
-pub joined_take : (xs : List (List Place)) (i : ℕ) → length (all_marks (take i xs)) ≤ length (all_marks xs)
+pub joined_take : (xs : List (List Place)) (i : ℕ) → length (all_places (take i xs)) ≤ length (all_places xs)
 joined_take xs zero = omega arith
 joined_take [] (suc i) = omega arith
-joined_take (x ∷ xs) (suc i) = omega (arith, joined_take xs i, length-append x (all_marks (take i xs)), length-append x (all_marks xs))
+joined_take (x ∷ xs) (suc i) = omega (arith, joined_take xs i, length-append x (all_places (take i xs)), length-append x (all_places xs))
 
 pages_more : (fonts : SetValue) (old_out out new_out defined new_defined : List ℕ) (last : ℤ) (pages : List (List Place)) (page : List Place)
     → PagesSoFar fonts old_out out defined last pages
-    → length (all_marks (pages ++ page ∷ [])) ≤ 2000000
-    → new_defined ≡ used_by_all defined page
-    → ((before : List Page) → (marked : ℕ) → marked + length page ≤ 2000000 → LeadsTo fonts out (between_pages fonts defined before last marked)
-    → LeadsTo fonts new_out (between_pages fonts new_defined (before ++ page_of fonts (length pages + 1) page ∷ []) (pos (length out)) (marked + length page)))
+    → length (all_places (pages ++ page ∷ [])) ≤ max_places
+    → new_defined ≡ fonts_after_all defined page
+    → ((before : List Page) → (place_count : ℕ) → place_count + length page ≤ max_places → LeadsTo fonts out (between_pages fonts defined before last place_count)
+    → LeadsTo fonts new_out (between_pages fonts new_defined (before ++ numbered_page fonts (length pages + 1) page ∷ []) (pos (length out)) (place_count + length page)))
     → length new_out + 271 * length defined ≤ length out + 271 * length new_defined + (19 * length page + 46)
     → PagesSoFar fonts old_out new_out new_defined (pos (length out)) (pages ++ page ∷ [])
 pages_more fonts old_out out new_out defined new_defined last pages page so_far few used one long =
-    let all : all_marks (pages ++ page ∷ []) ≡ all_marks pages ++ page = joined_more pages page in
-    let count : length (all_marks (pages ++ page ∷ [])) ≡ length (all_marks pages) + length page = ap length all ∙ length-append (all_marks pages) page in
+    let all : all_places (pages ++ page ∷ []) ≡ all_places pages ++ page = joined_more pages page in
+    let count : length (all_places (pages ++ page ∷ [])) ≡ length (all_places pages) + length page = ap length all ∙ length-append (all_places pages) page in
     let number : 1 + length pages ≡ length pages + 1 = omega arith in
     let before = so_far.long in
     record {
-      used = used ∙ ap (λ (l : List ℕ). used_by_all l page) so_far.used ∙ sym (used_more [] (all_marks pages) page) ∙ ap (λ (l : List Place). used_by_all [] l) (sym all);
+      used = used ∙ ap (λ (l : List ℕ). fonts_after_all l page) so_far.used ∙ sym (used_more [] (all_places pages) page) ∙ ap (λ (l : List Place). fonts_after_all [] l) (sym all);
       leads = λ leads.
-          let s = one (numbered_pages fonts 1 pages) (length (all_marks pages)) (omega (arith, few, count)) (so_far.leads leads) in
+          let s = one (numbered_pages fonts 1 pages) (length (all_places pages)) (omega (arith, few, count)) (so_far.leads leads) in
           rw (numbered_more fonts 1 pages page, number, count) s;
       long = omega (arith, before, long, count, length-append pages (page ∷ []));
     }
 
 pub pages_next : (fonts : SetValue) (old_out out new_out defined new_defined : List ℕ) (last : ℤ) (all : List (List Place)) (i : ℕ) (d : List Place) (number : ℕ)
     → i < length all → number ≡ i + 1
-    → length (all_marks all) ≤ 2000000
+    → length (all_places all) ≤ max_places
     → PagesSoFar fonts old_out out defined last (take i all)
-    → new_defined ≡ used_by_all defined (get_or all i d)
-    → ((before : List Page) → (marked : ℕ) → marked + length (get_or all i d) ≤ 2000000 → LeadsTo fonts out (between_pages fonts defined before last marked)
-    → LeadsTo fonts new_out (between_pages fonts new_defined (before ++ page_of fonts number (get_or all i d) ∷ []) (pos (length out)) (marked + length (get_or all i d))))
+    → new_defined ≡ fonts_after_all defined (get_or all i d)
+    → ((before : List Page) → (place_count : ℕ) → place_count + length (get_or all i d) ≤ max_places → LeadsTo fonts out (between_pages fonts defined before last place_count)
+    → LeadsTo fonts new_out (between_pages fonts new_defined (before ++ numbered_page fonts number (get_or all i d) ∷ []) (pos (length out)) (place_count + length (get_or all i d))))
     → length new_out + 271 * length defined ≤ length out + 271 * length new_defined + (19 * length (get_or all i d) + 46)
     → PagesSoFar fonts old_out new_out new_defined (pos (length out)) (take (i + 1) all)
 pages_next fonts old_out out new_out defined new_defined last all i d number lt is few so_far used one long =
     let e : take (i + 1) all ≡ take i all ++ get_or all i d ∷ [] = take_more all i d lt in
     let n : number ≡ length (take i all) + 1 = omega (arith, take_long all i (omega arith)) in
-    let less : length (all_marks (take (i + 1) all)) ≤ 2000000 = omega (arith, joined_take all (i + 1), few) in
+    let less : length (all_places (take (i + 1) all)) ≤ max_places = omega (arith, joined_take all (i + 1), few) in
     subst (λ (l : List (List Place)). PagesSoFar fonts old_out new_out new_defined (pos (length out)) l) (sym e)
-    (pages_more fonts old_out out new_out defined new_defined last (take i all) (get_or all i d) so_far (subst (λ (l : List (List Place)). length (all_marks l) ≤ 2000000) e less) used
-    (subst (λ (k : ℕ). (before : List Page) → (marked : ℕ) → marked + length (get_or all i d) ≤ 2000000 → LeadsTo fonts out (between_pages fonts defined before last marked)
-    → LeadsTo fonts new_out (between_pages fonts new_defined (before ++ page_of fonts k (get_or all i d) ∷ []) (pos (length out)) (marked + length (get_or all i d)))) n one) long)
+    (pages_more fonts old_out out new_out defined new_defined last (take i all) (get_or all i d) so_far (subst (λ (l : List (List Place)). length (all_places l) ≤ max_places) e less) used
+    (subst (λ (k : ℕ). (before : List Page) → (place_count : ℕ) → place_count + length (get_or all i d) ≤ max_places → LeadsTo fonts out (between_pages fonts defined before last place_count)
+    → LeadsTo fonts new_out (between_pages fonts new_defined (before ++ numbered_page fonts k (get_or all i d) ∷ []) (pos (length out)) (place_count + length (get_or all i d)))) n one) long)
 
 pub pages_size : (fonts : SetValue) (old_out out defined : List ℕ) (last : ℤ) (all : List (List Place)) (i : ℕ) → PagesSoFar fonts old_out out defined last (take i all)
-    → length old_out ≤ 15 → length all ≤ 65535 → length (all_marks all) ≤ 2000000 → length defined ≤ 48 → i ≤ length all → length out ≤ 41027633
-pages_size fonts old_out out defined last all i so_far first few marks fonts_few lt =
+    → length old_out ≤ 15 → length all ≤ max_pages → length (all_places all) ≤ max_places → length defined ≤ 48 → i ≤ length all → length out ≤ 41027633
+pages_size fonts old_out out defined last all i so_far first few places fonts_few lt =
     let a = so_far.long in omega (arith, a, take_long all i lt, joined_take all i)
 
-pub count_more : (pages : List (List Place)) (i : ℕ) (d page : List Place) (count next : ℕ) → i < length pages → page ≡ get_or pages i d → count ≡ min (length (all_marks (take i pages))) (2 ^ 64 - 1) → next ≡ min (count + length page) (2 ^ 64 - 1)
-    → next ≡ min (length (all_marks (take (i + 1) pages))) (2 ^ 64 - 1)
+pub count_more : (pages : List (List Place)) (i : ℕ) (d page : List Place) (count next : ℕ) → i < length pages → page ≡ get_or pages i d → count ≡ min (length (all_places (take i pages))) (2 ^ 64 - 1) → next ≡ min (count + length page) (2 ^ 64 - 1)
+    → next ≡ min (length (all_places (take (i + 1) pages))) (2 ^ 64 - 1)
 count_more pages i d page count next lt at is add =
     let e : take (i + 1) pages ≡ take i pages ++ get_or pages i d ∷ [] = take_more pages i d lt in
-    let l : length (all_marks (take (i + 1) pages)) ≡ length (all_marks (take i pages)) + length (get_or pages i d) = ap (λ (ps : List (List Place)). length (all_marks ps)) e ∙ ap length (joined_more (take i pages) (get_or pages i d)) ∙ length-append (all_marks (take i pages)) (get_or pages i d) in
+    let l : length (all_places (take (i + 1) pages)) ≡ length (all_places (take i pages)) + length (get_or pages i d) = ap (λ (ps : List (List Place)). length (all_places ps)) e ∙ ap length (joined_more (take i pages) (get_or pages i d)) ∙ length-append (all_places (take i pages)) (get_or pages i d) in
     omega (arith, l, ap length at, is, add)

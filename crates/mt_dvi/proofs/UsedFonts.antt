@@ -7,11 +7,11 @@ use Rattle.mt_tfm.specs.Font.{Metrics}
 use Rattle.std.proofs.lemmas.Bool.Decides.{nat_tests}
 use Rattle.mt_dvi.specs.Codes.{Definition}
 use Rattle.mt_dvi.specs.Fonts.{definition_of}
-use Rattle.mt_dvi.specs.LeadsTo.{is_among, used_by_all, with_number}
-use Rattle.mt_dvi.specs.Marks.{HasGlyph, IsWritable}
+use Rattle.mt_dvi.specs.LeadsTo.{is_among, fonts_after_all, with_number}
+use Rattle.mt_dvi.specs.WrittenPlaces.{HasGlyph, IsWritable}
 use Rattle.mt_dvi.specs.Written.{DefinesEachOnce, IsOfSet, is_of}
 use Rattle.mt_family.specs.SetValue.{SetValue}
-use Rattle.mt_dvi.proofs.PageMarks.{all_head, all_tail}
+use Rattle.mt_dvi.proofs.PagePlaces.{all_head, all_tail}
 use Rattle.mt_dvi.proofs.DistinctLemmas.{in_list}
 use Rattle.mt_box.specs.declared.place.Place.{Place}
 use Rattle.mt_box.specs.declared.place.Place.TheVariants.{Glyph, Rule}
@@ -68,7 +68,7 @@ among_added numbers m n = by_test (is_among numbers m) refl where
   by_test true there = old (is_among numbers n) (m == n) (λ t. let same : m ≡ n = grind (arith, nat_tests) in ap (is_among numbers) (sym same) ∙ there)
   by_test false fresh = among_last numbers m n
 
-counts_all : (numbers : List ℕ) (places : List Place) → ((n : ℕ) → count_of numbers n ≡ bit (is_among numbers n)) → (n : ℕ) → count_of (used_by_all numbers places) n ≡ bit (is_among numbers n || list_any (is_of n) places)
+counts_all : (numbers : List ℕ) (places : List Place) → ((n : ℕ) → count_of numbers n ≡ bit (is_among numbers n)) → (n : ℕ) → count_of (fonts_after_all numbers places) n ≡ bit (is_among numbers n || list_any (is_of n) places)
 counts_all numbers [] before n = before n ∙ ap bit (or_none (is_among numbers n))
 counts_all numbers (Glyph m code h v ∷ places) before n =
     counts_all (with_number numbers m) places (λ k. count_added numbers m before k ∙ ap bit (sym (among_added numbers m k))) n
@@ -90,8 +90,8 @@ count_map fonts (m ∷ numbers) n = ap (λ (k : ℕ). (if m == n then 1 else 0) 
 counted : (n : ℕ) (ds : List Definition) → count_defs n ds ≡ count_by (λ (d : Definition). d.number == n) ds
 counted n ds = is_count_by (count_defs n) (λ (d : Definition). d.number == n) refl (λ x xs. add_if (x.number == n) (count_defs n xs)) ds
 
-pub once_each : (fonts : SetValue) (places : List Place) → DefinesEachOnce places (map (definition_of fonts) (used_by_all [] places))
-once_each fonts places n = sym (counted n (map (definition_of fonts) (used_by_all [] places))) ∙ count_map fonts (used_by_all [] places) n ∙ counts_all [] places (λ k. refl) n
+pub once_each : (fonts : SetValue) (places : List Place) → DefinesEachOnce places (map (definition_of fonts) (fonts_after_all [] places))
+once_each fonts places n = sym (counted n (map (definition_of fonts) (fonts_after_all [] places))) ∙ count_map fonts (fonts_after_all [] places) n ∙ counts_all [] places (λ k. refl) n
 
 pub own_all : (fonts : SetValue) (numbers : List ℕ) → All (IsOfSet fonts) (map (definition_of fonts) numbers)
 own_all fonts [] k d lt = absurd (omega arith)
@@ -110,7 +110,7 @@ there_added m numbers n lt all = by_test (is_among numbers n) where
   by_test true = all
   by_test false = all_last (λ (k : ℕ). k < m) numbers n all lt
 
-pub there_all : (fonts : SetValue) (numbers : List ℕ) (places : List Place) → All (IsWritable fonts) places → All (λ (k : ℕ). k < length fonts.fonts) numbers → All (λ (k : ℕ). k < length fonts.fonts) (used_by_all numbers places)
+pub there_all : (fonts : SetValue) (numbers : List ℕ) (places : List Place) → All (IsWritable fonts) places → All (λ (k : ℕ). k < length fonts.fonts) numbers → All (λ (k : ℕ). k < length fonts.fonts) (fonts_after_all numbers places)
 there_all fonts numbers [] can all = all
 there_all fonts numbers (Glyph n code h v ∷ places) can all =
     there_all fonts (with_number numbers n) places (all_tail (IsWritable fonts) (Glyph n code h v) places can)

@@ -26,7 +26,7 @@ pub record Preamble : Type 0 where
   pub mag : ℤ
   pub comment : List ℕ
 
--- post: the offset of the last bop, num, den and mag again, how far down and how far to the right the marks of all pages reach at most,
+-- post: the offset of the last bop, num, den and mag again, how far down and how far to the right the places of all pages reach at most,
 -- the greatest depth of the stack, and the number of pages
 pub record Postamble : Type 0 where
   pub last : ℤ

@@ -12,8 +12,8 @@ abbrev pub number_named : SetValue → List ℕ → ℕ → Option ℕ
 number_named fonts name size = named fonts.lines name (pos size)
 
 -- what the file says of a font's number, by the first definition of it
-abbrev pub defined : List Definition → ℕ → Option Definition
-defined definitions number = find (λ (d : Definition). d.number == number) definitions
+abbrev pub first_definition : List Definition → ℕ → Option Definition
+first_definition definitions number = find (λ (d : Definition). d.number == number) definitions
 
 abbrev pub size_in : Option Metrics → ℕ
 size_in None = 0

@@ -5,11 +5,12 @@ use Rattle.mt_family.specs.SetValue.{SetValue}
 use Rattle.mt_box.specs.Places.{h_of, v_of}
 use Rattle.mt_box.specs.declared.place.Place.{Place}
 use Rattle.mt_box.specs.declared.place.Place.TheVariants.{Glyph, Rule}
+use Rattle.mt_dvi.specs.Limits.{max_places}
 use Rattle.mt_dvi.specs.Fonts.{definition_of}
-use Rattle.mt_dvi.specs.Machine.{Machine, Mark}
+use Rattle.mt_dvi.specs.Machine.{Machine, WrittenPlace}
 use Rattle.mt_dvi.specs.File.{File, InPage, read, reading}
 use Rattle.mt_dvi.specs.Emits.{FitsFourBytes}
-use Rattle.mt_dvi.specs.Marks.{marks_of, right_edge}
+use Rattle.mt_dvi.specs.WrittenPlaces.{written_places, right_edge}
 use Rattle.mt_dvi.specs.declared.page.Cursor.{Cursor}
 
 -- whatever follows these bytes is read from this state on
@@ -39,8 +40,8 @@ abbrev pub at_origin : Cursor
 at_origin = record { h = pos 0; v = pos 0; font = None }
 
 -- these fonts are defined, and no others
-abbrev pub with_fonts : SetValue → File → List ℕ → File
-with_fonts fonts file numbers = record file { fonts = map (definition_of fonts) numbers; again = [] }
+abbrev pub with_definitions : SetValue → File → List ℕ → File
+with_definitions fonts file numbers = record file { fonts = map (definition_of fonts) numbers; again = [] }
 
 abbrev pub is_among : List ℕ → ℕ → Bool
 is_among numbers n = list_any (λ (m : ℕ). m == n) numbers
@@ -48,39 +49,39 @@ is_among numbers n = list_any (λ (m : ℕ). m == n) numbers
 abbrev pub with_number : List ℕ → ℕ → List ℕ
 with_number numbers n = if is_among numbers n then numbers else numbers ++ n ∷ []
 
--- the fonts that are defined after a mark
-abbrev pub used_by : List ℕ → Place → List ℕ
-used_by numbers (Glyph n code h v) = with_number numbers n
-used_by numbers (Rule h v height width) = numbers
+-- the fonts that are defined after a place
+abbrev pub fonts_after : List ℕ → Place → List ℕ
+fonts_after numbers (Glyph n code h v) = with_number numbers n
+fonts_after numbers (Rule h v height width) = numbers
 
-abbrev pub used_by_all : List ℕ → List Place → List ℕ
-used_by_all numbers [] = numbers
-used_by_all numbers (place ∷ places) = used_by_all (used_by numbers place) places
+abbrev pub fonts_after_all : List ℕ → List Place → List ℕ
+fonts_after_all numbers [] = numbers
+fonts_after_all numbers (place ∷ places) = fonts_after_all (fonts_after numbers place) places
 
--- more marks
-abbrev pub with_marks : File → List Mark → File
-with_marks file marks = record file { marked = file.marked + length marks; page = record (file.page) { marks = file.page.marks ++ marks } }
+-- more places
+abbrev pub with_places : File → List WrittenPlace → File
+with_places file places = record file { place_count = file.place_count + length places; page = record (file.page) { places = file.page.places ++ places } }
 
--- one mark more
-abbrev pub with_mark : File → Place → Bool → File
-with_mark file place put = record file { marked = file.marked + 1; page = record (file.page) { marks = file.page.marks ++ record { place = place; put = put } ∷ [] } }
+-- one place more
+abbrev pub with_place : File → Place → Bool → File
+with_place file place put = record file { place_count = file.place_count + 1; page = record (file.page) { places = file.page.places ++ record { place = place; put = put } ∷ [] } }
 
 abbrev pub font_after : Place → Option ℕ → Option ℕ
 font_after (Glyph n code h v) font = Some n
 font_after (Rule h v height width) font = font
 
--- where the machine stands after a mark
+-- where the machine stands after a place
 abbrev pub cursor_after : SetValue → Place → Bool → Cursor → Cursor
 cursor_after fonts place put c = record { h = if put then h_of place else right_edge fonts place; v = v_of place; font = font_after place c.font }
 
--- one move to the right leads to the next mark
+-- one move to the right leads to the next place
 abbrev pub IsReachable : Cursor → Option Place → Type 0
 IsReachable c None = ⊤
 IsReachable c (Some place) = FitsFourBytes (h_of place -ℤ c.h)
 
 -- in a page at a cursor, where these fonts are defined
 abbrev pub at_cursor : SetValue → File → List ℕ → Cursor → File
-at_cursor fonts file numbers cursor = in_page (with_fonts fonts file numbers) cursor
+at_cursor fonts file numbers cursor = in_page (with_definitions fonts file numbers) cursor
 
 -- a font is selected that is defined
 abbrev pub Selects : SetValue → List ℕ → List ℕ → Cursor → ℕ → Type 0
@@ -92,13 +93,13 @@ abbrev pub Introduces : SetValue → List ℕ → List ℕ → List ℕ → List
 Introduces fonts old new old_defined new_defined = (file : File) → (cursor : Cursor)
     → Advances fonts old new (at_cursor fonts file old_defined cursor) (at_cursor fonts file new_defined cursor)
 
--- a mark is made, from a cursor on
-abbrev pub WritesMark : SetValue → List ℕ → List ℕ → List ℕ → List ℕ → Cursor → Place → Bool → Type 0
-WritesMark fonts old new old_defined new_defined cursor place put = (file : File) → file.marked < 2000000
-    → Advances fonts old new (at_cursor fonts file old_defined cursor) (at_cursor fonts (with_mark file place put) new_defined (cursor_after fonts place put cursor))
+-- a place is written, from a cursor on
+abbrev pub WritesPlace : SetValue → List ℕ → List ℕ → List ℕ → List ℕ → Cursor → Place → Bool → Type 0
+WritesPlace fonts old new old_defined new_defined cursor place put = (file : File) → file.place_count < max_places
+    → Advances fonts old new (at_cursor fonts file old_defined cursor) (at_cursor fonts (with_place file place put) new_defined (cursor_after fonts place put cursor))
 
--- the marks of a page are made, from its origin on
-abbrev pub WritesMarks : SetValue → List ℕ → List ℕ → List ℕ → List ℕ → List Place → Type 0
-WritesMarks fonts old new old_defined new_defined page = (file : File) → file.marked + length page ≤ 2000000
+-- the places of a page are written, from its origin on
+abbrev pub WritesPlaces : SetValue → List ℕ → List ℕ → List ℕ → List ℕ → List Place → Type 0
+WritesPlaces fonts old new old_defined new_defined page = (file : File) → file.place_count + length page ≤ max_places
     → LeadsTo fonts old (at_cursor fonts file old_defined at_origin)
-    → (end : Cursor) × LeadsTo fonts new (at_cursor fonts (with_marks file (marks_of fonts page)) new_defined end)
+    → (end : Cursor) × LeadsTo fonts new (at_cursor fonts (with_places file (written_places fonts page)) new_defined end)

@@ -1,9 +1,10 @@
+pub mod Limits
 pub mod Opcodes
 pub mod Codes
 pub mod Fonts
 pub mod Machine
 pub mod File
-pub mod Marks
+pub mod WrittenPlaces
 pub mod Written
 pub mod Refusal
 pub mod Emits

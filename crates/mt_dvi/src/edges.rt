@@ -1,6 +1,6 @@
-//! The greatest edges of marks, which post states.
+//! The greatest edges of places, which post states.
 ghost use Rattle.std.specs.Prelude.{◌≡◌, ◌≤◌, All, nat_abs, max};
-ghost use Rattle.mt_dvi.specs.Marks.{IsWritable, lower_edge, right_edge, greatest_edge, or_zero, all_marks};
+ghost use Rattle.mt_dvi.specs.WrittenPlaces.{IsWritable, lower_edge, right_edge, greatest_edge, or_zero, all_places};
 
 use crate::page::{lower_edge, right_edge};
 use mt_box::{Place, PlaceList};
@@ -33,10 +33,10 @@ fn tallest_of(fonts: &FontSet, page: &[Place], before: u32) -> u32
     most
 }
 
-/// The greatest of 0 and of the marks' lower edges, in scaled points.
+/// The greatest of 0 and of the places' lower edges, in scaled points.
 pub fn tallest(fonts: &FontSet, pages: &[PlaceList]) -> u32
     requires can { All (λ page. All (IsWritable fonts.now) page) pages.now }
-    ensures { result ≡ greatest_edge (lower_edge fonts.now) 0 (all_marks pages.now) }
+    ensures { result ≡ greatest_edge (lower_edge fonts.now) 0 (all_places pages.now) }
 {
     let mut most = 0;
     for page in pages {
@@ -58,10 +58,10 @@ fn widest_of(fonts: &FontSet, page: &[Place], before: u32) -> u32
     most
 }
 
-/// The greatest of 0 and of the marks' right edges, in scaled points.
+/// The greatest of 0 and of the places' right edges, in scaled points.
 pub fn widest(fonts: &FontSet, pages: &[PlaceList]) -> u32
     requires can { All (λ page. All (IsWritable fonts.now) page) pages.now }
-    ensures { result ≡ greatest_edge (right_edge fonts.now) 0 (all_marks pages.now) }
+    ensures { result ≡ greatest_edge (right_edge fonts.now) 0 (all_places pages.now) }
 {
     let mut most = 0;
     for page in pages {

@@ -2,7 +2,7 @@
 ghost use Rattle.std.specs.Prelude.{◌≡◌, ◌<◌, ◌++◌, [], length, OnOk, if◌then◌else◌};
 ghost use Rattle.mt_dvi.specs.Codes.{Char, Rule, Right, Down, Select, Bop, Eop, Define, Pre, Post, PostPost, signed_of};
 ghost use Rattle.mt_dvi.specs.Emits.{four_bytes, Emits, AppendsSigned, FitsFourBytes, own_preamble, own_postamble};
-ghost use Rattle.mt_dvi.specs.Marks.{page_counts};
+ghost use Rattle.mt_dvi.specs.WrittenPlaces.{page_counts};
 
 use crate::opcode::{
     BOP, DOWN4, EOP, FNT_DEF1, FNT_NUM_0, IDENTIFIER, POST, POST_POST, PRE, PUT_RULE, PUT1, RIGHT4,

@@ -10,8 +10,8 @@ pub enum DviWriteError {
     /// More than 65,535 pages; their number.
     #[error("{0} pages, more than a DVI file can have")]
     TooManyPages(u64),
-    /// More than 2,000,000 marks on all pages together; their number.
-    #[error("{0} marks, more than 2000000")]
+    /// More than 2,000,000 places on all pages together; their number.
+    #[error("{0} places, more than 2000000")]
     TooManyPlaces(u64),
     /// There is no memory for the file.
     #[error("out of memory")]

@@ -2,11 +2,12 @@
 ghost use Rattle.std.specs.Prelude.{◌≡◌, ◌<◌, ◌≤◌, ◌+◌, ◌-◌, ◌*◌, ◌^◌, min, [], length, All, Ok, OnOk, IfOk};
 ghost use Rattle.mt_family.specs.SetValue.{IsSet};
 ghost use Rattle.mt_dvi.specs.File.{Dvi};
+ghost use Rattle.mt_dvi.specs.Limits.{max_pages, max_places};
 ghost use Rattle.mt_dvi.specs.Emits.{FitsFourBytes};
-ghost use Rattle.mt_dvi.specs.Marks.{IsWritable, all_marks};
+ghost use Rattle.mt_dvi.specs.WrittenPlaces.{IsWritable, all_places};
 ghost use Rattle.mt_dvi.specs.Written.{Written};
-ghost use Rattle.mt_dvi.specs.Refusal.{refusal_of, refused_by};
-ghost use Rattle.mt_dvi.specs.LeadsTo.{GrowsBy, GrowsWith, used_by_all};
+ghost use Rattle.mt_dvi.specs.Refusal.{refusal_of, refusal_in};
+ghost use Rattle.mt_dvi.specs.LeadsTo.{GrowsBy, GrowsWith, fonts_after_all};
 ghost use Rattle.mt_dvi.specs.Pages.{DefinesAgain, IsTail, PagesWritten, WritesPage};
 
 use crate::edges::{tallest, widest};
@@ -14,7 +15,7 @@ use crate::emit;
 use crate::error::DviWriteError;
 use crate::fonts::define;
 use crate::opcode::PADDING;
-use crate::page::write_marks;
+use crate::page::write_places;
 use mt_box::{PageList, Place, PlaceList};
 use mt_family::FontSet;
 use mt_scaled::Items;
@@ -26,8 +27,8 @@ pub type DviBytes = Items<u8>;
 // A file states the number of its pages in two bytes.
 const MAX_PAGES: usize = 65_535;
 
-// At most so many marks are read back from a file.
-const MAX_PLACES: usize = 2_000_000;
+/// The most places on all pages of a DVI file together.
+pub const MAX_PLACES: u64 = 2_000_000;
 
 // Writes a page, where last is the offset of the page before, or -1.
 #[tactic(auto, using(crate::proofs::Prefix::longer))]
@@ -42,13 +43,13 @@ fn write_page(
     requires set { IsSet fonts.now }
     requires can { All (IsWritable fonts.now) page.now }
     requires last { FitsFourBytes last }
-    ensures defined { OnOk result (defined.new.items ≡ used_by_all defined.old.items page.now) }
+    ensures defined { OnOk result (defined.new.items ≡ fonts_after_all defined.old.items page.now) }
     ensures leads { OnOk result (WritesPage fonts.now out.old.items out.new.items defined.old.items defined.new.items
         number last page.now) }
     ensures long { OnOk result (GrowsWith (19 * length page.now + 46) out.old.items out.new.items defined.old.items defined.new.items) }
 {
     emit::bop(out, number, last)?;
-    write_marks(out, defined, fonts, page)?;
+    write_places(out, defined, fonts, page)?;
     emit::eop(out)?;
     Ok(())
 }
@@ -62,8 +63,8 @@ fn write_pages(
 ) -> Result<i64, AllocError>
     requires set { IsSet fonts.now }
     requires can { All (λ page. All (IsWritable fonts.now) page) pages.now }
-    requires few { length pages.now ≤ 65535 }
-    requires marks { length (all_marks pages.now) ≤ 2000000 }
+    requires few { length pages.now ≤ max_pages }
+    requires places { length (all_places pages.now) ≤ max_places }
     requires first { length out.old.items ≤ 15 }
     requires none { defined.old.items ≡ [] }
     ensures { IfOk result (λ last. PagesWritten fonts.now out.old.items out.new.items defined.new.items last pages.now) }
@@ -104,9 +105,9 @@ fn tail(long: usize) -> &'static [u8]
     }
 }
 
-// The number of marks, or the greatest usize.
-fn count_marks(pages: &[PlaceList]) -> usize
-    ensures { result ≡ min (length (all_marks pages.now)) (2 ^ 64 - 1) }
+// The number of places, or the greatest usize.
+fn count_places(pages: &[PlaceList]) -> usize
+    ensures { result ≡ min (length (all_places pages.now)) (2 ^ 64 - 1) }
 {
     let mut count: usize = 0;
     for page in pages {
@@ -118,8 +119,8 @@ fn count_marks(pages: &[PlaceList]) -> usize
 // The file of pages that are few enough.
 fn write_file(alloc: Global, fonts: &FontSet, pages: &[PlaceList]) -> Result<Vec<u8>, AllocError>
     requires can { All (λ page. All (IsWritable fonts.now) page) pages.now }
-    requires few { length pages.now ≤ 65535 }
-    requires marks { length (all_marks pages.now) ≤ 2000000 }
+    requires few { length pages.now ≤ max_pages }
+    requires places { length (all_places pages.now) ≤ max_places }
     ensures { IfOk result (λ bytes. Written fonts.now bytes.items pages.now) }
 {
     let mut out = Vec::new(alloc);
@@ -141,19 +142,19 @@ fn write_file(alloc: Global, fonts: &FontSet, pages: &[PlaceList]) -> Result<Vec
     Ok(out)
 }
 
-/// The DVI file of pages of marks (tex.web, part 31).
+/// The DVI file of pages (tex.web, part 31).
 ///
 /// It is a file of the format's identifier 2, in scaled points, with the magnification 1000. Its k-th page has k in
 /// count 0. The fonts that are used are defined before their first use and once more after the pages; a font's number
 /// is that in the set.
 ///
-/// The coordinates of the marks, the widths and depths of their glyphs and the heights and widths of their rules are
+/// The coordinates of the places, the widths and depths of their glyphs and the heights and widths of their rules are
 /// at most 2^30 - 1 scaled points in size, each glyph exists in its font, and each rule has a positive height and a
 /// positive width.
 ///
 /// # Errors
 ///
-/// The first of these: `TooManyPages` above 65,535 pages, `TooManyPlaces` above 2,000,000 marks on all pages
+/// The first of these: `TooManyPages` above 65,535 pages, `TooManyPlaces` above 2,000,000 places on all pages
 /// together, with their number, which is given as 2^64 - 1 where it is greater. `OutOfMemory` where memory ran out.
 pub fn write_dvi(
     alloc: Global,
@@ -163,15 +164,15 @@ pub fn write_dvi(
     requires can { All (λ page. All (IsWritable fonts.now) page) pages.now }
     ensures written { IfOk result (λ bytes. Written fonts.now bytes pages.now) }
     ensures read_back { IfOk result (λ bytes. Dvi fonts.now bytes pages.now) }
-    ensures refused { refused_by result ≡ refusal_of pages.now }
+    ensures refused { refusal_in result ≡ refusal_of pages.now }
 {
     let pages = pages.as_slice();
     if pages.len() > MAX_PAGES {
         return Err(DviWriteError::TooManyPages(pages.len() as u64));
     }
-    let count = count_marks(pages);
+    let count = count_places(pages) as u64;
     if count > MAX_PLACES {
-        return Err(DviWriteError::TooManyPlaces(count as u64));
+        return Err(DviWriteError::TooManyPlaces(count));
     }
     let bytes = write_file(alloc, fonts, pages)?;
     Ok(Items::from_vec(bytes))

@@ -3,7 +3,7 @@ ghost use Rattle.std.specs.Prelude.{◌≡◌, ◌≤◌, ◌<◌, ◌*◌, leng
 ghost use Rattle.mt_dvi.specs.Codes.{Define};
 ghost use Rattle.mt_dvi.specs.Emits.{Emits};
 ghost use Rattle.mt_dvi.specs.Fonts.{metrics_at, width_in, depth_in, definition_of};
-ghost use Rattle.mt_dvi.specs.Marks.{HasGlyph, InRange};
+ghost use Rattle.mt_dvi.specs.WrittenPlaces.{HasGlyph, InRange};
 ghost use Rattle.mt_dvi.specs.LeadsTo.{is_among};
 ghost use Rattle.mt_family.specs.SetValue.{IsSet, name_in};
 

@@ -12,4 +12,4 @@ mod page;
 mod tests;
 
 pub use error::DviWriteError;
-pub use file::{DviBytes, write_dvi};
+pub use file::{DviBytes, MAX_PLACES, write_dvi};

@@ -1,4 +1,4 @@
-//! The marks of a page, and the moves between them.
+//! The places of a page, and the moves between them.
 ghost use Rattle.std.specs.Prelude.{◌≡◌, ◌<◌, ◌≤◌, ◌+◌, ◌*◌, ◌-ℤ◌, List, ℕ, All, OnOk, IsSomeAnd, length, nat_abs, Some};
 ghost use Rattle.mt_box.specs.Places.{h_of, v_of};
 ghost use Rattle.mt_family.specs.SetValue.{IsSet, SetValue};
@@ -6,8 +6,8 @@ ghost use Rattle.mt_dvi.specs.Fonts.{metrics_at};
 ghost use Rattle.mt_dvi.specs.Machine.{is_far};
 ghost use Rattle.mt_dvi.specs.File.{File};
 ghost use Rattle.mt_dvi.specs.Emits.{FitsFourBytes};
-ghost use Rattle.mt_dvi.specs.Marks.{HasGlyph, InRange, IsWritable, first_of, lower_edge, must_put, right_edge};
-ghost use Rattle.mt_dvi.specs.LeadsTo.{Advances, GrowsBy, GrowsWith, Introduces, Selects, WritesMark, WritesMarks, cursor_after, in_page, used_by, used_by_all, with_number};
+ghost use Rattle.mt_dvi.specs.WrittenPlaces.{HasGlyph, InRange, IsWritable, first_of, lower_edge, must_put, right_edge};
+ghost use Rattle.mt_dvi.specs.LeadsTo.{Advances, GrowsBy, GrowsWith, Introduces, Selects, WritesPlace, WritesPlaces, cursor_after, in_page, fonts_after, fonts_after_all, with_number};
 
 use crate::emit;
 use crate::fonts::{define, depth, is_defined, width};
@@ -26,7 +26,7 @@ pub struct Cursor {
     pub font: Option<u16>,
 }
 
-// Moves to a mark's place: to the right, and then down.
+// Moves to a place: to the right, and then down.
 fn move_to(out: &mut Vec<u8>, cursor: Cursor, place: Place) -> Result<(), AllocError>
     requires right { FitsFourBytes (h_of place -ℤ cursor.h) }
     requires down { FitsFourBytes (v_of place -ℤ cursor.v) }
@@ -117,7 +117,7 @@ fn select(out: &mut Vec<u8>, fonts: &FontSet, cursor: Cursor, n: u16) -> Result<
     Ok(())
 }
 
-/// Where a mark ends to the right, in scaled points.
+/// Where a place ends to the right, in scaled points.
 pub fn right_edge(fonts: &FontSet, place: Place) -> i64
     requires can { IsWritable fonts.now place }
     ensures is { result ≡ right_edge fonts.now place }
@@ -129,7 +129,7 @@ pub fn right_edge(fonts: &FontSet, place: Place) -> i64
     }
 }
 
-/// Where a mark ends below, in scaled points.
+/// Where a place ends below, in scaled points.
 pub fn lower_edge(fonts: &FontSet, place: Place) -> i64
     requires can { IsWritable fonts.now place }
     ensures is { result ≡ lower_edge fonts.now place }
@@ -141,7 +141,7 @@ pub fn lower_edge(fonts: &FontSet, place: Place) -> i64
     }
 }
 
-// Whether a mark is put, and not set: the next one is too far from its right edge.
+// Whether a place goes by put, and not by set: the next one is too far from its right edge.
 fn must_put(fonts: &FontSet, place: Place, later: &[Place]) -> bool
     requires can { IsWritable fonts.now place }
     requires next { All (IsWritable fonts.now) later.now }
@@ -168,7 +168,7 @@ fn is_far(amount: i64) -> bool
     amount > 2147483647 || amount < -2147483647
 }
 
-// Where the machine stands after a mark.
+// Where the machine stands after a place.
 fn cursor_after(fonts: &FontSet, place: Place, put: bool, cursor: Cursor) -> Cursor
     requires can { IsWritable fonts.now place }
     ensures { result ≡ cursor_after fonts.now place put cursor }
@@ -187,7 +187,7 @@ fn cursor_after(fonts: &FontSet, place: Place, put: bool, cursor: Cursor) -> Cur
     }
 }
 
-// Writes a glyph where the machine stands: the definition of its font, the selection, and the mark.
+// Writes a glyph where the machine stands: the definition of its font, the selection, and the character.
 #[tactic(auto, using(crate::proofs::Prefix::longer))]
 fn write_glyph(
     out: &mut Vec<u8>,
@@ -203,7 +203,7 @@ fn write_glyph(
     requires h { InRange cursor.h }
     requires v { InRange cursor.v }
     ensures defined { OnOk result (defined.new.items ≡ with_number defined.old.items n) }
-    ensures leads { OnOk result (WritesMark fonts.now out.old.items out.new.items defined.old.items defined.new.items
+    ensures leads { OnOk result (WritesPlace fonts.now out.old.items out.new.items defined.old.items defined.new.items
         cursor (Place.Glyph n code cursor.h cursor.v) put) }
     ensures long { OnOk result (GrowsWith 3 out.old.items out.new.items defined.old.items defined.new.items) }
 {
@@ -224,7 +224,7 @@ fn write_rule(
     put: bool,
 ) -> Result<(), AllocError>
     requires can { IsWritable fonts.now (Place.Rule cursor.h cursor.v height width) }
-    ensures leads { OnOk result ((numbers : List ℕ) → WritesMark fonts.now out.old.items out.new.items numbers numbers
+    ensures leads { OnOk result ((numbers : List ℕ) → WritesPlace fonts.now out.old.items out.new.items numbers numbers
         cursor (Place.Rule cursor.h cursor.v height width) put) }
     ensures long { OnOk result (GrowsBy 9 out.old.items out.new.items) }
 {
@@ -232,7 +232,7 @@ fn write_rule(
     Ok(())
 }
 
-// The cursor at a mark's place, with the font that is selected.
+// The cursor at a place, with the font that is selected.
 fn cursor_at(place: Place, font: Option<u16>) -> Cursor
     ensures { result ≡ record { h = h_of place; v = v_of place; font = font } }
 {
@@ -243,8 +243,8 @@ fn cursor_at(place: Place, font: Option<u16>) -> Cursor
     }
 }
 
-// Writes a mark, with the moves to it.
-fn write_mark(
+// Writes a place, with the moves to it.
+fn write_place(
     out: &mut Vec<u8>,
     defined: &mut Vec<u16>,
     fonts: &FontSet,
@@ -256,8 +256,8 @@ fn write_mark(
     requires can { IsWritable fonts.now place }
     requires reach { FitsFourBytes (h_of place -ℤ cursor.h) }
     requires v { InRange cursor.v }
-    ensures defined { OnOk result (defined.new.items ≡ used_by defined.old.items place) }
-    ensures leads { OnOk result (WritesMark fonts.now out.old.items out.new.items defined.old.items defined.new.items
+    ensures defined { OnOk result (defined.new.items ≡ fonts_after defined.old.items place) }
+    ensures leads { OnOk result (WritesPlace fonts.now out.old.items out.new.items defined.old.items defined.new.items
         cursor place put) }
     ensures long { OnOk result (GrowsWith 19 out.old.items out.new.items defined.old.items defined.new.items) }
 {
@@ -275,8 +275,8 @@ fn write_mark(
     }
 }
 
-/// Writes the marks of a page that has begun, and defines the fonts that they use first.
-pub fn write_marks(
+/// Writes the places of a page that has begun, and defines the fonts that they use first.
+pub fn write_places(
     out: &mut Vec<u8>,
     defined: &mut Vec<u16>,
     fonts: &FontSet,
@@ -284,8 +284,8 @@ pub fn write_marks(
 ) -> Result<(), AllocError>
     requires set { IsSet fonts.now }
     requires can { All (IsWritable fonts.now) page.now }
-    ensures defined { OnOk result (defined.new.items ≡ used_by_all defined.old.items page.now) }
-    ensures leads { OnOk result (WritesMarks fonts.now out.old.items out.new.items defined.old.items defined.new.items page.now) }
+    ensures defined { OnOk result (defined.new.items ≡ fonts_after_all defined.old.items page.now) }
+    ensures leads { OnOk result (WritesPlaces fonts.now out.old.items out.new.items defined.old.items defined.new.items page.now) }
     ensures long { OnOk result (GrowsWith (19 * length page.now) out.old.items out.new.items defined.old.items defined.new.items) }
 {
     let mut cursor = Cursor {
@@ -296,7 +296,7 @@ pub fn write_marks(
     let mut rest = page;
     while let [place, later @ ..] = rest {
         let put = must_put(fonts, *place, later);
-        write_mark(out, defined, fonts, cursor, *place, put)?;
+        write_place(out, defined, fonts, cursor, *place, put)?;
         cursor = cursor_after(fonts, *place, put, cursor);
         rest = later;
     }

@@ -3,7 +3,7 @@ ghost use Rattle.std.specs.Prelude.{All, IfOk, IsSomeAnd, IsTrue};
 ghost use Rattle.mt_family.specs.ListFacts.{IsFontLine};
 ghost use Rattle.mt_family.specs.SetValue.{AreLoaded};
 ghost use Rattle.mt_dvi.specs.Fonts.{metrics_at};
-ghost use Rattle.mt_dvi.specs.Marks.{HasGlyph, IsWritable, IsWritableRule};
+ghost use Rattle.mt_dvi.specs.WrittenPlaces.{HasGlyph, IsWritable, IsWritableRule};
 
 use crate::{DviBytes, DviWriteError, write_dvi};
 use mt_box::{PageList, Place, PlaceList};
@@ -49,7 +49,7 @@ const ONE_GLYPH: [u8; 148] = [
     121, 109, 249, 0, 0, 0, 88, 2, 223, 223, 223, 223, 223,
 ];
 
-// Three pages: two glyphs, a rule that is put since the next one is too far away, and a rule; no mark; a rule that is
+// Three pages: two glyphs, a rule that is put since the next one is too far away, and a rule; no place; a rule that is
 // put, and a glyph.
 const THREE_PAGES: [u8; 304] = [
     247, 2, 1, 131, 146, 192, 28, 59, 0, 0, 0, 0, 3, 232, 0, 139, 0, 0, 0, 1, 0, 0, 0, 0, 0, 0, 0,
@@ -201,7 +201,7 @@ fn writes_a_glyph(rt: HostRuntime) -> Result<(), Fail> {
 }
 
 #[test]
-fn writes_rules_and_far_marks(rt: HostRuntime) -> Result<(), Fail> {
+fn writes_rules_and_far_places(rt: HostRuntime) -> Result<(), Fail> {
     let alloc = rt.alloc();
     let fonts = toy_fonts(&rt, alloc)?;
     let first = PlaceList::from_vec(vec![in alloc;

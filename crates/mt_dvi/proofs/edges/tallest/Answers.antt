@@ -1,5 +1,5 @@
 use Rattle.std.proofs.Common.{◌∙◌}
-use Rattle.mt_dvi.specs.Marks.{lower_edge}
+use Rattle.mt_dvi.specs.WrittenPlaces.{lower_edge}
 use Rattle.mt_dvi.proofs.Greatest.{greatest_page}
 use Rattle.mt_dvi.proofs.edges.tallest.Goals as goal
 

@@ -1,5 +1,5 @@
 use Rattle.std.proofs.Common.{◌∙◌}
-use Rattle.mt_dvi.specs.Marks.{right_edge}
+use Rattle.mt_dvi.specs.WrittenPlaces.{right_edge}
 use Rattle.mt_dvi.proofs.Greatest.{greatest_page}
 use Rattle.mt_dvi.proofs.edges.widest.Goals as goal
 

@@ -1,5 +1,5 @@
 use Rattle.std.proofs.Common.{◌≡◌, arith, to_z, of_z, w64, ◌∙◌}
-use Rattle.mt_dvi.specs.Marks.{right_edge}
+use Rattle.mt_dvi.specs.WrittenPlaces.{right_edge}
 use Rattle.std.proofs.lemmas.Int.{ints}
 use Rattle.mt_dvi.proofs.Greatest.{greatest_step}
 use Rattle.mt_dvi.proofs.edges.widest_of.Goals as goal

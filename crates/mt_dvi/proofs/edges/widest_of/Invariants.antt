@@ -1,5 +1,5 @@
 use Rattle.std.proofs.Common.{◌≡◌, ◌≤◌, drop}
-use Rattle.mt_dvi.specs.Marks.{greatest_edge, right_edge}
+use Rattle.mt_dvi.specs.WrittenPlaces.{greatest_edge, right_edge}
 use Rattle.mt_dvi.proofs.edges.widest_of.Given as goal
 
 abbrev pub invariant-loop-place : goal.invariant-loop-place

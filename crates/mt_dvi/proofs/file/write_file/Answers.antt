@@ -14,4 +14,4 @@ returns c =
     let same : to_z w64 (of_z w64 c.in_ok-last.last) ≡ c.in_ok-last.last = omega (arith, ints, fits) in
     let post = rw same at c.in_ok-post.ensures in
     file_written c.args.fonts.now c.args.pages.now _ _ _ _ _ _ _ c.write_pages.new.defined.items c.tail-end.result.now c.in_ok-last.last c.tallest.result c.widest.result _ _
-    c.new-out.ensures.items c.in_ok-pre.ensures c.in_ok-last.ensures start c.tallest.ensures c.widest.ensures refl post again.leads again.long c.in_ok-post_post.ensures end c.in_ok-extend_from_slice.ensures.items c.requires.few c.requires.marks
+    c.new-out.ensures.items c.in_ok-pre.ensures c.in_ok-last.ensures start c.tallest.ensures c.widest.ensures refl post again.leads again.long c.in_ok-post_post.ensures end c.in_ok-extend_from_slice.ensures.items c.requires.few c.requires.places

@@ -1,4 +1,4 @@
-use Rattle.mt_dvi.proofs.MarkLemmas.{glyph_written}
+use Rattle.mt_dvi.proofs.PlaceLemmas.{glyph_written}
 use Rattle.mt_dvi.proofs.FontLemmas.{added_among}
 use Rattle.mt_dvi.proofs.page.write_glyph.Goals as goal
 

@@ -2,7 +2,7 @@ use Rattle.std.proofs.Common.{List, ◌∙◌, subst}
 use Rattle.std.specs.Prelude.{All}
 use Rattle.std.proofs.lemmas.List.{take_all}
 use Rattle.mt_box.specs.declared.place.Place.{Place}
-use Rattle.mt_dvi.specs.Marks.{IsWritable}
+use Rattle.mt_dvi.specs.WrittenPlaces.{IsWritable}
 use Rattle.mt_dvi.proofs.tests.are_writable.Goals as goal
 
 pub returns : goal.returns

@@ -1,7 +1,7 @@
 use Rattle.std.proofs.Common.{List, take}
 use Rattle.std.specs.Prelude.{All}
 use Rattle.mt_box.specs.declared.place.Place.{Place}
-use Rattle.mt_dvi.specs.Marks.{IsWritable}
+use Rattle.mt_dvi.specs.WrittenPlaces.{IsWritable}
 use Rattle.mt_dvi.proofs.tests.are_writable.Given as goal
 
 abbrev pub invariant-loop-page : goal.invariant-loop-page

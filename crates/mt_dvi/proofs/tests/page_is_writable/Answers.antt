@@ -2,7 +2,7 @@ use Rattle.std.proofs.Common.{subst, rules}
 use Rattle.std.specs.Prelude.{All}
 use Rattle.std.proofs.lemmas.List.{take_all}
 use Rattle.std.proofs.lemmas.List.Elements.{All-more}
-use Rattle.mt_dvi.specs.Marks.{IsWritable}
+use Rattle.mt_dvi.specs.WrittenPlaces.{IsWritable}
 use Rattle.mt_dvi.proofs.tests.page_is_writable.Goals as goal
 
 pub loop-place-preserved : goal.loop-place-preserved

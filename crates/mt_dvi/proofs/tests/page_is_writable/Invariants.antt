@@ -1,6 +1,6 @@
 use Rattle.std.proofs.Common.{take}
 use Rattle.std.specs.Prelude.{All}
-use Rattle.mt_dvi.specs.Marks.{IsWritable}
+use Rattle.mt_dvi.specs.WrittenPlaces.{IsWritable}
 use Rattle.mt_dvi.proofs.tests.page_is_writable.Given as goal
 
 abbrev pub invariant-loop-place : goal.invariant-loop-place

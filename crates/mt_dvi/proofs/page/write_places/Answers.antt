@@ -1,10 +1,10 @@
 use Rattle.std.proofs.Common.{arith}
-use Rattle.mt_dvi.specs.Marks.{IsWritable}
-use Rattle.mt_dvi.proofs.PageMarks.{marks_start, marks_next, all_later, later_length}
-use Rattle.mt_dvi.proofs.page.write_marks.Goals as goal
+use Rattle.mt_dvi.specs.WrittenPlaces.{IsWritable}
+use Rattle.mt_dvi.proofs.PagePlaces.{places_start, places_next, all_later, later_length}
+use Rattle.mt_dvi.proofs.page.write_places.Goals as goal
 
 pub loop-rest-init : goal.loop-rest-init
-loop-rest-init c = record { written = marks_start _ _ _ _ c.requires.can; long = omega arith }
+loop-rest-init c = record { written = places_start _ _ _ _ c.requires.can; long = omega arith }
 
 pub must_put-put-requires-clause-next : goal.must_put-put-requires-clause-next
 must_put-put-requires-clause-next c = all_later (IsWritable c.args.fonts.now) c.loop-rest.rest.now c.in-len1-up.len_at_least c.loop-rest.invariant.written.can
@@ -13,8 +13,8 @@ pub loop-rest-preserved : goal.loop-rest-preserved
 loop-rest-preserved c =
     let shorter = later_length c.loop-rest.rest.now c.in-len1-up.len_at_least in
     let before = c.loop-rest.invariant.long in
-    let now = c.in_ok-write_mark.ensures.long in
+    let now = c.in_ok-write_place.ensures.long in
     record {
-      written = marks_next _ _ _ _ _ _ _ _ _ _ _ _ _ c.in-len1-up.len_at_least c.loop-rest.invariant.written c.must_put-put.ensures c.in_ok-write_mark.ensures.defined c.in_ok-write_mark.ensures.leads c.cursor_after-cursor.ensures;
+      written = places_next _ _ _ _ _ _ _ _ _ _ _ _ _ c.in-len1-up.len_at_least c.loop-rest.invariant.written c.must_put-put.ensures c.in_ok-write_place.ensures.defined c.in_ok-write_place.ensures.leads c.cursor_after-cursor.ensures;
       long = omega (arith, shorter, before, now);
     }

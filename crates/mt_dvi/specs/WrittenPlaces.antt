@@ -1,4 +1,4 @@
--- The marks of pages as a writer sees them: which it can write, where their edges are, and which are put.
+-- The places of pages as a writer sees them: which it can write, where their edges are, and which go by put.
 use Rattle.std.specs.Prelude.{◌≡◌, ℕ, ◌+◌, ℤ, pos, negsuc, ◌<ℤ◌, max, ◌+ℤ◌, ◌-ℤ◌, List, [], ◌∷◌, ◌++◌, Option, Some, None, Bool, true, false, IsSomeAnd}
 use Rattle.mt_scaled.specs.Number.{Within}
 use Rattle.mt_tfm.specs.Font.{Metrics, exists, width_of, depth_of}
@@ -7,7 +7,7 @@ use Rattle.mt_box.specs.Places.{h_of}
 use Rattle.mt_box.specs.declared.place.Place.{Place}
 use Rattle.mt_box.specs.declared.place.Place.TheVariants.{Glyph, Rule}
 use Rattle.mt_dvi.specs.Fonts.{metrics_at, width_in, depth_in}
-use Rattle.mt_dvi.specs.Machine.{Mark, is_far}
+use Rattle.mt_dvi.specs.Machine.{WrittenPlace, is_far}
 use Rattle.mt_dvi.specs.File.{Page}
 
 -- a dimension: at most 2^30 - 1 in size
@@ -33,17 +33,17 @@ pub record IsWritableRule (h v height width : ℤ) : Type 0 where
   pub tall : pos 0 <ℤ height
   pub wide : pos 0 <ℤ width
 
--- a mark that a writer may be given
+-- a place that a writer may be given
 abbrev pub IsWritable : SetValue → Place → Type 0
 IsWritable fonts (Glyph n code h v) = IsWritableGlyph fonts n code h v
 IsWritable fonts (Rule h v height width) = IsWritableRule h v height width
 
--- where a mark ends to the right
+-- where a place ends to the right
 abbrev pub right_edge : SetValue → Place → ℤ
 right_edge fonts (Glyph n code h v) = h +ℤ width_in (metrics_at fonts n) code
 right_edge fonts (Rule h v height width) = h +ℤ width
 
--- where a mark ends below
+-- where a place ends below
 abbrev pub lower_edge : SetValue → Place → ℤ
 lower_edge fonts (Glyph n code h v) = v +ℤ depth_in (metrics_at fonts n) code
 lower_edge fonts (Rule h v height width) = v
@@ -53,7 +53,7 @@ abbrev pub or_zero : ℤ → ℕ
 or_zero (pos n) = n
 or_zero (negsuc n) = 0
 
--- the greatest of a number and the edges of these marks
+-- the greatest of a number and the edges of these places
 abbrev pub greatest_edge : (Place → ℤ) → ℕ → List Place → ℕ
 greatest_edge edge most [] = most
 greatest_edge edge most (place ∷ places) = greatest_edge edge (max most (or_zero (edge place))) places
@@ -62,28 +62,28 @@ abbrev pub first_of : List Place → Option Place
 first_of [] = None
 first_of (place ∷ places) = Some place
 
--- a mark is put, and not set, where its right edge is more than 2^31 - 1 away from the next mark of its page
+-- a place goes by put, and not by set, where its right edge is more than 2^31 - 1 away from the next place of its page
 abbrev pub must_put : SetValue → Place → Option Place → Bool
 must_put fonts place None = false
 must_put fonts place (Some next) = is_far (h_of next -ℤ right_edge fonts place)
 
-abbrev pub marks_of : SetValue → List Place → List Mark
-marks_of fonts [] = []
-marks_of fonts (place ∷ places) = record { place = place; put = must_put fonts place (first_of places) } ∷ marks_of fonts places
+abbrev pub written_places : SetValue → List Place → List WrittenPlace
+written_places fonts [] = []
+written_places fonts (place ∷ places) = record { place = place; put = must_put fonts place (first_of places) } ∷ written_places fonts places
 
 -- count 0 is the page's number, and the nine others are 0
 abbrev pub page_counts : ℕ → List ℕ
 page_counts n = n ∷ 0 ∷ 0 ∷ 0 ∷ 0 ∷ 0 ∷ 0 ∷ 0 ∷ 0 ∷ 0 ∷ []
 
-abbrev pub page_of : SetValue → ℕ → List Place → Page
-page_of fonts number page = record { counts = page_counts number; marks = marks_of fonts page }
+abbrev pub numbered_page : SetValue → ℕ → List Place → Page
+numbered_page fonts number page = record { counts = page_counts number; places = written_places fonts page }
 
 -- the pages as they are written, where the first has number n
 abbrev pub numbered_pages : SetValue → ℕ → List (List Place) → List Page
 numbered_pages fonts n [] = []
-numbered_pages fonts n (page ∷ pages) = page_of fonts n page ∷ numbered_pages fonts (n + 1) pages
+numbered_pages fonts n (page ∷ pages) = numbered_page fonts n page ∷ numbered_pages fonts (n + 1) pages
 
--- the marks of all pages
-abbrev pub all_marks : List (List Place) → List Place
-all_marks [] = []
-all_marks (page ∷ pages) = page ++ all_marks pages
+-- the places of all pages
+abbrev pub all_places : List (List Place) → List Place
+all_places [] = []
+all_places (page ∷ pages) = page ++ all_places pages
