@@ -17,11 +17,11 @@ use Rattle.mt_family.specs.declared.line.Line.{Line}
 use Rattle.mt_family.specs.declared.line.FamilyFields.{FamilyFields}
 use Rattle.mt_family.specs.declared.line.Line.TheVariants.{Nothing, Font, Family}
 use Rattle.mt_family.specs.Fields.{number, is_name, fields_from}
-use Rattle.mt_family.specs.Lines.{in_bounds, ranged, dashed, font_line, font_fields, family_line, family_fields, fields_line, is_comment, starts_blank, ends_blank, line_of}
-use Rattle.mt_family.specs.ListFacts.{ListValue, is_font, same_family, AreDistinct, IsKnown, IsFontLine, IsFamilyLine, IsFontList}
+use Rattle.mt_family.specs.Lines.{in_bounds, number_between, number_or_dash, font_line, font_fields, family_line, family_fields, fields_line, is_comment, starts_blank, ends_blank, line_of}
+use Rattle.mt_family.specs.ListFacts.{ListValue, is_font, same_family, HasNoRepeats, IsKnown, IsFontLine, IsFamilyLine, IsFontList}
 use Rattle.mt_family.specs.Lists.{has_font, has_family, is_known, with_form, with_line, and_then, list_from, nothing, font_list}
 
--- a place that was found is found in a longer list
+-- an index that was found is found in a longer list
 found_by : {X : Type 0} (test : X → Bool) (k i : ℕ) (b : Bool) (xs ys : List X) → (position_from test (k + 1) xs ≡ Some i → position_from test (k + 1) (xs ++ ys) ≡ Some i) → (if b then Some k else position_from test (k + 1) xs) ≡ Some i → (if b then Some k else position_from test (k + 1) (xs ++ ys)) ≡ Some i
 found_by test k i true xs ys ih h = h
 found_by test k i false xs ys ih h = ih h
@@ -51,7 +51,7 @@ at_end (z ∷ zs) x y (suc n) h = elim (at_end zs x y n h) [
 ]
 
 -- a list stays without repeats, where the new one is not there yet
-distinct_more : {X : Type 0} (same : X → X → Bool) (xs : List X) (y : X) → same y y ≡ true → list_any (λ (z : X). same y z) xs ≡ false → AreDistinct same xs → AreDistinct same (xs ++ y ∷ [])
+distinct_more : {X : Type 0} (same : X → X → Bool) (xs : List X) (y : X) → same y y ≡ true → list_any (λ (z : X). same y z) xs ≡ false → HasNoRepeats same xs → HasNoRepeats same (xs ++ y ∷ [])
 distinct_more same xs y t none d = λ n x h. elim (at_end xs x y n h) [
   | inl old ↦ position_from-zero (λ z. same x z) (xs ++ y ∷ []) ∙ found (λ z. same x z) 0 n xs (y ∷ []) (sym (position_from-zero (λ z. same x z) xs) ∙ d n x old)
   | inr new ↦ position_from-zero (λ z. same x z) (xs ++ y ∷ []) ∙ rw (new.0, new.1) (found_last (λ z. same y z) 0 y xs t none ∙ ap Some (omega arith))
@@ -99,9 +99,9 @@ fields_are (a ∷ []) = tt
 fields_are (a ∷ b ∷ []) = tt
 fields_are (a ∷ b ∷ c ∷ []) = tt
 fields_are (kind ∷ a ∷ b ∷ c ∷ []) =
-    form_if (bytes_eq kind (codes "font")) (font_fields a b c) None (λ e. form_if (is_name a) (font_line a (ranged 1 134217727 b) (dashed 255 c)) None (λ t. font_is a (ranged 1 134217727 b) (dashed 255 c) t (between 1 134217727 (number b))) (λ t. tt)) (λ e. tt)
+    form_if (bytes_eq kind (codes "font")) (font_fields a b c) None (λ e. form_if (is_name a) (font_line a (number_between 1 134217727 b) (number_or_dash 255 c)) None (λ t. font_is a (number_between 1 134217727 b) (number_or_dash 255 c) t (between 1 134217727 (number b))) (λ t. tt)) (λ e. tt)
 fields_are (kind ∷ a ∷ b ∷ c ∷ d ∷ []) =
-    form_if (bytes_eq kind (codes "family")) (family_fields a b c d) None (λ e. family_is (ranged 0 15 a) (dashed 9999999999 b) (dashed 9999999999 c) (dashed 9999999999 d) (between 0 15 (number a))) (λ e. tt)
+    form_if (bytes_eq kind (codes "family")) (family_fields a b c d) None (λ e. family_is (number_between 0 15 a) (number_or_dash 9999999999 b) (number_or_dash 9999999999 c) (number_or_dash 9999999999 d) (between 0 15 (number a))) (λ e. tt)
 fields_are (kind ∷ a ∷ b ∷ c ∷ d ∷ e ∷ rest) = tt
 
 line_is : (line : List ℕ) → IsForm (line_of line)

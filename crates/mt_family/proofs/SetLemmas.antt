@@ -13,8 +13,8 @@ use Rattle.mt_family.specs.Sizes.{font_at_size, index_of}
 use Rattle.mt_family.specs.ListFacts.{is_family, IsFamilyLine, IsKnown}
 use Rattle.mt_family.specs.declared.size.Size.TheVariants.{Text, Script, Scriptscript}
 use Rattle.mt_tfm.specs.Font.{Metrics}
-use Rattle.mt_tfm.proofs.ChainLemmas.{at_place}
-use Rattle.mt_family.specs.SetValue.{SetValue, IsSet, AreLoaded, HasParams, has_params, font_in, numbers_of, numbers_by, table_of, number_in, number_by}
+use Rattle.mt_tfm.proofs.ChainLemmas.{at_index}
+use Rattle.mt_family.specs.SetValue.{SetValue, IsSet, AreLoaded, HasParams, has_params, font_of, numbers_of, numbers_by, table_of, number_in, number_by}
 
 pub table_more : (families : List FamilyLine) (count : ℕ) → table_of families (count + 1) ≡ table_of families count ++ numbers_of families count ∷ []
 unfolding table_of
@@ -64,7 +64,7 @@ known_by count n (Some None) known h = absurd (cc)
 known_by count n (Some (Some k)) known h = let same : k ≡ n = cc in subst (λ (x : ℕ). x < count) same (known (Some k) refl)
 
 known_at : (count n : ℕ) (numbers : List (Option ℕ)) (size : Size) → All (IsKnown count) numbers → font_at_size numbers size ≡ Some n → n < count
-known_at count n numbers size a h = known_by count n (slice_get numbers (index_of size)) (λ x e. at_place (IsKnown count) numbers (index_of size) x a e) h
+known_at count n numbers size a h = known_by count n (slice_get numbers (index_of size)) (λ x e. at_index (IsKnown count) numbers (index_of size) x a e) h
 
 one_known : (count n : ℕ) (b : Bool) (f : FamilyLine) (later : Option FamilyLine) (size : Size) → IsFamilyLine count f → (font_at_size (numbers_by later) size ≡ Some n → n < count) → font_at_size (numbers_by (if b then Some f else later)) size ≡ Some n → n < count
 one_known count n true f later size is ih h = known_at count n f.fonts size is.known h
@@ -84,19 +84,19 @@ known_in count n fam (f ∷ families) size a h =
 pub known_of_set : (s : SetValue) (fam n : ℕ) (size : Size) → IsSet s → number_in s.families fam size ≡ Some n → n < length s.fonts
 known_of_set s fam n size set h = rw set.loaded.count (known_in (length s.lines) n fam s.families size set.list.each_family h)
 
--- the place of a font line is the number of a font
-pub known_place : (s : SetValue) (lines : List FontLine) (place n : ℕ) → IsSet s → lines ≡ s.lines → place < length lines → Some place ≡ Some n → n < length s.fonts
-known_place s lines place n set e below h = let same : place ≡ n = cc in rw (set.loaded.count, ← e) (subst (λ (x : ℕ). x < length lines) same below)
+-- the index of a font line is the number of a font
+pub known_number : (s : SetValue) (lines : List FontLine) (place n : ℕ) → IsSet s → lines ≡ s.lines → place < length lines → Some place ≡ Some n → n < length s.fonts
+known_number s lines place n set e below h = let same : place ≡ n = cc in rw (set.loaded.count, ← e) (subst (λ (x : ℕ). x < length lines) same below)
 
 fewer : (least i : ℕ) (m : Option Metrics) → has_params least m ≡ true → i ≤ least → has_params i m ≡ true
 fewer least i None h le = absurd (cc)
 fewer least i (Some m) h le = grind (arith, nat_tests)
 
 -- a family with enough parameters at each size has each of them
-pub has_each : (families : List FamilyLine) (fonts : List Metrics) (fam least i : ℕ) (size : Size) → HasParams families fonts fam least → i ≤ least → has_params i (font_in families fonts fam size) ≡ true
-has_each families fonts fam least i Text h le = fewer least i (font_in families fonts fam Text) h.text le
-has_each families fonts fam least i Script h le = fewer least i (font_in families fonts fam Script) h.script le
-has_each families fonts fam least i Scriptscript h le = fewer least i (font_in families fonts fam Scriptscript) h.scriptscript le
+pub has_each : (families : List FamilyLine) (fonts : List Metrics) (fam least i : ℕ) (size : Size) → HasParams families fonts fam least → i ≤ least → has_params i (font_of families fonts fam size) ≡ true
+has_each families fonts fam least i Text h le = fewer least i (font_of families fonts fam Text) h.text le
+has_each families fonts fam least i Script h le = fewer least i (font_of families fonts fam Script) h.script le
+has_each families fonts fam least i Scriptscript h le = fewer least i (font_of families fonts fam Scriptscript) h.scriptscript le
 
 -- a font that was read for the next line
 pub loaded_more : (lines : List FontLine) (fonts : List Metrics) (line : FontLine) (m : Metrics) → AreLoaded lines fonts → m.at ≡ line.at → m.skew ≡ line.skew → AreLoaded (lines ++ line ∷ []) (fonts ++ m ∷ [])

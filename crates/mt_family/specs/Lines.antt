@@ -11,12 +11,12 @@ abbrev pub in_bounds : ℕ → ℕ → Option ℕ → Option ℕ
 in_bounds low high None = None
 in_bounds low high (Some n) = if nat_le low n && nat_le n high then Some n else None
 
-abbrev pub ranged : ℕ → ℕ → List ℕ → Option ℕ
-ranged low high field = in_bounds low high (number field)
+abbrev pub number_between : ℕ → ℕ → List ℕ → Option ℕ
+number_between low high field = in_bounds low high (number field)
 
 -- a field that may be a dash: None is a bad one
-abbrev pub dashed : ℕ → List ℕ → Option (Option ℕ)
-dashed high field = if bytes_eq field (codes "-") then Some None else option_map Some (ranged 0 high field)
+abbrev pub number_or_dash : ℕ → List ℕ → Option (Option ℕ)
+number_or_dash high field = if bytes_eq field (codes "-") then Some None else option_map Some (number_between 0 high field)
 
 abbrev pub font_line : List ℕ → Option ℕ → Option (Option ℕ) → Option Line
 font_line name None skew = None
@@ -24,7 +24,7 @@ font_line name (Some at) None = None
 font_line name (Some at) (Some skew) = Some (Font (record { name = name; at = pos at; skew = skew }))
 
 abbrev pub font_fields : List ℕ → List ℕ → List ℕ → Option Line
-font_fields name size skew = if is_name name then font_line name (ranged 1 134217727 size) (dashed 255 skew) else None
+font_fields name size skew = if is_name name then font_line name (number_between 1 134217727 size) (number_or_dash 255 skew) else None
 
 abbrev pub family_line : Option ℕ → Option (Option ℕ) → Option (Option ℕ) → Option (Option ℕ) → Option Line
 family_line None a b c = None
@@ -34,7 +34,7 @@ family_line (Some fam) (Some a) (Some b) None = None
 family_line (Some fam) (Some a) (Some b) (Some c) = Some (Family (record { fam = fam; text = a; script = b; scriptscript = c }))
 
 abbrev pub family_fields : List ℕ → List ℕ → List ℕ → List ℕ → Option Line
-family_fields fam a b c = family_line (ranged 0 15 fam) (dashed 9999999999 a) (dashed 9999999999 b) (dashed 9999999999 c)
+family_fields fam a b c = family_line (number_between 0 15 fam) (number_or_dash 9999999999 a) (number_or_dash 9999999999 b) (number_or_dash 9999999999 c)
 
 abbrev pub fields_line : List (List ℕ) → Option Line
 fields_line (kind ∷ a ∷ b ∷ c ∷ []) = if bytes_eq kind (codes "font") then font_fields a b c else None

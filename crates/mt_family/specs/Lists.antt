@@ -1,5 +1,5 @@
 -- A font list, line by line.
-use Rattle.std.specs.Prelude.{ℕ, ◌+◌, List, [], ◌∷◌, ◌++◌, length, Bool, true, ◌&&◌, ◌==◌, nat_le, nat_lt, if◌then◌else◌, Option, Some, None, Result, Ok, Err, codes}
+use Rattle.std.specs.Prelude.{◌≡◌, ℕ, ◌+◌, List, [], ◌∷◌, ◌++◌, length, Bool, true, ◌&&◌, ◌==◌, nat_le, nat_lt, if◌then◌else◌, Option, Some, None, Result, Ok, Err, codes}
 use Rattle.std.specs.List.{list_any}
 use Rattle.std.specs.Str.{bytes_eq}
 use Rattle.mt_family.specs.declared.list.FontLine.{FontLine}
@@ -63,3 +63,11 @@ nothing = record { lines = []; families = [] }
 -- what a file says
 abbrev pub font_list : List ℕ → Result ListValue ListError
 font_list bytes = list_from 1 nothing [] bytes
+
+-- the file says this list
+abbrev pub ListText : List ℕ → ListValue → Type 0
+ListText bytes list = font_list bytes ≡ Ok list
+
+-- this is the fault of the first line that has one
+abbrev pub ListFault : List ℕ → ListError → Type 0
+ListFault bytes e = font_list bytes ≡ Err e

@@ -41,8 +41,8 @@ abbrev pub font_at : List Metrics → Option ℕ → Option Metrics
 font_at fonts None = None
 font_at fonts (Some n) = slice_get fonts n
 
-abbrev pub font_in : List FamilyLine → List Metrics → ℕ → Size → Option Metrics
-font_in families fonts fam size = font_at fonts (number_in families fam size)
+abbrev pub font_of : List FamilyLine → List Metrics → ℕ → Size → Option Metrics
+font_of families fonts fam size = font_at fonts (number_in families fam size)
 
 abbrev pub name_in : List FontLine → ℕ → Option (List ℕ)
 name_in lines n = option_map (λ (line : FontLine). line.name) (slice_get lines n)
@@ -58,9 +58,9 @@ has_params least (Some m) = nat_le least (length m.params)
 
 -- a family has enough parameters at each size
 pub record HasParams (families : List FamilyLine) (fonts : List Metrics) (fam least : ℕ) : Type 0 where
-  pub text : has_params least (font_in families fonts fam Text) ≡ true
-  pub script : has_params least (font_in families fonts fam Script) ≡ true
-  pub scriptscript : has_params least (font_in families fonts fam Scriptscript) ≡ true
+  pub text : has_params least (font_of families fonts fam Text) ≡ true
+  pub script : has_params least (font_of families fonts fam Script) ≡ true
+  pub scriptscript : has_params least (font_of families fonts fam Scriptscript) ≡ true
 
 -- each font line has its font, at its size and with its skew character
 pub record AreLoaded (lines : List FontLine) (fonts : List Metrics) : Type 0 where

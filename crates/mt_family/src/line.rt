@@ -1,7 +1,7 @@
 //! The forms of a line of a font list.
 ghost use Rattle.std.specs.Prelude.{◌≡◌, ◌≤◌, IfOk, IfSome, option_map};
 ghost use Rattle.mt_family.specs.declared.line.Line.TheVariants.{Family};
-ghost use Rattle.mt_family.specs.Lines.{ranged, dashed, font_fields, family_fields, fields_line, line_of, starts_blank, ends_blank, is_comment};
+ghost use Rattle.mt_family.specs.Lines.{number_between, number_or_dash, font_fields, family_fields, fields_line, line_of, starts_blank, ends_blank, is_comment};
 
 use crate::fields::{fields, is_name, number};
 use crate::list::FontLine;
@@ -33,8 +33,8 @@ pub struct FamilyFields {
 }
 
 // A number within bounds.
-fn ranged(low: u64, high: u64, field: &[u8]) -> Option<u64>
-    ensures is { result ≡ ranged low high field.now }
+fn number_between(low: u64, high: u64, field: &[u8]) -> Option<u64>
+    ensures is { result ≡ number_between low high field.now }
     ensures high { IfSome result (λ n. n ≤ high) }
 {
     match number(field) {
@@ -44,17 +44,17 @@ fn ranged(low: u64, high: u64, field: &[u8]) -> Option<u64>
 }
 
 // A number up to a bound, or a dash. `None` is neither.
-fn dashed(high: u64, field: &[u8]) -> Option<Option<u64>>
-    ensures is { result ≡ dashed high field.now }
+fn number_or_dash(high: u64, field: &[u8]) -> Option<Option<u64>>
+    ensures is { result ≡ number_or_dash high field.now }
     ensures high { IfSome result (λ one. IfSome one (λ n. n ≤ high)) }
 {
     if field == b"-".as_slice() {
         return Some(None);
     }
-    ranged(0, high, field).map(Some)
+    number_between(0, high, field).map(Some)
 }
 
-fn copied(alloc: Global, name: &[u8]) -> Result<Name, AllocError>
+fn copy_of(alloc: Global, name: &[u8]) -> Result<Name, AllocError>
     ensures { IfOk result (λ copy. copy ≡ name.now) }
 {
     Ok(Name::from_vec(Vec::from_slice(alloc, name)?))
@@ -71,20 +71,24 @@ fn font_fields(
     if !is_name(name) {
         return Ok(None);
     }
-    match (ranged(1, 134_217_727, size), dashed(255, skew)) {
+    match (
+        number_between(1, 134_217_727, size),
+        number_or_dash(255, skew),
+    ) {
         (Some(at), Some(skew)) => {
-            let name = copied(alloc, name)?;
+            let name = copy_of(alloc, name)?;
             Ok(Some(Line::Font(FontLine {
                 name,
                 at: at as i64,
-                skew: narrow(skew),
+                skew: skew_code(skew),
             })))
         }
         _ => Ok(None),
     }
 }
 
-fn narrow(skew: Option<u64>) -> Option<u8>
+// The code of a skew character.
+fn skew_code(skew: Option<u64>) -> Option<u8>
     requires { IfSome skew (λ n. n ≤ 255) }
     ensures { result ≡ skew }
 {
@@ -102,10 +106,10 @@ fn family_fields(
 ) -> Option<FamilyFields>
     ensures { option_map Family result ≡ family_fields fam.now text.now script.now scriptscript.now }
 {
-    let fam = ranged(0, 15, fam)?;
-    let text = dashed(9_999_999_999, text)?;
-    let script = dashed(9_999_999_999, script)?;
-    let scriptscript = dashed(9_999_999_999, scriptscript)?;
+    let fam = number_between(0, 15, fam)?;
+    let text = number_or_dash(9_999_999_999, text)?;
+    let script = number_or_dash(9_999_999_999, script)?;
+    let scriptscript = number_or_dash(9_999_999_999, scriptscript)?;
     Some(FamilyFields {
         fam: fam as u8,
         text,

@@ -3,7 +3,7 @@ ghost use Rattle.std.specs.Prelude.{◌≡◌, ◌≤◌, ◌<◌, ◌^◌, ◌�
 ghost use Rattle.mt_family.specs.declared.error.ListError.TheVariants.{OutOfMemory};
 ghost use Rattle.mt_family.specs.ListFacts.{IsFontList};
 ghost use Rattle.mt_family.specs.Reads.{Adds, list_of};
-ghost use Rattle.mt_family.specs.Lists.{has_font, has_family, is_known, with_font, with_family, with_line, font_list};
+ghost use Rattle.mt_family.specs.Lists.{has_font, has_family, is_known, with_font, with_family, with_line, font_list, ListText, ListFault};
 
 use crate::error::ListError;
 use crate::line::{FamilyFields, Line, line_of};
@@ -31,8 +31,8 @@ fn is_known(count: usize, number: Option<u64>) -> bool
     }
 }
 
-// A number of a font, which is known.
-fn known(count: usize, number: Option<u64>) -> Option<u16>
+// The number of a font, which is known.
+fn font_number(count: usize, number: Option<u64>) -> Option<u16>
     requires few { count < 65536 }
     requires known { is_known count number ≡ true }
     ensures { result ≡ number }
@@ -82,15 +82,15 @@ fn add_family(number: u32, reading: &mut Reading, line: FamilyFields) -> Result<
     {
         return Err(ListError::UnknownFont(number));
     }
-    let known = FamilyLine {
+    let family = FamilyLine {
         fam: line.fam,
         fonts: [
-            known(count, line.text),
-            known(count, line.script),
-            known(count, line.scriptscript),
+            font_number(count, line.text),
+            font_number(count, line.script),
+            font_number(count, line.scriptscript),
         ],
     };
-    reading.families.push(known).map_err(AllocError::from)?;
+    reading.families.push(family).map_err(AllocError::from)?;
     Ok(())
 }
 
@@ -148,9 +148,9 @@ fn read_lines(alloc: Global, bytes: &[u8]) -> Result<Reading, ListError>
 /// The fault of the first line that has one, with its number; [`ListError::OutOfMemory`] may come always.
 pub fn read_font_list(alloc: Global, bytes: &[u8]) -> Result<FontList, ListError>
     requires { length bytes.now ≤ 2 ^ 31 }
-    ensures ok { IfOk result (λ list. font_list bytes.now ≡ Ok list) }
+    ensures ok { IfOk result (λ list. ListText bytes.now list) }
     ensures facts { IfOk result (λ list. IsFontList list) }
-    ensures err { IfErr result (λ e. (e ≡ OutOfMemory) ⊎ (font_list bytes.now ≡ Err e)) }
+    ensures err { IfErr result (λ e. (e ≡ OutOfMemory) ⊎ ListFault bytes.now e) }
 {
     let reading = read_lines(alloc, bytes)?;
     Ok(FontList {

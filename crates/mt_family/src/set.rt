@@ -6,7 +6,7 @@ ghost use Rattle.mt_family.specs.declared.error.SetError.TheVariants.{OutOfMemor
 ghost use Rattle.mt_family.specs.declared.list.FamilyLine.{FamilyLine};
 ghost use Rattle.mt_scaled.specs.Number.{Within};
 ghost use Rattle.mt_family.specs.ListFacts.{is_family};
-ghost use Rattle.mt_family.specs.SetValue.{number_in, number_by, numbers_of, table_of, font_at, font_in, name_in, named, has_params, HasParams, AreLoaded, IsSet};
+ghost use Rattle.mt_family.specs.SetValue.{number_in, number_by, numbers_of, table_of, font_at, font_of, name_in, named, has_params, HasParams, AreLoaded, IsSet};
 ghost use Rattle.mt_family.specs.Sets.{size_fault, family_fault, set_fault, param_in, units_of, sy as sy_of, ex as ex_of};
 
 use crate::error::SetError;
@@ -98,8 +98,8 @@ fn font_at(fonts: &[Font], number: Option<u16>) -> Option<&Font>
     }
 }
 
-fn font_in<'a>(families: &[FamilyLine], fonts: &'a [Font], fam: u8, size: Size) -> Option<&'a Font>
-    ensures { option_copied result ≡ font_in families.now fonts.now fam size }
+fn font_of<'a>(families: &[FamilyLine], fonts: &'a [Font], fam: u8, size: Size) -> Option<&'a Font>
+    ensures { option_copied result ≡ font_of families.now fonts.now fam size }
 {
     font_at(fonts, number_in(families, fam, size))
 }
@@ -113,9 +113,9 @@ fn check_size(
     least: u16,
 ) -> Result<(), SetError>
     ensures fault { result_err result ≡ size_fault families.now fonts.now fam size least }
-    ensures has { OnOk result (has_params least (font_in families.now fonts.now fam size) ≡ true) }
+    ensures has { OnOk result (has_params least (font_of families.now fonts.now fam size) ≡ true) }
 {
-    match font_in(families, fonts, fam, size) {
+    match font_of(families, fonts, fam, size) {
         None => Err(SetError::NoMathFamily { fam, size }),
         Some(font) => {
             if font.params() < least {
@@ -157,7 +157,7 @@ impl FontSet {
     ///
     /// # Errors
     ///
-    /// The first place where the font or a parameter is wanting; [`SetError::OutOfMemory`] may come always.
+    /// The first family and size where the font or a parameter is wanting; [`SetError::OutOfMemory`] may come always.
     pub fn build(alloc: Global, list: FontList, fonts: Fonts) -> Result<FontSet, SetError>
         requires { AreLoaded list.lines fonts }
         ensures ok { IfOk result (λ set. set ≡ record { lines = list.lines; families = list.families; fonts = fonts }) }
@@ -203,7 +203,7 @@ impl FontSet {
 
     /// The font that a family has at a size.
     pub fn font_of(&self, fam: u8, size: Size) -> Option<&Font>
-        ensures is { option_copied result ≡ font_in self.now.families self.now.fonts fam size }
+        ensures is { option_copied result ≡ font_of self.now.families self.now.fonts fam size }
         ensures facts { IsSet self.now }
     {
         font_at(&self.fonts, number_at(&self.table, fam, size))
@@ -238,7 +238,7 @@ impl FontSet {
 
     // A parameter of a family at a size, 0 without a font.
     fn param(&self, fam: u8, i: u16, size: Size) -> i64
-        ensures is { result ≡ param_in i (font_in self.now.families self.now.fonts fam size) }
+        ensures is { result ≡ param_in i (font_of self.now.families self.now.fonts fam size) }
         ensures small { Within (2 ^ 31) result }
         ensures facts { IsSet self.now }
     {
@@ -254,7 +254,7 @@ impl FontSet {
         requires low { 1 ≤ i }
         requires high { i ≤ 22 }
         ensures is { result ≡ sy_of self.now i size }
-        ensures there { has_params i (font_in self.now.families self.now.fonts 2 size) ≡ true }
+        ensures there { has_params i (font_of self.now.families self.now.fonts 2 size) ≡ true }
         ensures small { Within (2 ^ 31) result }
     {
         self.param(2, i, size)
@@ -267,7 +267,7 @@ impl FontSet {
         requires low { 1 ≤ i }
         requires high { i ≤ 13 }
         ensures is { result ≡ ex_of self.now i size }
-        ensures there { has_params i (font_in self.now.families self.now.fonts 3 size) ≡ true }
+        ensures there { has_params i (font_of self.now.families self.now.fonts 3 size) ≡ true }
         ensures small { Within (2 ^ 31) result }
     {
         self.param(3, i, size)

@@ -3,7 +3,7 @@ use Rattle.std.specs.Prelude.{◌≡◌, ℕ, ◌*◌, ◌/◌, List, [], ◌∷
 use Rattle.std.specs.List.{list_all, list_any, range_with_len, find}
 use Rattle.std.specs.Option.{option_map}
 use Rattle.std.specs.Ordering.{int_eq}
-use Rattle.mt_tfm.specs.Checks.{first_fault}
+use Rattle.mt_tfm.specs.Checks.{tfm_fault}
 use Rattle.mt_tfm.specs.Font.{Metrics, metrics_of, pair_of, larger_of, recipe_of, exists, width_of, height_of, depth_of, italic_of, char_at}
 use Rattle.mt_tfm.specs.declared.recipe.Recipe.{Recipe}
 use Rattle.mt_tfm.specs.declared.pair.Pair.{Pair}
@@ -44,8 +44,8 @@ abbrev pub own_or_plain : ToyTable → ℕ → Option Amounts → Option Amounts
 own_or_plain t c (Some a) = Some a
 own_or_plain t c None = if nat_le t.first c && nat_le c t.last then Some (amounts c 8 8 0 0) else None
 
-abbrev pub extents_of : ToyTable → ℕ → Option Amounts
-extents_of t c = own_or_plain t c (find (λ (a : Amounts). a.code == c) t.own)
+abbrev pub amounts_of : ToyTable → ℕ → Option Amounts
+amounts_of t c = own_or_plain t c (find (λ (a : Amounts). a.code == c) t.own)
 
 abbrev pub same_code : Option ℕ → Option ℕ → Bool
 same_code None None = true
@@ -89,7 +89,7 @@ pairs_say t size m c =
 -- what the font says of a code
 abbrev pub code_says : ToyTable → ℕ → Metrics → ℕ → Bool
 code_says t size m c =
-    says size m c (extents_of t c)
+    says size m c (amounts_of t c)
     && same_code (larger_of m c) (option_map (λ (p : ℕ × ℕ). p.1) (find (λ (p : ℕ × ℕ). p.0 == c) t.links))
     && same_recipe (recipe_of m c) (option_map (λ (p : ℕ × Recipe). p.1) (find (λ (p : ℕ × Recipe). p.0 == c) t.recipes))
     && pairs_say t size m c
@@ -102,7 +102,7 @@ has_table t size m =
 
 -- bytes that read as a toy font at each of the three sizes
 pub record ReadsAs (bytes : List ℕ) (t : ToyTable) : Type 0 where
-  pub passes : first_fault bytes ≡ None
+  pub passes : tfm_fault bytes ≡ None
   pub large : has_table t 655360 (metrics_of bytes (pos 655360) t.skew) ≡ true
   pub middle : has_table t 458752 (metrics_of bytes (pos 458752) t.skew) ≡ true
   pub small : has_table t 327680 (metrics_of bytes (pos 327680) t.skew) ≡ true

@@ -3,7 +3,7 @@
 #![tactic(auto)]
 
 ghost use Rattle.std.specs.Prelude.{◌≡◌, ◌≤◌, IfOk, Ok, length};
-ghost use Rattle.mt_samples.specs.Which.{table_of};
+ghost use Rattle.mt_samples.specs.Which.{toy_table};
 ghost use Rattle.mt_family.specs.Lists.{font_list};
 ghost use Rattle.mt_samples.specs.Lists.{toy_list};
 ghost use Rattle.mt_samples.specs.Tables.{ReadsAs};
@@ -54,7 +54,7 @@ pub enum Toy {
 ///
 /// Only where there is no memory left.
 pub fn toy_tfm(alloc: Global, which: Toy) -> Result<Bytes, AllocError>
-    ensures { IfOk result (λ bytes. ReadsAs bytes (table_of which)) }
+    ensures { IfOk result (λ bytes. ReadsAs bytes (toy_table which)) }
 {
     match which {
         Toy::Roman => roman_font(alloc),

@@ -3,7 +3,7 @@ ghost use Rattle.std.specs.Prelude.{◌≡◌, ◌<◌, ◌≤◌, ◌^◌, ◌�
 ghost use Rattle.std.specs.Result.{result_err};
 ghost use Rattle.mt_tfm.specs.declared.error.TfmError.TheVariants.{OutOfMemory};
 ghost use Rattle.mt_tfm.specs.declared.words.Word.{Word};
-ghost use Rattle.mt_tfm.specs.Checks.{fix_fault, zero_fault, entries_fault, zeros_fault, is_signed, is_zero, FitTogether};
+ghost use Rattle.mt_tfm.specs.Checks.{fix_fault, zero_fault, entries_fault, zeros_fault, is_signed, is_zero_word, FitTogether};
 ghost use Rattle.mt_tfm.specs.Font.{entry_at, dimensions};
 ghost use Rattle.mt_scaled.specs.Number.{Within};
 ghost use Rattle.mt_tfm.specs.Measures.{AreMeasures, AreCounted, AllSmall};
@@ -126,8 +126,8 @@ pub fn read_dimensions(
     })
 }
 
-fn is_zero(word: &Word) -> bool
-    ensures { result ≡ is_zero word.now }
+fn is_zero_word(word: &Word) -> bool
+    ensures { result ≡ is_zero_word word.now }
 {
     word.a == 0 && word.b == 0 && word.c == 0 && word.d == 0
 }
@@ -137,7 +137,7 @@ fn check_zero(table: u8, entries: &[Word]) -> Result<(), TfmError>
     requires { 0 < length entries.now }
     ensures { result_err result ≡ zero_fault table entries.now }
 {
-    if is_zero(&entries[0]) {
+    if is_zero_word(&entries[0]) {
         Ok(())
     } else {
         Err(TfmError::BadZero(table))

@@ -6,7 +6,7 @@ ghost use Rattle.mt_tfm.specs.Words.{table};
 use crate::counts::Counts;
 use crate::words::Word;
 
-// So many words from a place on.
+// So many words from an index on.
 fn table(words: &[Word], start: usize, count: usize) -> &[Word]
     requires { start + count ≤ length words.now }
     ensures is { result.now ≡ table words.now start count }

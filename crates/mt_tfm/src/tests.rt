@@ -13,8 +13,8 @@ const FONT: [u8; 60] = [
 // The font with bytes changed, and words after it.
 fn changed(alloc: Global, changes: &[(usize, u8)], words: &[u8]) -> Result<Vec<u8>, AllocError> {
     let mut bytes = FONT.to_vec(alloc)?;
-    for (place, value) in changes {
-        if let Some(byte) = bytes.get_mut(*place) {
+    for (index, value) in changes {
+        if let Some(byte) = bytes.get_mut(*index) {
             *byte = *value;
         }
     }
@@ -30,7 +30,7 @@ fn reads_a_font_of_one_character(rt: HostRuntime) -> Result<(), Fail> {
     assert_eq!(rt; font.height(97), 327680);
     assert_eq!(rt; font.depth(97), 0);
     assert_eq!(rt; font.italic(97), 0);
-    assert!(rt; font.bare(97));
+    assert!(rt; font.is_bare(97));
     assert_eq!(rt; font.larger(97), None);
     assert_eq!(rt; font.recipe(97), None);
     assert_eq!(rt; font.pair(97, 97), Pair::None);

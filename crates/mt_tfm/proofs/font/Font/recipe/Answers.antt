@@ -2,7 +2,7 @@ use Rattle.std.proofs.Common.{rules, ◌≡◌, IsTrue, slice_get}
 use Rattle.mt_tfm.specs.declared.recipe.Recipe.{Recipe}
 use Rattle.mt_tfm.specs.Font.{has_recipe, char_at}
 use Rattle.mt_tfm.specs.Checks.{recipe_fits}
-use Rattle.mt_tfm.proofs.PlaceLemmas.{recipe_there, each_there}
+use Rattle.mt_tfm.proofs.EntryLemmas.{recipe_there, each_there}
 use Rattle.mt_tfm.proofs.font.Font.recipe.Goals as goal
 
 pub returns-clause-there : goal.returns-clause-there
