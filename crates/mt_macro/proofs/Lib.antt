@@ -1,4 +1,4 @@
-pub mod Places
+pub mod Indexes
 pub mod Unmatched
 pub mod Named
 pub mod Hashes

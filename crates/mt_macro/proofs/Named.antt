@@ -40,7 +40,7 @@ some_copied (Some b) h = h
 pub named_short : (table : Table) (name : List ℕ) (r : Option (Bor Macro)) (own : ℕ) → IsKept table own → option_copied r ≡ macro_of table name → IfSome r (λ (m : Bor Macro). HasShortBody m.now)
 named_short table name r own kept e = some_copied r (subst (λ (o : Option Macro). IfSome o HasShortBody) (sym e) (found_short (λ (n : List ℕ). bytes_eq name n) table kept.short))
 
-count_cases : (mark was : Bool) (new old : ℕ) → new + (if was then 1 else 0) ≡ old + (if mark || was then 1 else 0) → (if mark && not was then old + 1 else old) ≡ new
+count_cases : (makes_own was : Bool) (new old : ℕ) → new + (if was then 1 else 0) ≡ old + (if makes_own || was then 1 else 0) → (if makes_own && not was then old + 1 else old) ≡ new
 count_cases true true new old e = omega (arith, e)
 count_cases true false new old e = omega (arith, e)
 count_cases false true new old e = omega (arith, e)
@@ -81,13 +81,13 @@ module _ {K : Type 0} (name_of : K → List ℕ) where
   pub put_is : (k : K) (v : Macro) (es fs : List (K × Macro)) (name : List ℕ) → fs ≡ insert_entry (λ (a b : K). slice_cmp nat_cmp (name_of a) (name_of b)) es k v → name_of k ≡ name → named fs ≡ with_macro (named es) name v
   put_is k v es fs name e n = ap named e ∙ (insert_named k v es ∙ ap (λ (x : List ℕ). with_macro (named es) x v) n)
 
-  pub put_kept : (k : K) (v : Macro) (es fs : List (K × Macro)) (name : List ℕ) (mark was : Bool) (own own' : ℕ) → IsKept (named es) own → HasShortBody v → fs ≡ insert_entry (λ (a b : K). slice_cmp nat_cmp (name_of a) (name_of b)) es k v → name_of k ≡ name → IsStrictlySortedBy (λ (a b : K). slice_cmp nat_cmp (name_of a) (name_of b)) (keys_of es) → was ≡ is_own (macro_of (named es) name) → v.own ≡ (mark || was) → own' ≡ (if mark && not was then own + 1 else own) → IsKept (named fs) own'
-  put_kept k v es fs name mark was own own' kept short e n sorted w o is =
+  pub put_kept : (k : K) (v : Macro) (es fs : List (K × Macro)) (name : List ℕ) (makes_own was : Bool) (own own' : ℕ) → IsKept (named es) own → HasShortBody v → fs ≡ insert_entry (λ (a b : K). slice_cmp nat_cmp (name_of a) (name_of b)) es k v → name_of k ≡ name → IsStrictlySortedBy (λ (a b : K). slice_cmp nat_cmp (name_of a) (name_of b)) (keys_of es) → was ≡ is_own (macro_of (named es) name) → v.own ≡ (makes_own || was) → own' ≡ (if makes_own && not was then own + 1 else own) → IsKept (named fs) own'
+  put_kept k v es fs name makes_own was own own' kept short e n sorted w o is =
       let placed = put_is k v es fs name e n in
       let total = subst (λ (x : List ℕ). own_count (with_macro (named es) x v) + (if is_own (macro_of (named es) x) then 1 else 0) ≡ own_count (named es) + (if v.own then 1 else 0)) n (own_inserted k v es sorted) in
-      let before : own_count (with_macro (named es) name v) + (if was then 1 else 0) ≡ own_count (named es) + (if mark || was then 1 else 0) = ap (λ (b : Bool). own_count (with_macro (named es) name v) + (if b then 1 else 0)) w ∙ (total ∙ ap (λ (b : Bool). own_count (named es) + (if b then 1 else 0)) o) in
+      let before : own_count (with_macro (named es) name v) + (if was then 1 else 0) ≡ own_count (named es) + (if makes_own || was then 1 else 0) = ap (λ (b : Bool). own_count (with_macro (named es) name v) + (if b then 1 else 0)) w ∙ (total ∙ ap (λ (b : Bool). own_count (named es) + (if b then 1 else 0)) o) in
       record {
-        counted = is ∙ (ap (λ (n : ℕ). if mark && not was then n + 1 else n) kept.counted ∙ (count_cases mark was _ _ before ∙ ap own_count (sym placed)));
+        counted = is ∙ (ap (λ (n : ℕ). if makes_own && not was then n + 1 else n) kept.counted ∙ (count_cases makes_own was _ _ before ∙ ap own_count (sym placed)));
         short = subst (λ (t : Table). All HasShortBody (values_of t)) (sym placed) (All-values-insert_entry (slice_cmp nat_cmp) name v HasShortBody (named es) kept.short short);
       }
 

@@ -1,11 +1,12 @@
 -- Tokens that are taken one at a time.
 use Rattle.std.proofs.Common.{◌≡◌, ℕ, suc, ◌+◌, ◌≤◌, true, false, List, [], ◌∷◌, ◌++◌, length, refl, sym, ap, ◌∙◌, arith, append_assoc}
+use Rattle.std.specs.Option.{option_and_then}
 use Rattle.std.specs.Prelude.{Option, Some, None, ◌==◌, ◌&&◌}
 use Rattle.std.proofs.lemmas.List.{append-nil}
 use Rattle.mt_token.specs.declared.token.Token.{Token}
 use Rattle.mt_macro.specs.Braces.{Taken, onto, group, level_after, is_close}
 use Rattle.mt_macro.proofs.Unmatched.{group_on}
-use Rattle.mt_macro.specs.Arguments.{argument, Takes, Arguments, arguments, with_argument, and_then, TakesAll}
+use Rattle.mt_macro.specs.Arguments.{argument, Takes, Arguments, arguments, with_argument, TakesAll}
 
 abbrev pub onto_all : List Token → Option Taken → Option Taken
 onto_all done None = None
@@ -62,12 +63,12 @@ taking_start params first = record { is = with_none _; falls = omega arith }
 
 pub taking_more : (params left left' : ℕ) (first rest rest' : List Token) (done done' : List (List Token)) (a : List Token) → Taking params first rest left done → left ≡ suc left' → Takes (Some a) (argument rest) rest' → length rest' ≤ length rest → done' ≡ done ++ a ∷ [] → Taking params first rest' left' done'
 taking_more params left left' first rest rest' done done' a g l e low d = record {
-  is = g.is ∙ (ap (λ n. with_all done (arguments n rest)) l ∙ (ap (λ t. with_all done (and_then t (λ (taken : Taken). with_argument taken.argument (arguments left' taken.after)))) e ∙ (with_more done a _ ∙ ap (λ x. with_all x (arguments left' rest')) (sym d))));
+  is = g.is ∙ (ap (λ n. with_all done (arguments n rest)) l ∙ (ap (λ t. with_all done (option_and_then (λ (taken : Taken). with_argument taken.argument (arguments left' taken.after)) t)) e ∙ (with_more done a _ ∙ ap (λ x. with_all x (arguments left' rest')) (sym d))));
   falls = omega (arith, g.falls, low);
 }
 
 pub taking_none : (params left left' : ℕ) (first rest rest' : List Token) (done : List (List Token)) → Taking params first rest left done → left ≡ suc left' → Takes None (argument rest) rest' → TakesAll None (arguments params first) rest'
-taking_none params left left' first rest rest' done g l e = g.is ∙ (ap (λ n. with_all done (arguments n rest)) l ∙ ap (λ t. with_all done (and_then t (λ (taken : Taken). with_argument taken.argument (arguments left' taken.after)))) e)
+taking_none params left left' first rest rest' done g l e = g.is ∙ (ap (λ n. with_all done (arguments n rest)) l ∙ ap (λ t. with_all done (option_and_then (λ (taken : Taken). with_argument taken.argument (arguments left' taken.after)) t)) e)
 
 pub taking_end : (params left : ℕ) (first rest : List Token) (done : List (List Token)) → Taking params first rest left done → left ≡ 0 → TakesAll (Some done) (arguments params first) rest
 taking_end params left first rest done g l = g.is ∙ (ap (λ n. with_all done (arguments n rest)) l ∙ ap (λ x. Some (record { arguments = x; after = rest })) (append-nil done))

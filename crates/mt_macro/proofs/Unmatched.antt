@@ -4,8 +4,8 @@ use Rattle.std.specs.Prelude.{Option, Some, None, IfSome, is_some, is_none, ◌=
 use Rattle.std.proofs.lemmas.Bool.Decides.{nat_tests}
 use Rattle.std.proofs.lemmas.List.{take_all}
 use Rattle.mt_token.specs.declared.token.Token.{Token}
-use Rattle.mt_macro.specs.Braces.{Taken, onto, group, level_after, is_open, is_close, next_place, first_unmatched}
-use Rattle.mt_macro.proofs.Places.{shifted, shifted_none, shifted_next, shifted_here}
+use Rattle.mt_macro.specs.Braces.{Taken, onto, group, level_after, is_open, is_close, next_index, first_unmatched}
+use Rattle.mt_macro.proofs.Indexes.{shifted, shifted_none, shifted_next, shifted_here}
 
 not_both : (t : Token) → is_open t ≡ true → is_close t ≡ false
 not_both t o = grind (arith, nat_tests, o)
@@ -71,7 +71,7 @@ ends_innermost (suc level) xs h = ends_innermost level xs (ends_inner level xs h
 true_not_false : true ≡ false → ⊥
 true_not_false e = cc
 
--- the first brace without partner, by the place of the { that opened the outermost group, and the tokens from a place on
+-- the first brace without partner, by the index of the { that opened the outermost group, and the tokens from an index on
 pub watched : ℕ → ℕ → ℕ → List Token → Option ℕ
 watched zero outermost at rest = shifted at (first_unmatched 0 rest)
 watched (suc level) outermost at rest = cond (is_some (group level rest)) (shifted at (first_unmatched (suc level) rest)) (Some outermost)
@@ -83,7 +83,7 @@ none_of_some (Some x) = refl
 unmatched_here : (level : ℕ) (t : Token) (rest : List Token) → (is_open t && is_none (group 0 rest)) || (is_close t && (level == 0)) ≡ true → first_unmatched level (t ∷ rest) ≡ Some 0
 unmatched_here level t rest e = rw e refl
 
-unmatched_later : (level : ℕ) (t : Token) (rest : List Token) → (is_open t && is_none (group 0 rest)) || (is_close t && (level == 0)) ≡ false → first_unmatched level (t ∷ rest) ≡ next_place (first_unmatched (level_after level t) rest)
+unmatched_later : (level : ℕ) (t : Token) (rest : List Token) → (is_open t && is_none (group 0 rest)) || (is_close t && (level == 0)) ≡ false → first_unmatched level (t ∷ rest) ≡ next_index (first_unmatched (level_after level t) rest)
 unmatched_later level t rest e = rw e refl
 
 test_open : (level : ℕ) (t : Token) (rest : List Token) (b : Bool) → is_open t ≡ true → is_none (group 0 rest) ≡ b → (is_open t && is_none (group 0 rest)) || (is_close t && (level == 0)) ≡ b
@@ -92,7 +92,7 @@ test_open level t rest false o e = rw (o, e, not_both t o) refl
 
 shifted_later : (level level' at : ℕ) (t : Token) (rest : List Token) → (is_open t && is_none (group 0 rest)) || (is_close t && (level == 0)) ≡ false → level_after level t ≡ level' → shifted at (first_unmatched level (t ∷ rest)) ≡ shifted (at + 1) (first_unmatched level' rest)
 shifted_later level level' at t rest e l =
-    ap (shifted at) (unmatched_later level t rest e ∙ ap (λ n. next_place (first_unmatched n rest)) l) ∙ shifted_next at _
+    ap (shifted at) (unmatched_later level t rest e ∙ ap (λ n. next_index (first_unmatched n rest)) l) ∙ shifted_next at _
 
 open_outside : (outermost at : ℕ) (t : Token) (rest : List Token) (b : Bool) → is_open t ≡ true → is_some (group 0 rest) ≡ b → watched 0 outermost at (t ∷ rest) ≡ watched 1 at (at + 1) rest
 unfolding watched
@@ -136,7 +136,7 @@ other zero outermost at t rest o c = shifted_later 0 0 at t rest (test_other 0 t
 other (suc level) outermost at t rest o c =
     cond_same (is_some (group level rest)) _ _ _ _ _ (ends_other level t rest o c) refl (λ _. shifted_later (suc level) (suc level) at t rest (test_other (suc level) t rest o c) (level_other (suc level) t o c))
 
--- outside of all groups the place of the outermost one does not matter
+-- outside of all groups the index of the outermost one does not matter
 outside : (outermost outermost' at : ℕ) (rest : List Token) → watched 0 outermost at rest ≡ watched 0 outermost' at rest
 unfolding watched
 outside outermost outermost' at rest = refl
@@ -153,7 +153,7 @@ one_more (suc level) outermost at t rest true c eo ec h = rw (suc_zero level) (o
 one_more (suc level) outermost at t rest false true eo ec h = rw (suc_zero level) (close_inside level outermost at t rest eo ec ∙ ap (λ n. watched n outermost (at + 1) rest) (sym (level_close (suc level) t eo ec ∙ (let e : suc level - 1 ≡ level = omega arith in e))))
 one_more (suc level) outermost at t rest false false eo ec h = rw (suc_zero level) (other (suc level) outermost at t rest eo ec ∙ ap (λ n. watched n outermost (at + 1) rest) (sym (level_other (suc level) t eo ec)))
 
--- the tokens from a place on decide as the whole list does
+-- the tokens from an index on decide as the whole list does
 pub record Watching (list : List Token) (level outermost at : ℕ) (rest : List Token) : Type 0 where
   pub is : first_unmatched 0 list ≡ watched level outermost at rest
   pub low : level ≤ at
@@ -185,7 +185,7 @@ at_end (suc level) outermost at = rw (suc_zero level) refl
 pub watching_end : (list rest : List Token) (level outermost at : ℕ) → Watching list level outermost at rest → rest ≡ [] → first_unmatched 0 list ≡ cond (level == 0) None (Some outermost)
 watching_end list rest level outermost at w e = w.is ∙ (ap (watched level outermost at) e ∙ at_end level outermost at)
 
-next_within : (n : ℕ) (o : Option ℕ) → IfSome o (λ p. p < n) → IfSome (next_place o) (λ p. p < suc n)
+next_within : (n : ℕ) (o : Option ℕ) → IfSome o (λ p. p < n) → IfSome (next_index o) (λ p. p < suc n)
 next_within n None h = tt
 next_within n (Some p) h = omega (arith, h)
 

@@ -7,7 +7,7 @@ use Rattle.mt_macro.specs.declared.definition.MacroError.TheVariants.{BadParamet
 use Rattle.mt_macro.specs.Braces.{first_unmatched}
 use Rattle.mt_macro.specs.Parameters.{first_bad_parameter}
 use Rattle.mt_macro.specs.Table.{Table}
-use Rattle.mt_macro.specs.Definition.{defined}
+use Rattle.mt_macro.specs.Definition.{define}
 use Rattle.mt_macro.specs.Expansion.{Expanded, NoArgument, expansion, run}
 
 abbrev control : List ℕ → Token
@@ -45,7 +45,7 @@ unfolding run
 missing = refl
 
 -- the body #2 of a macro with one parameter
-bad_parameter : defined table (codes "x") 1 (hash ∷ two ∷ []) ≡ Err BadParameters
+bad_parameter : define table (codes "x") 1 (hash ∷ two ∷ []) ≡ Err BadParameters
 bad_parameter = refl
 
 -- #: is no parameter, however many there are

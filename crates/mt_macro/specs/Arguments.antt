@@ -1,10 +1,11 @@
 -- The arguments of a macro, and its body with them in it (The TeXbook, chapter 20).
 use Rattle.std.specs.Prelude.{◌≡◌, ℕ, zero, suc, ◌<◌, ◌^◌, ◌-◌, Bool, true, false, List, [], ◌∷◌, ◌++◌, length, get_or, map, Option, Some, None, if◌then◌else◌}
+use Rattle.std.specs.Option.{option_and_then}
 use Rattle.std.specs.Borrow.{Bor}
 use Rattle.mt_token.specs.declared.token.Token.{Token}
 use Rattle.mt_token.specs.declared.token.TokenKind.{TokenKind}
 use Rattle.mt_token.specs.declared.token.TokenKind.TheVariants.{Control, Char, Space}
-use Rattle.mt_token.specs.Character.{character_of}
+use Rattle.mt_token.specs.Character.{character_code}
 use Rattle.mt_macro.specs.Braces.{is_open, is_close, Taken, group}
 use Rattle.mt_macro.specs.Parameters.{is_hash}
 
@@ -34,27 +35,23 @@ abbrev pub with_argument : List Token → Option Arguments → Option Arguments
 with_argument a None = None
 with_argument a (Some more) = Some (record { arguments = a ∷ more.arguments; after = more.after })
 
-abbrev pub and_then : Option Taken → (Taken → Option Arguments) → Option Arguments
-and_then None next = None
-and_then (Some taken) next = next taken
-
 -- so many arguments, and the tokens after them
 abbrev pub arguments : ℕ → List Token → Option Arguments
 arguments zero list = Some (record { arguments = []; after = list })
-arguments (suc n) list = and_then (argument list) (λ (taken : Taken). with_argument taken.argument (arguments n taken.after))
+arguments (suc n) list = option_and_then (λ (taken : Taken). with_argument taken.argument (arguments n taken.after)) (argument list)
 
 -- a body with arguments in place of its parameters, # and a digit; 49 is the digit 1
 abbrev pub fill : List (List Token) → List Token → List Token
 fill arguments [] = []
 fill arguments (t ∷ []) = t ∷ []
-fill arguments (t ∷ u ∷ rest) = if is_hash t then get_or arguments (character_of u.kind - 49) [] ++ fill arguments rest else t ∷ fill arguments (u ∷ rest)
+fill arguments (t ∷ u ∷ rest) = if is_hash t then get_or arguments (character_code u.kind - 49) [] ++ fill arguments rest else t ∷ fill arguments (u ∷ rest)
 
--- tokens that are lent
-abbrev pub lent : List (Bor Token) → List Token
-lent ts = map (λ (t : Bor Token). t.now) ts
+-- the tokens behind references
+abbrev pub tokens_of : List (Bor Token) → List Token
+tokens_of ts = map (λ (t : Bor Token). t.now) ts
 
-abbrev pub lent_lists : List (List (Bor Token)) → List (List Token)
-lent_lists vs = map (λ (v : List (Bor Token)). lent v) vs
+abbrev pub token_lists_of : List (List (Bor Token)) → List (List Token)
+token_lists_of vs = map (λ (v : List (Bor Token)). tokens_of v) vs
 
 -- what was taken, if anything, is this argument, and these tokens are left after it
 abbrev pub Takes : Option (List Token) → Option Taken → List Token → Type 0

@@ -5,6 +5,7 @@ use Rattle.mt_token.specs.declared.token.Token.{Token}
 use Rattle.mt_macro.specs.declared.definition.MacroError.{MacroError}
 use Rattle.mt_macro.specs.declared.definition.MacroError.TheVariants.{BadParameters, Unbalanced, TooMany, OutOfMemory}
 use Rattle.mt_macro.specs.declared.table.Macro.{Macro}
+use Rattle.mt_macro.specs.Limits.{max_params, max_own_names}
 use Rattle.mt_macro.specs.Braces.{first_unmatched}
 use Rattle.mt_macro.specs.Parameters.{first_bad_parameter}
 use Rattle.mt_macro.specs.Table.{Table, macro_of, with_macro, is_own, own_count}
@@ -12,7 +13,7 @@ use Rattle.mt_macro.specs.Table.{Table, macro_of, with_macro, is_own, own_count}
 -- what is wrong with a body
 abbrev pub body_fault : ℕ → List Token → Option MacroError
 body_fault params body =
-    if nat_lt 9 params || is_some (first_bad_parameter params body) then Some BadParameters
+    if nat_lt max_params params || is_some (first_bad_parameter params body) then Some BadParameters
     else if is_some (first_unmatched 0 body) then Some Unbalanced
     else None
 
@@ -21,14 +22,14 @@ unless_fault None answer = answer
 unless_fault (Some fault) answer = Err fault
 
 -- the table after a definition of the user's
-abbrev pub defined : Table → List ℕ → ℕ → List Token → Result Table MacroError
-defined table name params body = unless_fault (body_fault params body)
-    (if not (is_own (macro_of table name)) && nat_le 1000 (own_count table) then Err TooMany
+abbrev pub define : Table → List ℕ → ℕ → List Token → Result Table MacroError
+define table name params body = unless_fault (body_fault params body)
+    (if not (is_own (macro_of table name)) && nat_le max_own_names (own_count table) then Err TooMany
     else Ok (with_macro table name (record { own = true; params = params; body = body })))
 
 -- the table after a definition that makes no name the user's own
-abbrev pub preloaded : Table → List ℕ → ℕ → List Token → Result Table MacroError
-preloaded table name params body = unless_fault (body_fault params body)
+abbrev pub preload : Table → List ℕ → ℕ → List Token → Result Table MacroError
+preload table name params body = unless_fault (body_fault params body)
     (Ok (with_macro table name (record { own = is_own (macro_of table name); params = params; body = body })))
 
 -- the result and the new table are this answer; want of memory comes only in place of a table

@@ -2,6 +2,7 @@
 use Rattle.std.specs.Prelude.{◌≡◌, ℕ, zero, suc, ◌+◌, nat_lt, ◌<◌, ◌≤◌, List, [], ◌∷◌, ◌++◌, length, Option, Some, None, if◌then◌else◌, Result, Ok, Err}
 use Rattle.mt_token.specs.declared.token.Token.{Token}
 use Rattle.mt_macro.specs.declared.table.Macro.{Macro}
+use Rattle.mt_macro.specs.Limits.{max_tokens, max_steps}
 use Rattle.mt_macro.specs.Braces.{first_unmatched}
 use Rattle.mt_macro.specs.Table.{Table, macro_at}
 use Rattle.mt_macro.specs.declared.expansion.ExpandError.{ExpandError}
@@ -11,94 +12,94 @@ use Rattle.mt_macro.specs.declared.expansion.Replacement.TheVariants.{NoArgument
 use Rattle.mt_macro.specs.Arguments.{Arguments, arguments, fill}
 
 -- what one step makes of a list
-pub data Stepped : Type 0 where
+pub data MacroStep : Type 0 where
   -- no macro is left
-  Done : Stepped
-  -- the macro at this place lacks an argument
-  Missing : (place : ℕ) → Stepped
-  Next : (list : List Token) → Stepped
+  Done : MacroStep
+  -- the macro at this index lacks an argument
+  Missing : (index : ℕ) → MacroStep
+  Next : (list : List Token) → MacroStep
 
-abbrev pub past : Token → Stepped → Stepped
+abbrev pub past : Token → MacroStep → MacroStep
 past t Done = Done
-past t (Missing place) = Missing (place + 1)
+past t (Missing index) = Missing (index + 1)
 past t (Next list) = Next (t ∷ list)
 
-abbrev pub replaced : Macro → Option Arguments → Stepped
-replaced m None = Missing 0
-replaced m (Some taken) = Next (fill taken.arguments m.body ++ taken.after)
+abbrev pub replacement : Macro → Option Arguments → MacroStep
+replacement m None = Missing 0
+replacement m (Some taken) = Next (fill taken.arguments m.body ++ taken.after)
 
-abbrev pub step_at : Option Macro → Token → List Token → Stepped → Stepped
-step_at None t rest further = past t further
-step_at (Some m) t rest further = replaced m (arguments m.params rest)
+abbrev pub macro_step_at : Option Macro → Token → List Token → MacroStep → MacroStep
+macro_step_at None t rest further = past t further
+macro_step_at (Some m) t rest further = replacement m (arguments m.params rest)
 
 -- the leftmost macro with its arguments is replaced by its body
-abbrev pub step : Table → List Token → Stepped
-step table [] = Done
-step table (t ∷ rest) = step_at (macro_at table t) t rest (step table rest)
+abbrev pub macro_step : Table → List Token → MacroStep
+macro_step table [] = Done
+macro_step table (t ∷ rest) = macro_step_at (macro_at table t) t rest (macro_step table rest)
 
 -- the list without macros, or the first fault
-pub data Outcome : Type 0 where
-  Expanded : (list : List Token) → Outcome
-  OverBudget : (steps : ℕ) (length : ℕ) → Outcome
-  NoArgument : (place : ℕ) → Outcome
-  NoPartner : (place : ℕ) → Outcome
-  ListTooLong : Outcome
+pub data Expansion : Type 0 where
+  Expanded : (list : List Token) → Expansion
+  OverBudget : (steps : ℕ) (length : ℕ) → Expansion
+  NoArgument : (index : ℕ) → Expansion
+  NoPartner : (index : ℕ) → Expansion
+  ListTooLong : Expansion
 
-abbrev pub at_last : ℕ → List Token → Stepped → Outcome
+abbrev pub at_last : ℕ → List Token → MacroStep → Expansion
 at_last done list Done = Expanded list
-at_last done list (Missing place) = OverBudget done (length list)
+at_last done list (Missing index) = OverBudget done (length list)
 at_last done list (Next next) = OverBudget done (length list)
 
-abbrev pub further : List Token → (List Token → Outcome) → Stepped → Outcome
+abbrev pub further : List Token → (List Token → Expansion) → MacroStep → Expansion
 further list again Done = Expanded list
-further list again (Missing place) = NoArgument place
+further list again (Missing index) = NoArgument index
 further list again (Next next) = again next
 
-abbrev pub within : ℕ → List Token → Outcome → Outcome
-within done list outcome = if nat_lt 50000 (length list) then OverBudget done (length list) else outcome
+abbrev pub within_budget : ℕ → List Token → Expansion → Expansion
+within_budget done list answer = if nat_lt max_tokens (length list) then OverBudget done (length list) else answer
 
 -- the outcome for a list after so many steps, where so many more are allowed
-unfoldable pub run : Table → ℕ → ℕ → List Token → Outcome
-run table zero done list = within done list (at_last done list (step table list))
-run table (suc left) done list = within done list (further list (run table left (done + 1)) (step table list))
+unfoldable pub run : Table → ℕ → ℕ → List Token → Expansion
+run table zero done list = within_budget done list (at_last done list (macro_step table list))
+run table (suc left) done list = within_budget done list (further list (run table left (done + 1)) (macro_step table list))
 
-abbrev pub unless_unmatched : Option ℕ → Outcome → Outcome
-unless_unmatched None outcome = outcome
-unless_unmatched (Some place) outcome = NoPartner place
+abbrev pub unless_unmatched : Option ℕ → Expansion → Expansion
+unless_unmatched None answer = answer
+unless_unmatched (Some index) answer = NoPartner index
 
--- the outcome for a list that is given: its length, its braces, and then its expansion in at most 20,000 steps
-abbrev pub expansion : Table → List Token → Outcome
+-- the outcome for a list that is given: its length, its braces, and then its expansion in at most max_steps steps
+abbrev pub expansion : Table → List Token → Expansion
 expansion table list =
-    if nat_lt 50000 (length list) then ListTooLong
-    else unless_unmatched (first_unmatched 0 list) (run table 20000 0 list)
+    if nat_lt max_tokens (length list) then ListTooLong
+    else unless_unmatched (first_unmatched 0 list) (run table max_steps 0 list)
 
 -- the error is that of this outcome, or want of memory
-abbrev pub IsErrorOf : ExpandError → Outcome → Type 0
+abbrev pub IsErrorOf : ExpandError → Expansion → Type 0
 IsErrorOf (Budget steps n) o = o ≡ OverBudget steps n
-IsErrorOf (MissingArgument place) o = o ≡ NoArgument place
-IsErrorOf (Unbalanced place) o = o ≡ NoPartner place
+IsErrorOf (MissingArgument index) o = o ≡ NoArgument index
+IsErrorOf (Unbalanced index) o = o ≡ NoPartner index
 IsErrorOf TooLong o = o ≡ ListTooLong
 IsErrorOf OutOfMemory o = Unit {0}
 
 -- the result is this outcome, or want of memory
-abbrev pub Expands : Result (List Token) ExpandError → Outcome → Type 0
+abbrev pub Expands : Result (List Token) ExpandError → Expansion → Type 0
 Expands (Ok list) o = o ≡ Expanded list
 Expands (Err e) o = IsErrorOf e o
 
--- a step makes the list n tokens long, more than 50,000, where so many tokens stand before the macro
-pub record ExceedsBudget (passed n : ℕ) (s : Stepped) : Type 0 where
+-- a step makes the list n tokens long, more than max_tokens, where so many tokens stand before the macro
+pub record ExceedsBudget (passed n : ℕ) (s : MacroStep) : Type 0 where
   pub list : List Token
   pub is : s ≡ Next list
   pub count : n ≡ passed + length list
-  pub over : 50000 < n
+  pub over : max_tokens < n
 
--- a step leaves these tokens from the macro's place on, and the list has at most 50,000 tokens
-pub record FitsBudget (passed : ℕ) (s : Stepped) (after : List Token) : Type 0 where
+-- a step leaves these tokens from the macro's index on, and the list has at most max_tokens tokens
+pub record FitsBudget (passed : ℕ) (s : MacroStep) (after : List Token) : Type 0 where
   pub is : s ≡ Next after
-  pub room : passed + length after ≤ 50000
+  pub room : passed + length after ≤ max_tokens
 
 -- what became of a macro is what the step makes of it, where so many tokens stand before it
-abbrev pub Replaces : ℕ → Replacement → Stepped → List Token → Type 0
+abbrev pub Replaces : ℕ → Replacement → MacroStep → List Token → Type 0
 Replaces passed NoArgumentThere s after = s ≡ Missing 0
 Replaces passed (OverLength n) s after = ExceedsBudget passed n s
 Replaces passed ReplacementDone s after = FitsBudget passed s after

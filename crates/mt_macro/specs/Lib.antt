@@ -1,3 +1,4 @@
+pub mod Limits
 pub mod Braces
 pub mod Parameters
 pub mod Table

@@ -2,7 +2,7 @@
 ghost use Rattle.std.specs.Prelude.{◌≡◌, ◌<◌, ◌≤◌, ◌+◌, ◌^◌, ◌++◌, ◌∷◌, [], IfOk, IfSome, OnOk, length, All};
 ghost use Rattle.std.specs.Option.{option_map};
 ghost use Rattle.mt_macro.specs.Braces.{group};
-ghost use Rattle.mt_macro.specs.Arguments.{is_space, argument, arguments, lent, Takes, TakesAll, lent_lists, IsShortArgument};
+ghost use Rattle.mt_macro.specs.Arguments.{is_space, argument, arguments, tokens_of, Takes, TakesAll, token_lists_of, IsShortArgument};
 
 use crate::braces::{closes_none, is_close, is_open, level_after};
 use crate::inputs::Inputs;
@@ -21,9 +21,9 @@ pub fn is_space(token: &Token) -> bool
     matches!(token.kind, TokenKind::Space)
 }
 
-/// Puts a lent token at the end.
-pub fn push_lent<'a>(list: &mut Vec<&'a Token>, token: &'a Token) -> Result<(), AllocError>
-    ensures { OnOk result (lent list.new.items ≡ lent list.old.items ++ token.now ∷ []) }
+/// Puts a token at the end.
+pub fn push_token<'a>(list: &mut Vec<&'a Token>, token: &'a Token) -> Result<(), AllocError>
+    ensures { OnOk result (tokens_of list.new.items ≡ tokens_of list.old.items ++ token.now ∷ []) }
 {
     list.push(token)?;
     Ok(())
@@ -36,7 +36,7 @@ fn take_group<'a>(
 ) -> Result<Option<Argument<'a>>, AllocError>
     requires { length rest.old < 2 ^ 31 }
     ensures short { IfOk result (λ taken. IfSome taken (λ a. length a ≤ length rest.old)) }
-    ensures takes { IfOk result (λ taken. Takes (option_map (λ v. lent v) taken) (group 0 rest.old) rest.new) }
+    ensures takes { IfOk result (λ taken. Takes (option_map (λ v. tokens_of v) taken) (group 0 rest.old) rest.new) }
     ensures falls { length rest.new ≤ length rest.old }
 {
     let mut inside = spare.take();
@@ -46,7 +46,7 @@ fn take_group<'a>(
             return Ok(Some(Argument::from_vec(inside)));
         }
         level = level_after(level, token);
-        push_lent(&mut inside, token)?;
+        push_token(&mut inside, token)?;
     }
     Ok(None)
 }
@@ -58,7 +58,7 @@ fn take_argument<'a>(
 ) -> Result<Option<Argument<'a>>, AllocError>
     requires { length rest.old < 2 ^ 31 }
     ensures short { IfOk result (λ taken. IfSome taken (λ a. length a ≤ length rest.old)) }
-    ensures takes { IfOk result (λ taken. Takes (option_map (λ v. lent v) taken) (argument rest.old) rest.new) }
+    ensures takes { IfOk result (λ taken. Takes (option_map (λ v. tokens_of v) taken) (argument rest.old) rest.new) }
     ensures falls { length rest.new ≤ length rest.old }
 {
     while let Some(token) = rest.pop() {
@@ -70,7 +70,7 @@ fn take_argument<'a>(
         }
         if !is_space(token) {
             let mut one = spare.take();
-            push_lent(&mut one, token)?;
+            push_token(&mut one, token)?;
             return Ok(Some(Argument::from_vec(one)));
         }
     }
@@ -86,7 +86,7 @@ pub fn take_arguments<'a>(
 ) -> Result<Option<Vec<Argument<'a>>>, AllocError>
     requires { length rest.old < 2 ^ 31 }
     ensures short { IfOk result (λ taken. IfSome taken (λ all. All IsShortArgument all.items)) }
-    ensures takes { IfOk result (λ taken. TakesAll (option_map (λ v. lent_lists v.items) taken) (arguments params rest.old) rest.new) }
+    ensures takes { IfOk result (λ taken. TakesAll (option_map (λ v. token_lists_of v.items) taken) (arguments params rest.old) rest.new) }
     ensures falls { length rest.new ≤ length rest.old }
 {
     let mut taken = Vec::new(alloc);
@@ -103,7 +103,7 @@ pub fn take_arguments<'a>(
 
 fn push_argument<'a>(list: &mut Vec<Argument<'a>>, argument: Argument<'a>) -> Result<(), AllocError>
     ensures short { All IsShortArgument list.old.items → IsShortArgument argument.entry → OnOk result (All IsShortArgument list.new.items) }
-    ensures is { OnOk result (lent_lists list.new.items ≡ lent_lists list.old.items ++ lent argument.entry ∷ []) }
+    ensures is { OnOk result (token_lists_of list.new.items ≡ token_lists_of list.old.items ++ tokens_of argument.entry ∷ []) }
 {
     list.push(argument)?;
     Ok(())

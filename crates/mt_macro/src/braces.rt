@@ -1,13 +1,13 @@
 //! Braces and their partners.
 ghost use Rattle.std.specs.Prelude.{◌≡◌, ◌<◌, ◌≤◌, ◌+◌, ◌^◌, ◌==◌, ◌&&◌, IfSome, length, if◌then◌else◌};
-ghost use Rattle.mt_token.specs.Character.{character_of};
+ghost use Rattle.mt_token.specs.Character.{character_code};
 ghost use Rattle.mt_macro.specs.Braces.{is_open, is_close, level_after, first_unmatched};
 
 use mt_token::{Token, TokenKind};
 
 /// The code of a character, 0 where the token is none.
 pub fn character(token: &Token) -> u8
-    ensures { result ≡ character_of token.now.kind }
+    ensures { result ≡ character_code token.now.kind }
 {
     match token.kind {
         TokenKind::Char(c) => c,
@@ -51,29 +51,29 @@ pub fn closes_none(level: usize, token: &Token) -> bool
     level == 0 && is_close(token)
 }
 
-// The place of the outermost brace that is open, if the token there opens one.
-fn outermost_at(level: usize, before: usize, place: usize) -> usize
-    ensures { result ≡ if level == 0 then place else before }
+// The index of the outermost brace that is open, if the token there opens one.
+fn outermost_at(level: usize, before: usize, index: usize) -> usize
+    ensures { result ≡ if level == 0 then index else before }
 {
-    if level == 0 { place } else { before }
+    if level == 0 { index } else { before }
 }
 
-/// The place of the first brace without partner, counted from 0.
+/// The index of the first brace without partner, counted from 0.
 pub fn first_unmatched(list: &[Token]) -> Option<usize>
     ensures is { result ≡ first_unmatched 0 list.now }
-    ensures within { IfSome result (λ place. place < length list.now) }
+    ensures within { IfSome result (λ index. index < length list.now) }
 {
     let mut level = 0;
     let mut outermost = 0;
-    let mut place = 0;
+    let mut index = 0;
     let mut rest = list;
     while let [token, after @ ..] = rest {
         if closes_none(level, token) {
-            return Some(place);
+            return Some(index);
         }
-        outermost = outermost_at(level, outermost, place);
+        outermost = outermost_at(level, outermost, index);
         level = level_after(level, token);
-        place += 1;
+        index += 1;
         rest = after;
     }
     if level > 0 { Some(outermost) } else { None }

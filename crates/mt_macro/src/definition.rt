@@ -2,7 +2,7 @@
 ghost use Rattle.std.specs.Prelude.{◌≡◌, ◌≤◌, ◌^◌, true, length, OnOk, OnErr};
 ghost use Rattle.mt_macro.specs.declared.definition.MacroError.TheVariants.{OutOfMemory};
 ghost use Rattle.mt_macro.specs.Table.{macro_of, is_own};
-ghost use Rattle.mt_macro.specs.Definition.{body_fault, defined, preloaded, Answers, HasMacroAt};
+ghost use Rattle.mt_macro.specs.Definition.{body_fault, define, preload, Answers, HasMacroAt};
 
 use crate::braces::first_unmatched;
 use crate::parameters::first_bad_parameter;
@@ -63,7 +63,7 @@ impl Macros {
     /// The first of these: `BadParameters`, `Unbalanced`, `TooMany`. `OutOfMemory` where memory ran out. After an error the macros are as before.
     pub fn define(&mut self, name: &Name, params: u8, body: &[Token]) -> Result<(), MacroError>
         requires { length body.now ≤ 2 ^ 32 }
-        ensures is { Answers result self.new (defined self.old name.now params body.now) }
+        ensures is { Answers result self.new (define self.old name.now params body.now) }
         ensures put { OnOk result (HasMacroAt self.old self.new name.now (record { own = true; params = params; body = body.now })) }
         ensures err { OnErr result (self.new ≡ self.old) }
     {
@@ -84,7 +84,7 @@ impl Macros {
     /// The first of these: `BadParameters`, `Unbalanced`. `OutOfMemory` where memory ran out. After an error the macros are as before.
     pub fn preload(&mut self, name: &Name, params: u8, body: &[Token]) -> Result<(), MacroError>
         requires { length body.now ≤ 2 ^ 32 }
-        ensures is { Answers result self.new (preloaded self.old name.now params body.now) }
+        ensures is { Answers result self.new (preload self.old name.now params body.now) }
         ensures put { OnOk result (HasMacroAt self.old self.new name.now (record { own = is_own (macro_of self.old name.now); params = params; body = body.now })) }
         ensures err { OnErr result (self.new ≡ self.old) }
     {

@@ -1,14 +1,15 @@
 //! Expansion: macros are replaced, one step after another, until none is left.
 ghost use Rattle.std.specs.Prelude.{◌≡◌, ◌<◌, ◌≤◌, ◌+◌, IfOk, length, Err, None};
+ghost use Rattle.mt_macro.specs.Limits.{max_steps, max_tokens};
 ghost use Rattle.mt_macro.specs.Braces.{first_unmatched};
 ghost use Rattle.mt_macro.specs.Table.{HasShortBody};
-ghost use Rattle.mt_macro.specs.Arguments.{lent, arguments};
-ghost use Rattle.mt_macro.specs.Expansion.{run, expansion, Expands, Replaces, replaced};
+ghost use Rattle.mt_macro.specs.Arguments.{tokens_of, arguments};
+ghost use Rattle.mt_macro.specs.Expansion.{run, expansion, Expands, Replaces, replacement};
 ghost use Rattle.mt_macro.specs.declared.expansion.ExpandError.TheVariants.{OutOfMemory};
 
-use crate::arguments::{Argument, push_lent, take_arguments};
+use crate::arguments::{Argument, push_token, take_arguments};
 use crate::braces::first_unmatched;
-use crate::filling::{filled, filled_len};
+use crate::filling::{fill, fill_len};
 use crate::inputs::Inputs;
 use crate::spare::SpareLists;
 use crate::table::{Macro, Macros};
@@ -27,10 +28,10 @@ pub enum ExpandError {
         /// The number of tokens after them.
         length: u64,
     },
-    /// A macro lacks an argument. The place is the macro's in the list of that step, counted from 0.
+    /// A macro lacks an argument. The index is the macro's in the list of that step, counted from 0.
     #[error("the macro at {0} lacks an argument")]
     MissingArgument(u32),
-    /// The first brace of the list given that has no partner, by its place, counted from 0.
+    /// The first brace of the list given that has no partner, by its index, counted from 0.
     #[error("the brace at {0} has no partner")]
     Unbalanced(u32),
     /// The list given has more than 50,000 tokens.
@@ -62,20 +63,20 @@ const MAX_STEPS: u32 = 20_000;
 /// `TooLong`, then `Unbalanced`, of the list given. Then, by the steps, `Budget` and `MissingArgument`: at a list of more than 50,000 tokens, and where a macro is left after 20,000 steps, with or without its arguments, it is `Budget`. `OutOfMemory` where memory ran out, and neither `TooLong` nor `Unbalanced` applies.
 pub fn expand(alloc: Global, macros: &Macros, list: &[Token]) -> Result<TokenList, ExpandError>
     ensures is { Expands result (expansion macros.now list.now) }
-    ensures memory { result ≡ Err OutOfMemory → (length list.now ≤ 50000) × (first_unmatched 0 list.now ≡ None) }
+    ensures memory { result ≡ Err OutOfMemory → (length list.now ≤ max_tokens) × (first_unmatched 0 list.now ≡ None) }
 {
     if list.len() > MAX_TOKENS {
         return Err(ExpandError::TooLong);
     }
-    if let Some(place) = first_unmatched(list) {
-        return Err(ExpandError::Unbalanced(place as u32));
+    if let Some(index) = first_unmatched(list) {
+        return Err(ExpandError::Unbalanced(index as u32));
     }
     run_steps(alloc, macros, list)
 }
 
-// Lent tokens, in memory of their own.
-fn lent_tokens(alloc: Global, list: &[&Token]) -> Result<TokenList, AllocError>
-    ensures { IfOk result (λ tokens. tokens ≡ lent list.now) }
+// The tokens behind references, in memory of their own.
+fn copy_tokens(alloc: Global, list: &[&Token]) -> Result<TokenList, AllocError>
+    ensures { IfOk result (λ tokens. tokens ≡ tokens_of list.now) }
 {
     let mut tokens = Vec::new(alloc);
     for token in list {
@@ -100,20 +101,20 @@ fn replace<'a>(
     spare: &mut SpareLists<'a>,
     passed: usize,
 ) -> Result<Replacement, AllocError>
-    requires rest { passed + length rest.old ≤ 50000 }
+    requires rest { passed + length rest.old ≤ max_tokens }
     requires body { HasShortBody found.now }
-    ensures { IfOk result (λ r. Replaces passed r (replaced found.now (arguments found.now.params rest.old)) rest.new) }
+    ensures { IfOk result (λ r. Replaces passed r (replacement found.now (arguments found.now.params rest.old)) rest.new) }
 {
     let Some(arguments) = take_arguments(alloc, spare, rest, found.params)? else {
         return Ok(Replacement::NoArgument);
     };
     let text = found.body.as_slice();
     let given = arguments.as_slice();
-    let length = (passed + rest.len()) as u64 + filled_len(text, given);
+    let length = (passed + rest.len()) as u64 + fill_len(text, given);
     if length > MAX_TOKENS as u64 {
         return Ok(Replacement::TooLong(length));
     }
-    let body = filled(spare, text, given)?;
+    let body = fill(spare, text, given)?;
     rest.push_all(body.as_slice())?;
     spare.keep(body)?;
     keep_all(spare, arguments)?;
@@ -133,16 +134,16 @@ fn keep_all<'a>(
 
 // The tokens that the steps leave.
 fn run_steps(alloc: Global, macros: &Macros, list: &[Token]) -> Result<TokenList, ExpandError>
-    requires { length list.now ≤ 50000 }
-    ensures { Expands result (run macros.now 20000 0 list.now) }
+    requires { length list.now ≤ max_tokens }
+    ensures { Expands result (run macros.now max_steps 0 list.now) }
 {
     let mut passed = Vec::new(alloc);
     let mut rest = Inputs::of(alloc, list)?;
     let mut spare = SpareLists::none(alloc);
     let mut steps = 0;
     while let Some(token) = rest.pop() {
-        let Some(found) = macros.named_by(token) else {
-            push_lent(&mut passed, token)?;
+        let Some(found) = macros.macro_at(token) else {
+            push_token(&mut passed, token)?;
             continue;
         };
         if steps == MAX_STEPS {
@@ -158,5 +159,5 @@ fn run_steps(alloc: Global, macros: &Macros, list: &[Token]) -> Result<TokenList
             Replacement::Done => {}
         }
     }
-    Ok(lent_tokens(alloc, &passed)?)
+    Ok(copy_tokens(alloc, &passed)?)
 }

@@ -1,9 +1,9 @@
 //! A body with arguments in place of its parameters.
 ghost use Rattle.std.specs.Prelude.{◌≡◌, ◌<◌, ◌≤◌, ◌+◌, ◌-◌, ◌^◌, ◌++◌, [], IfOk, OnOk, length, All, get_or};
-ghost use Rattle.mt_token.specs.Character.{character_of};
-ghost use Rattle.mt_macro.specs.Arguments.{fill, lent, lent_lists, IsShortArgument};
+ghost use Rattle.mt_token.specs.Character.{character_code};
+ghost use Rattle.mt_macro.specs.Arguments.{fill, tokens_of, token_lists_of, IsShortArgument};
 
-use crate::arguments::{Argument, push_lent};
+use crate::arguments::{Argument, push_token};
 use crate::braces::character;
 use crate::parameters::is_hash;
 use crate::spare::SpareLists;
@@ -12,7 +12,7 @@ use std::alloc::AllocError;
 
 // The index of a parameter's argument, by its digit.
 fn index_of(digit: &Token) -> usize
-    ensures { result ≡ character_of digit.now.kind - 49 }
+    ensures { result ≡ character_code digit.now.kind - 49 }
 {
     usize::from(character(digit).saturating_sub(b'1'))
 }
@@ -20,7 +20,7 @@ fn index_of(digit: &Token) -> usize
 // How many tokens a parameter's argument has, 0 where there is none.
 fn argument_len(arguments: &[Argument], digit: &Token) -> usize
     requires { All IsShortArgument arguments.now }
-    ensures is { result ≡ length (get_or (lent_lists arguments.now) (character_of digit.now.kind - 49) []) }
+    ensures is { result ≡ length (get_or (token_lists_of arguments.now) (character_code digit.now.kind - 49) []) }
     ensures short { result < 2 ^ 31 }
 {
     match arguments.get(index_of(digit)) {
@@ -30,10 +30,10 @@ fn argument_len(arguments: &[Argument], digit: &Token) -> usize
 }
 
 /// How many tokens a body has with arguments in place of its parameters.
-pub fn filled_len(body: &[Token], arguments: &[Argument]) -> u64
+pub fn fill_len(body: &[Token], arguments: &[Argument]) -> u64
     requires body { length body.now ≤ 2 ^ 32 }
     requires arguments { All IsShortArgument arguments.now }
-    ensures is { result ≡ length (fill (lent_lists arguments.now) body.now) }
+    ensures is { result ≡ length (fill (token_lists_of arguments.now) body.now) }
     ensures small { result ≤ 2 ^ 63 }
 {
     let mut count = 0;
@@ -54,12 +54,12 @@ pub fn filled_len(body: &[Token], arguments: &[Argument]) -> u64
 }
 
 /// A body with arguments in place of its parameters.
-pub fn filled<'a>(
+pub fn fill<'a>(
     spare: &mut SpareLists<'a>,
     body: &'a [Token],
     arguments: &[Argument<'a>],
 ) -> Result<Vec<&'a Token>, AllocError>
-    ensures { IfOk result (λ tokens. lent tokens.items ≡ fill (lent_lists arguments.now) body.now) }
+    ensures { IfOk result (λ tokens. tokens_of tokens.items ≡ fill (token_lists_of arguments.now) body.now) }
 {
     let mut tokens = spare.take();
     let mut rest = body;
@@ -70,7 +70,7 @@ pub fn filled<'a>(
                 rest = after;
             }
             [token, after @ ..] => {
-                push_lent(&mut tokens, token)?;
+                push_token(&mut tokens, token)?;
                 rest = after;
             }
             [] => return Ok(tokens),
@@ -84,7 +84,7 @@ fn push_argument<'a>(
     arguments: &[Argument<'a>],
     digit: &Token,
 ) -> Result<(), AllocError>
-    ensures { OnOk result (lent tokens.new.items ≡ lent tokens.old.items ++ get_or (lent_lists arguments.now) (character_of digit.now.kind - 49) []) }
+    ensures { OnOk result (tokens_of tokens.new.items ≡ tokens_of tokens.old.items ++ get_or (token_lists_of arguments.now) (character_code digit.now.kind - 49) []) }
 {
     match arguments.get(index_of(digit)) {
         Some(argument) => push_slice(tokens, argument.as_slice()),
@@ -93,7 +93,7 @@ fn push_argument<'a>(
 }
 
 fn push_slice<'a>(tokens: &mut Vec<&'a Token>, more: &[&'a Token]) -> Result<(), AllocError>
-    ensures { OnOk result (lent tokens.new.items ≡ lent tokens.old.items ++ lent more.now) }
+    ensures { OnOk result (tokens_of tokens.new.items ≡ tokens_of tokens.old.items ++ tokens_of more.now) }
 {
     tokens.extend_from_slice(more)?;
     Ok(())

@@ -32,17 +32,17 @@ fn is_bad(params: u8, token: &Token, after: &[Token]) -> bool
     is_hash(token) && !begins_with_parameter(params, after)
 }
 
-/// The place of the first `#` in a body that no digit from 1 to `params` follows, counted from 0.
+/// The index of the first `#` in a body that no digit from 1 to `params` follows, counted from 0.
 pub fn first_bad_parameter(params: u8, body: &[Token]) -> Option<usize>
     ensures { result ≡ first_bad_parameter params body.now }
 {
-    let mut place = 0;
+    let mut index = 0;
     let mut rest = body;
     while let [token, after @ ..] = rest {
         if is_bad(params, token, after) {
-            return Some(place);
+            return Some(index);
         }
-        place += 1;
+        index += 1;
         rest = after;
     }
     None

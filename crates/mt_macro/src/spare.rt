@@ -4,7 +4,7 @@ ghost use Rattle.std.specs.Prelude.{◌≡◌, []};
 use mt_token::Token;
 use std::alloc::{AllocError, Global};
 
-/// Lists of lent tokens that are done with. Later lists take their memory.
+/// Lists of tokens that are done with. Later lists take their memory.
 #[derive(Drop)]
 pub struct SpareLists<'a> {
     alloc: Global,

@@ -1,6 +1,7 @@
 //! The macros by their names.
 ghost use Rattle.std.specs.Prelude.{◌≡◌, ◌≤◌, ◌^◌, ◌<◌, ◌+◌, ◌||◌, ◌&&◌, not, if◌then◌else◌, [], true, false, length, IfOk, IfSome, OnOk, OnErr};
 ghost use Rattle.std.specs.Option.{option_copied};
+ghost use Rattle.mt_macro.specs.Limits.{max_own_names};
 ghost use Rattle.mt_macro.specs.Table.{macro_of, macro_at, is_own, own_count, with_macro, HasShortBody};
 
 use mt_scaled::Name;
@@ -20,7 +21,7 @@ pub struct Macro {
     pub body: TokenList,
 }
 
-/// Macros: a finite map from names to their numbers of parameters and bodies, with a mark on each name that is the user's own.
+/// Macros: a finite map from names to their numbers of parameters and bodies, with whether each name is the user's own.
 ///
 /// A name is the user's own from its first [`Macros::define`] on.
 #[derive(Debug, Drop)]
@@ -32,6 +33,7 @@ pub struct Macros {
 
 impl Model for Macros {
     ghost use Rattle.std.specs.Prelude.{map};
+    ghost use Rattle.mt_macro.specs.Limits.{max_own_names};
     ghost use Rattle.mt_macro.specs.Table.{Table, IsKept};
 
     ghost Value = { Table };
@@ -54,7 +56,7 @@ impl Macros {
     }
 
     /// The macro of a name.
-    pub(crate) fn named(&self, name: &[u8]) -> Option<&Macro>
+    pub(crate) fn macro_of(&self, name: &[u8]) -> Option<&Macro>
         ensures is { option_copied result ≡ macro_of self.now name.now }
         ensures short { IfSome result (λ m. HasShortBody m.now) }
     {
@@ -62,12 +64,12 @@ impl Macros {
     }
 
     /// The macro that a token names.
-    pub(crate) fn named_by(&self, token: &Token) -> Option<&Macro>
+    pub(crate) fn macro_at(&self, token: &Token) -> Option<&Macro>
         ensures is { option_copied result ≡ macro_at self.now token.now }
         ensures short { IfSome result (λ m. HasShortBody m.now) }
     {
         match &token.kind {
-            TokenKind::Control(name) => self.named(name.as_slice()),
+            TokenKind::Control(name) => self.macro_of(name.as_slice()),
             _ => None,
         }
     }
@@ -76,7 +78,7 @@ impl Macros {
     pub(crate) fn is_own(&self, name: &[u8]) -> bool
         ensures { result ≡ is_own (macro_of self.now name.now) }
     {
-        match self.named(name) {
+        match self.macro_of(name) {
             Some(found) => found.own,
             None => false,
         }
@@ -89,28 +91,28 @@ impl Macros {
         self.own_names
     }
 
-    /// Puts a macro under a name, in place of an older one. The name is the user's own where it is marked or was so before.
+    /// Puts a macro under a name, in place of an older one. The name is the user's own where this makes it so, or where it was so before.
     pub(crate) fn put(
         &mut self,
         name: &Name,
-        mark: bool,
+        makes_own: bool,
         params: u8,
         body: &[Token],
     ) -> Result<(), AllocError>
         requires short { length body.now ≤ 2 ^ 32 }
-        requires room { mark ≡ true → is_own (macro_of self.old name.now) ≡ false → own_count self.old < 1000 }
-        ensures ok { OnOk result (self.new ≡ with_macro self.old name.now (record { own = mark || is_own (macro_of self.old name.now); params = params; body = body.now })) }
+        requires room { makes_own ≡ true → is_own (macro_of self.old name.now) ≡ false → own_count self.old < max_own_names }
+        ensures ok { OnOk result (self.new ≡ with_macro self.old name.now (record { own = makes_own || is_own (macro_of self.old name.now); params = params; body = body.now })) }
         ensures err { OnErr result (self.new ≡ self.old) }
     {
         let was_own = self.is_own(name.as_slice());
-        let key = bytes_of(self.alloc, name.as_slice())?;
+        let key = Vec::from_slice(self.alloc, name.as_slice())?;
         let entry = Macro {
-            own: either(mark, was_own),
+            own: either(makes_own, was_own),
             params,
-            body: copied(self.alloc, body)?,
+            body: copy_body(self.alloc, body)?,
         };
         self.by_name.insert(key, entry)?;
-        self.own_names = own_names_after(self.own_names, mark, was_own);
+        self.own_names = own_names_after(self.own_names, makes_own, was_own);
         Ok(())
     }
 }
@@ -121,24 +123,20 @@ fn either(one: bool, other: bool) -> bool
     one || other
 }
 
-// How many names are the user's own, after a name is marked.
-fn own_names_after(count: usize, mark: bool, was_own: bool) -> usize
-    requires { mark ≡ true → was_own ≡ false → count < 1000 }
-    ensures { result ≡ (if mark && not was_own then count + 1 else count) }
+// How many names are the user's own, after a name is made so or not.
+fn own_names_after(count: usize, makes_own: bool, was_own: bool) -> usize
+    requires { makes_own ≡ true → was_own ≡ false → count < max_own_names }
+    ensures { result ≡ (if makes_own && not was_own then count + 1 else count) }
 {
-    if mark && !was_own { count + 1 } else { count }
-}
-
-fn bytes_of(alloc: Global, bytes: &[u8]) -> Result<Vec<u8>, AllocError>
-    ensures { IfOk result (λ v. v.items ≡ bytes.now) }
-{
-    let mut copy = Vec::new(alloc);
-    copy.extend_from_slice(bytes)?;
-    Ok(copy)
+    if makes_own && !was_own {
+        count + 1
+    } else {
+        count
+    }
 }
 
 // The same tokens once more, in memory of their own.
-fn copied(alloc: Global, list: &[Token]) -> Result<TokenList, AllocError>
+fn copy_body(alloc: Global, list: &[Token]) -> Result<TokenList, AllocError>
     ensures { IfOk result (λ tokens. tokens ≡ list.now) }
 {
     let mut tokens = Vec::new(alloc);

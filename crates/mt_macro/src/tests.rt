@@ -1,15 +1,9 @@
 use crate::{ExpandError, MacroError, Macros, expand, first_bad_parameter};
 use mt_scaled::Name;
 use mt_token::{Token, TokenKind, TokenList, tokens};
-use std::alloc::{AllocError, Global};
+use std::alloc::Global;
 use std::process::Abort;
 use std::test::Fail;
-
-fn name(alloc: Global, bytes: &[u8]) -> Result<Name, AllocError> {
-    let mut name = Vec::new(alloc);
-    name.extend_from_slice(bytes)?;
-    Ok(Name::from_vec(name))
-}
 
 fn is_same(one: &Token, other: &Token) -> bool {
     match (&one.kind, &other.kind) {
@@ -27,18 +21,22 @@ fn are_same(one: &TokenList, other: &TokenList) -> bool {
 }
 
 // Macros with these names, numbers of parameters and bodies.
-fn defined(rt: &impl Abort, alloc: Global, list: &[(&[u8], u8, &[u8])]) -> Result<Macros, Fail> {
+fn macros_with(
+    rt: &impl Abort,
+    alloc: Global,
+    list: &[(&[u8], u8, &[u8])],
+) -> Result<Macros, Fail> {
     let mut macros = Macros::empty(alloc);
     for (word, params, text) in list {
         let body = tokens(alloc, text)?;
         assert!(rt; body.len() < 100);
-        macros.define(&name(alloc, word)?, *params, body.as_slice())?;
+        macros.define(&Name::from_slice(alloc, word)?, *params, body.as_slice())?;
     }
     Ok(macros)
 }
 
 // What a text expands to.
-fn expanded(
+fn expand_text(
     alloc: Global,
     macros: &Macros,
     text: &[u8],
@@ -49,7 +47,7 @@ fn expanded(
 
 // \x drops its argument, and \y stands for itself.
 fn four_macros(rt: &impl Abort, alloc: Global) -> Result<Macros, Fail> {
-    defined(
+    macros_with(
         rt,
         alloc,
         &[
@@ -75,7 +73,7 @@ fn expands_leftmost_macro_first(rt: HostRuntime) -> Result<(), Fail> {
         (b"\\undefined{\\z}", b"\\undefined{bc}"),
     ];
     for (text, want) in &cases {
-        let list = expanded(alloc, &macros, text)??;
+        let list = expand_text(alloc, &macros, text)??;
         assert!(rt; are_same(&list, &tokens(alloc, want)?));
     }
     Ok(())
@@ -87,7 +85,7 @@ fn finds_first_fault(rt: HostRuntime) -> Result<(), Fail> {
     let macros = four_macros(&rt, alloc)?;
     let faults: [(&[u8], ExpandError); 6] = [
         (b"a\\x", ExpandError::MissingArgument(1)),
-        // The place is that in the list of the step: \z has become two tokens.
+        // The index is that in the list of the step: \z has become two tokens.
         (b"\\z\\x", ExpandError::MissingArgument(2)),
         (b"{\\x }\\y", ExpandError::MissingArgument(1)),
         (b"{a}}{", ExpandError::Unbalanced(3)),
@@ -101,7 +99,7 @@ fn finds_first_fault(rt: HostRuntime) -> Result<(), Fail> {
         ),
     ];
     for (text, want) in &faults {
-        assert_eq!(rt; expanded(alloc, &macros, text)?.err(), Some(*want));
+        assert_eq!(rt; expand_text(alloc, &macros, text)?.err(), Some(*want));
     }
     Ok(())
 }
@@ -109,20 +107,20 @@ fn finds_first_fault(rt: HostRuntime) -> Result<(), Fail> {
 #[test]
 fn keeps_to_its_budget(rt: HostRuntime) -> Result<(), Fail> {
     let alloc = rt.alloc();
-    let macros = defined(&rt, alloc, &[(b"x", 0, b""), (b"d", 1, b"\\d{#1#1}")])?;
+    let macros = macros_with(&rt, alloc, &[(b"x", 0, b""), (b"d", 1, b"\\d{#1#1}")])?;
     let mut text = Vec::new(alloc);
     for _ in 0..20_000 {
         text.extend_from_slice(b"\\x")?;
     }
-    assert_eq!(rt; expanded(alloc, &macros, &text)??.len(), 0);
+    assert_eq!(rt; expand_text(alloc, &macros, &text)??.len(), 0);
     text.extend_from_slice(b"\\x")?;
     let steps = 20_000;
     assert_eq!(rt;
-        expanded(alloc, &macros, &text)?.err(),
+        expand_text(alloc, &macros, &text)?.err(),
         Some(ExpandError::Budget { steps, length: 1 })
     );
     // Each step doubles the argument: 3 tokens and 2^16 more after 16 steps.
-    let doubled = expanded(alloc, &macros, b"\\d a")?.err();
+    let doubled = expand_text(alloc, &macros, b"\\d a")?.err();
     assert_eq!(rt;
         doubled,
         Some(ExpandError::Budget {
@@ -131,10 +129,10 @@ fn keeps_to_its_budget(rt: HostRuntime) -> Result<(), Fail> {
         })
     );
     let mut long = vec![in alloc; b'a'; 50_000]?;
-    assert_eq!(rt; expanded(alloc, &macros, &long)??.len(), 50_000);
+    assert_eq!(rt; expand_text(alloc, &macros, &long)??.len(), 50_000);
     long.push(b'}')?;
     assert_eq!(rt;
-        expanded(alloc, &macros, &long)?.err(),
+        expand_text(alloc, &macros, &long)?.err(),
         Some(ExpandError::TooLong)
     );
     Ok(())
@@ -143,9 +141,9 @@ fn keeps_to_its_budget(rt: HostRuntime) -> Result<(), Fail> {
 #[test]
 fn wraps_an_argument_at_each_step(rt: HostRuntime) -> Result<(), Fail> {
     let alloc = rt.alloc();
-    let macros = defined(&rt, alloc, &[(b"w", 1, b"\\w{{#1}}")])?;
+    let macros = macros_with(&rt, alloc, &[(b"w", 1, b"\\w{{#1}}")])?;
     // Each step adds two braces: 4 tokens and 2 more a step.
-    let wrapped = expanded(alloc, &macros, b"\\w a")?.err();
+    let wrapped = expand_text(alloc, &macros, b"\\w a")?.err();
     assert_eq!(rt;
         wrapped,
         Some(ExpandError::Budget {
@@ -160,7 +158,7 @@ fn wraps_an_argument_at_each_step(rt: HostRuntime) -> Result<(), Fail> {
 fn refuses_definitions(rt: HostRuntime) -> Result<(), Fail> {
     let alloc = rt.alloc();
     let mut macros = Macros::empty(alloc);
-    let x = name(alloc, b"x")?;
+    let x = Name::from_slice(alloc, b"x")?;
     let cases: [(u8, &[u8], Result<(), MacroError>); 8] = [
         (1, b"#2", Err(MacroError::BadParameters)),
         (1, b"#1#", Err(MacroError::BadParameters)),
@@ -179,7 +177,7 @@ fn refuses_definitions(rt: HostRuntime) -> Result<(), Fail> {
         assert_eq!(rt; preloaded, *want);
     }
     // The last definition stands.
-    let list = expanded(alloc, &macros, b"\\x")??;
+    let list = expand_text(alloc, &macros, b"\\x")??;
     assert!(rt; are_same(&list, &tokens(alloc, b"b")?));
     let body = tokens(alloc, b"a#1#3")?;
     assert_eq!(rt; first_bad_parameter(2, body.as_slice()), Some(3));
@@ -194,17 +192,17 @@ fn counts_own_names(rt: HostRuntime) -> Result<(), Fail> {
     let alloc = rt.alloc();
     let mut macros = Macros::empty(alloc);
     // A preloaded name is not the user's own until it is defined.
-    macros.preload(&name(alloc, b"p")?, 0, &[])?;
+    macros.preload(&Name::from_slice(alloc, b"p")?, 0, &[])?;
     for i in 0..1000_u16 {
         let [high, low] = i.to_be_bytes();
-        macros.define(&name(alloc, &[high, low])?, 0, &[])?;
+        macros.define(&Name::from_slice(alloc, &[high, low])?, 0, &[])?;
     }
-    let p = name(alloc, b"p")?;
+    let p = Name::from_slice(alloc, b"p")?;
     assert_eq!(rt; macros.define(&p, 0, &[]), Err(MacroError::TooMany));
     macros.preload(&p, 1, &[])?;
-    macros.preload(&name(alloc, b"q")?, 0, &[])?;
+    macros.preload(&Name::from_slice(alloc, b"q")?, 0, &[])?;
     // A name of the user's own stays so when it is preloaded, and may be defined again.
-    let first = name(alloc, &[0, 0])?;
+    let first = Name::from_slice(alloc, &[0, 0])?;
     macros.preload(&first, 2, &[])?;
     macros.define(&first, 3, &[])?;
     Ok(())

@@ -2,7 +2,7 @@
 use Rattle.std.proofs.Common.{ℕ, List, [], ◌++◌, sym, ◌∙◌, ap, append_assoc}
 use Rattle.std.specs.Prelude.{Option, Some, None}
 use Rattle.std.proofs.lemmas.List.{append-nil}
-use Rattle.mt_outside.specs.Told.{Appends}
+use Rattle.mt_outside.specs.Appends.{Appends}
 
 -- nothing is appended
 pub appends_none : (told : Option (List ℕ)) → Appends told told []

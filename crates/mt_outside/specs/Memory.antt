@@ -1,7 +1,8 @@
 -- What cabinets and sinks stand for.
-use Rattle.std.specs.Prelude.{◌≡◌, ◌⊎◌, ◌<◌, ℕ, ◌+◌, ◌-◌, ◌^◌, min, List, length, Bool, true, false, Option, Some, None, Contains}
+use Rattle.std.specs.Prelude.{◌≡◌, ◌⊎◌, ◌<◌, ℕ, List, length, Bool, true, false, Option, Some, None, Contains}
 use Rattle.mt_outside.specs.declared.files.Held.{Held}
 use Rattle.mt_outside.specs.Files.{find_file}
+use Rattle.mt_outside.specs.Counts.{next_count}
 
 -- a cabinet in memory
 pub record CabinetState : Type 0 where
@@ -13,13 +14,9 @@ pub record CabinetState : Type 0 where
   pub faults : ℕ
   pub lost : Option (List ℕ)
 
--- the next number of a count, which stands still at its type's end
-abbrev pub next : ℕ → ℕ
-next count = min (count + 1) (2 ^ 64 - 1)
-
 -- the next call fails: its number is one that does, or the name is not held
 abbrev pub Fails : CabinetState → List ℕ → Type 0
-Fails cabinet name = Contains cabinet.fail (next cabinet.calls) ⊎ (find_file cabinet.files name ≡ None)
+Fails cabinet name = Contains cabinet.fail (next_count cabinet.calls) ⊎ (find_file cabinet.files name ≡ None)
 
 -- a cabinet that tells no files
 pub record FaultState : Type 0 where
@@ -37,15 +34,15 @@ pub record SinkState : Type 0 where
 
 -- the next put fails: its number is one that does, or the piece is longer than the room left
 abbrev pub PutFails : SinkState → List ℕ → Type 0
-PutFails sink piece = Contains sink.fail (next sink.calls) ⊎ (sink.room < length piece)
+PutFails sink piece = Contains sink.fail (next_count sink.calls) ⊎ (sink.room < length piece)
 
 -- a sink in memory that never fails
 pub record SteadyState : Type 0 where
   -- what was written, while it fits
-  pub told : Option (List ℕ)
+  pub bytes : Option (List ℕ)
   pub room : ℕ
 
--- past the room nothing is told
-abbrev pub told_of : Bool → List ℕ → Option (List ℕ)
-told_of true bytes = None
-told_of false bytes = Some bytes
+-- the bytes, none where they were more than the room
+abbrev pub bytes_unless_past : Bool → List ℕ → Option (List ℕ)
+bytes_unless_past true bytes = None
+bytes_unless_past false bytes = Some bytes

@@ -31,7 +31,7 @@ impl From<AllocError> for FetchError {
     }
 }
 
-/// A place that gives files by their names.
+/// Gives files by their names.
 pub trait Cabinet {
     /// The files that it holds, where it tells them.
     ghost holds: { Self → Option (List Held) };

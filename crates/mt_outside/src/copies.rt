@@ -1,24 +1,17 @@
-//! Files found by their names, and copies of names and bytes.
+//! Files found by their names, and copies of bytes.
 ghost use Rattle.std.specs.Prelude.{◌≡◌, ◌<◌, ◌≤◌, IfOk, IsErrOf, OnOk, length};
 ghost use Rattle.std.specs.Option.{option_copied};
 ghost use Rattle.mt_outside.specs.Files.{find_file};
 
 use crate::{FetchError, Held};
-use mt_scaled::{Bytes, Name};
-use std::alloc::{AllocError, Global};
+use mt_scaled::Bytes;
+use std::alloc::Global;
 
 /// The first file of that name.
 pub(crate) fn find_first<'a>(files: &'a [Held], name: &[u8]) -> Option<&'a Held>
     ensures { option_copied result ≡ find_file files.now name.now }
 {
     files.iter().find(|file| file.name.as_slice() == name)
-}
-
-/// A copy of a name.
-pub(crate) fn copy_name(alloc: Global, name: &str) -> Result<Name, AllocError>
-    ensures { IfOk result (λ copy. copy ≡ name.now) }
-{
-    Ok(Name::from_vec(Vec::from_slice(alloc, name.as_bytes())?))
 }
 
 /// A copy of the bytes, if there are no more than `limit`.

@@ -1,10 +1,8 @@
 //! A cabinet over the files of a system. What a file holds is not told.
 ghost use Rattle.std.specs.Prelude.{◌≡◌, ◌<◌, ◌≤◌, ◌^◌, vec_len, length, IfOk, IfSome, None};
-ghost use Rattle.mt_outside.specs.Counts.{FetchLeaves};
+ghost use Rattle.mt_outside.specs.Counts.{FetchLeaves, next_count};
 ghost use Rattle.mt_outside.specs.Files.{content};
-ghost use Rattle.mt_outside.specs.Memory.{next};
 
-use crate::copies::copy_name;
 use crate::{Cabinet, FetchError};
 use mt_scaled::{Bytes, Name};
 use std::alloc::Global;
@@ -86,9 +84,9 @@ impl<R: Files> Cabinet for FileCabinet<'_, R> {
         ensures within { IfOk result (λ bytes. length bytes ≤ limit) }
         ensures bytes { IfOk result (λ bytes. IfSome None (λ files. bytes ≡ content files name.now)) }
         ensures leaves { FetchLeaves self.old.faults self.new.faults self.old.lost self.new.lost name.now result }
-        ensures raises { result ≡ Err FetchError.Failed → self.new.faults ≡ next self.old.faults }
+        ensures raises { result ≡ Err FetchError.Failed → self.new.faults ≡ next_count self.old.faults }
     {
-        let lost = copy_name(alloc, name)?;
+        let lost = Name::from_slice(alloc, name.as_bytes())?;
         match read_within(self.rt, alloc, name, limit) {
             Ok(bytes) => Ok(Bytes::from_vec(bytes)),
             Err(FetchError::Failed) => {

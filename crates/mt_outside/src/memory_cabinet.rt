@@ -1,10 +1,10 @@
 //! A cabinet in memory that fails where it is told to.
 ghost use Rattle.std.specs.Prelude.{◌≡◌, ◌<◌, ◌≤◌, ◌^◌, ◌⊎◌, Contains, IfNone, IfOk, IfSome, length, Some, None};
-ghost use Rattle.mt_outside.specs.Counts.{FetchLeaves};
+ghost use Rattle.mt_outside.specs.Counts.{FetchLeaves, next_count};
 ghost use Rattle.mt_outside.specs.Files.{content, find_file};
-ghost use Rattle.mt_outside.specs.Memory.{Fails, next};
+ghost use Rattle.mt_outside.specs.Memory.{Fails};
 
-use crate::copies::{copy_name, copy_within, find_first};
+use crate::copies::{copy_within, find_first};
 use crate::{Cabinet, CallList, FetchError, FileList, Held};
 use mt_scaled::{Bytes, Name};
 use std::alloc::Global;
@@ -69,15 +69,15 @@ impl Cabinet for MemoryCabinet {
         ensures bytes { IfOk result (λ bytes. bytes ≡ content self.old.files name.now) }
         ensures too_long { result ≡ Err FetchError.TooLong → limit < length (content self.old.files name.now) }
         ensures leaves { FetchLeaves self.old.faults self.new.faults self.old.lost self.new.lost name.now result }
-        ensures raises { result ≡ Err FetchError.Failed → self.new.faults ≡ next self.old.faults }
+        ensures raises { result ≡ Err FetchError.Failed → self.new.faults ≡ next_count self.old.faults }
         ensures files { self.new.files ≡ self.old.files }
         ensures fail { self.new.fail ≡ self.old.fail }
-        ensures calls { self.new.calls ≡ next self.old.calls }
+        ensures calls { self.new.calls ≡ next_count self.old.calls }
         ensures failed { result ≡ Err FetchError.Failed → Fails self.old name.now }
         ensures fails { Fails self.old name.now → (result ≡ Err FetchError.Failed) ⊎ (result ≡ Err FetchError.OutOfMemory) }
     {
         // A call without memory for the name is counted too, so it gives up only behind the count.
-        let lost = copy_name(alloc, name);
+        let lost = Name::from_slice(alloc, name.as_bytes());
         self.calls = self.calls.saturating_add(1);
         let lost = lost?;
         match self.file_of_call(name.as_bytes()) {

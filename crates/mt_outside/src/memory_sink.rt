@@ -1,7 +1,7 @@
 //! A sink in memory that fails where it is told to.
 ghost use Rattle.std.specs.Prelude.{◌≡◌, ◌+◌, ◌++◌, [], IfOk, OnOk, OnErr, length, Some};
-ghost use Rattle.mt_outside.specs.Counts.{WriteLeaves};
-ghost use Rattle.mt_outside.specs.Memory.{PutFails, next};
+ghost use Rattle.mt_outside.specs.Counts.{WriteLeaves, next_count};
+ghost use Rattle.mt_outside.specs.Memory.{PutFails};
 
 use crate::{CallList, PutError, Sink};
 use std::alloc::{AllocError, Global};
@@ -66,9 +66,9 @@ impl Sink for MemorySink {
         ensures room { OnOk result (self.new.room + length bytes.now ≡ self.old.room) }
         ensures same { OnErr result ((self.new.bytes ≡ self.old.bytes) × (self.new.room ≡ self.old.room)) }
         ensures leaves { WriteLeaves self.old.faults self.new.faults result }
-        ensures raises { OnErr result (self.new.faults ≡ next self.old.faults) }
+        ensures raises { OnErr result (self.new.faults ≡ next_count self.old.faults) }
         ensures fail { self.new.fail ≡ self.old.fail }
-        ensures calls { self.new.calls ≡ next self.old.calls }
+        ensures calls { self.new.calls ≡ next_count self.old.calls }
         ensures failed { OnErr result (PutFails self.old bytes.now) }
         ensures fails { PutFails self.old bytes.now → result ≡ Err PutError.Failed }
     {

@@ -1,7 +1,7 @@
 //! Where bytes go.
 ghost use Rattle.std.specs.Prelude.{◌<◌, ◌≤◌, ℕ, List, Option, IfOk, IfErr, length};
 ghost use Rattle.mt_outside.specs.Counts.{WriteLeaves};
-ghost use Rattle.mt_outside.specs.Told.{Appends, taken, taken_all};
+ghost use Rattle.mt_outside.specs.Appends.{Appends, put_prefix, write_prefix};
 
 use thiserror::Error;
 
@@ -13,7 +13,7 @@ pub enum PutError {
     Failed,
 }
 
-/// A place that takes bytes.
+/// Takes bytes.
 pub trait Sink {
     /// The bytes that it has taken, where it tells them. A sink that tells after a call told before it.
     ghost written: { Self → Option (List ℕ) };
@@ -29,7 +29,7 @@ pub trait Sink {
     fn put(&mut self, bytes: &[u8]) -> Result<usize, PutError>
         ensures within { IfOk result (λ count. count ≤ length bytes.now) }
         ensures progress { IfOk result (λ count. 0 < length bytes.now → 0 < count) }
-        ensures appended { Appends (written self.old) (written self.new) (taken result bytes.now) }
+        ensures appended { Appends (written self.old) (written self.new) (put_prefix result bytes.now) }
         ensures leaves { WriteLeaves (faults self.old) (faults self.new) result };
 }
 
@@ -40,7 +40,7 @@ pub trait Sink {
 /// Where a put fails, the number of bytes that were taken before: exactly those, the first ones, are written.
 pub fn write_all<S: Sink>(sink: &mut S, bytes: &[u8]) -> Result<(), u64>
     ensures within { IfErr result (λ count. count ≤ length bytes.now) }
-    ensures appended { Appends (S.written sink.old) (S.written sink.new) (taken_all result bytes.now) }
+    ensures appended { Appends (S.written sink.old) (S.written sink.new) (write_prefix result bytes.now) }
     ensures leaves { WriteLeaves (S.faults sink.old) (S.faults sink.new) result }
 {
     let mut done: usize = 0;

@@ -1,7 +1,7 @@
 //! A sink in memory that never fails.
 ghost use Rattle.std.specs.Prelude.{◌≡◌, ◌<◌, ◌≤◌, ◌+◌, ◌++◌, [], IfOk, IfSome, length, Some, None};
 ghost use Rattle.std.specs.Option.{option_map};
-ghost use Rattle.mt_outside.specs.Told.{Appends};
+ghost use Rattle.mt_outside.specs.Appends.{Appends};
 
 use crate::{PutError, Sink};
 use std::alloc::{AllocError, Global};
@@ -18,11 +18,11 @@ pub struct SteadySink {
 impl Model for SteadySink {
     ghost use Rattle.std.specs.Prelude.{◌≤◌, ◌-◌};
     ghost use Rattle.std.specs.Vec.{vec_capacity, vec_len};
-    ghost use Rattle.mt_outside.specs.Memory.{SteadyState, told_of};
+    ghost use Rattle.mt_outside.specs.Memory.{SteadyState, bytes_unless_past};
 
     ghost Value = { SteadyState };
 
-    ghost view = { λ s. record { told = told_of s.is_past s.bytes.items; room = s.room - vec_len s.bytes } };
+    ghost view = { λ s. record { bytes = bytes_unless_past s.is_past s.bytes.items; room = s.room - vec_len s.bytes } };
 
     ghost invariant = { λ s. (s.room ≤ vec_capacity s.bytes) × (vec_len s.bytes ≤ s.room) };
 }
@@ -34,7 +34,7 @@ impl SteadySink {
     ///
     /// [`AllocError`] where the room cannot be had. No later put takes memory.
     pub fn new(alloc: Global, room: usize) -> Result<Self, AllocError>
-        ensures { IfOk result (λ sink. sink ≡ record { told = Some []; room = room }) }
+        ensures { IfOk result (λ sink. sink ≡ record { bytes = Some []; room = room }) }
     {
         Ok(SteadySink {
             bytes: Vec::with_capacity(alloc, room)?,
@@ -45,7 +45,7 @@ impl SteadySink {
 
     /// The bytes that it has taken, or `None` once they were more than its room.
     pub fn bytes(&self) -> Option<&[u8]>
-        ensures { option_map (λ bytes. bytes.now) result ≡ self.now.told }
+        ensures { option_map (λ bytes. bytes.now) result ≡ self.now.bytes }
     {
         if self.is_past {
             None
@@ -56,16 +56,16 @@ impl SteadySink {
 }
 
 impl Sink for SteadySink {
-    ghost written = { λ s. s.told };
+    ghost written = { λ s. s.bytes };
 
     ghost faults = { λ s. 0 };
 
     fn put(&mut self, bytes: &[u8]) -> Result<usize, PutError>
         ensures whole { result ≡ Ok (length bytes.now) }
-        ensures appended { Appends self.old.told self.new.told bytes.now }
-        ensures told { length bytes.now ≤ self.old.room → self.new.told ≡ option_map (λ told. told ++ bytes.now) self.old.told }
-        ensures past { self.old.room < length bytes.now → self.new.told ≡ None }
-        ensures room { IfSome self.new.told (λ _. self.new.room + length bytes.now ≡ self.old.room) }
+        ensures appended { Appends self.old.bytes self.new.bytes bytes.now }
+        ensures fits { length bytes.now ≤ self.old.room → self.new.bytes ≡ option_map (λ before. before ++ bytes.now) self.old.bytes }
+        ensures past { self.old.room < length bytes.now → self.new.bytes ≡ None }
+        ensures room { IfSome self.new.bytes (λ _. self.new.room + length bytes.now ≡ self.old.room) }
     {
         if self.is_past {
             return Ok(bytes.len());

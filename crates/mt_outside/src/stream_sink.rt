@@ -1,7 +1,6 @@
 //! A sink over a stream. What the stream has taken is not told.
 ghost use Rattle.std.specs.Prelude.{◌≡◌, ◌<◌, ◌≤◌, IfOk, OnErr, None, length};
-ghost use Rattle.mt_outside.specs.Counts.{WriteLeaves};
-ghost use Rattle.mt_outside.specs.Memory.{next};
+ghost use Rattle.mt_outside.specs.Counts.{WriteLeaves, next_count};
 
 use crate::{PutError, Sink};
 use std::io::Write;
@@ -40,7 +39,7 @@ impl<W: Write + Drop> Sink for StreamSink<W> {
         ensures within { IfOk result (λ count. count ≤ length bytes.now) }
         ensures progress { IfOk result (λ count. 0 < length bytes.now → 0 < count) }
         ensures leaves { WriteLeaves self.old self.new result }
-        ensures raises { OnErr result (self.new ≡ next self.old) }
+        ensures raises { OnErr result (self.new ≡ next_count self.old) }
     {
         match self.stream.write(bytes) {
             Ok(0) if !bytes.is_empty() => {}

@@ -31,7 +31,7 @@ fn files(alloc: Global) -> Result<FileList, AllocError> {
     let mut files = Vec::new(alloc);
     for (name, bytes) in [("a", b"first"), ("a", b"again"), ("b", b"other")] {
         files.push(Held {
-            name: Name::from_vec(name.as_bytes().to_vec(alloc)?),
+            name: Name::from_slice(alloc, name.as_bytes())?,
             bytes: Bytes::from_vec(bytes.to_vec(alloc)?),
         })?;
     }

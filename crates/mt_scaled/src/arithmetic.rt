@@ -46,12 +46,12 @@ pub fn round_ratio(s: i64, x: i64, t: i64) -> i64
     ensures is { result ≡ ratio_of s x t }
     ensures small { (n : ℕ) → Within n s → Within n result }
 {
-    let size = rounded(s.unsigned_abs(), x.unsigned_abs(), t.unsigned_abs());
+    let size = natural_ratio(s.unsigned_abs(), x.unsigned_abs(), t.unsigned_abs());
     if s >= 0 { size as i64 } else { -(size as i64) }
 }
 
 // s·x/t of natural numbers, a half rounded up.
-fn rounded(s: u64, x: u64, t: u64) -> u64
+fn natural_ratio(s: u64, x: u64, t: u64) -> u64
     requires s { s ≤ 2 ^ 62 }
     requires x { x ≤ t }
     requires t { t ≤ 2 ^ 62 }

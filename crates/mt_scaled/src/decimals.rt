@@ -1,12 +1,12 @@
 //! Decimal fractions as scaled points.
 ghost use Rattle.std.specs.Prelude.{◌≡◌, ◌≤◌, ◌+◌, ◌*◌, ◌/◌, ◌^◌, All, pos, take};
-ghost use Rattle.mt_scaled.specs.Number.{Within, rounded_decimals};
+ghost use Rattle.mt_scaled.specs.Number.{Within, decimal_fraction};
 
 /// The decimal fraction with these digits after the point, as a count of 2^-16ths, 0 to 65536 (tex.web §102).
 /// Only the first 17 digits count. Each digit is 0 to 9.
 pub fn round_decimals(digits: &[u8]) -> i64
     requires { All (λ d. d ≤ 9) digits.now }
-    ensures is { result ≡ pos (rounded_decimals digits.now) }
+    ensures is { result ≡ pos (decimal_fraction digits.now) }
     ensures small { Within (2 ^ 16) result }
 {
     let first = prefix(digits);

@@ -1,6 +1,6 @@
 //! Math units: 18 of them make a quad, and what one is depends on the font.
 ghost use Rattle.std.specs.Prelude.{◌≡◌, ◌^◌, ◌*◌, ◌+◌, ◌/◌, ◌≤ℤ◌, pos, ℕ, int_div};
-ghost use Rattle.mt_scaled.specs.Number.{Within, mu_product, whole_of, part_of};
+ghost use Rattle.mt_scaled.specs.Number.{Within, mu_product, whole_of, fraction_of};
 
 use crate::{x_over_n, xn_over_d};
 
@@ -37,7 +37,7 @@ fn whole(mu: i64) -> i64
 // The scaled points that 1 mu has besides.
 fn part(mu: i64) -> i64
     requires { Within (2 ^ 31) mu }
-    ensures is { result ≡ part_of mu }
+    ensures is { result ≡ fraction_of mu }
     ensures low { pos 0 ≤ℤ result }
     ensures high { result ≤ℤ pos 65535 }
 {

@@ -1,3 +1,3 @@
 pub mod Character
-pub mod Pieces
+pub mod Lexemes
 pub mod Tokens

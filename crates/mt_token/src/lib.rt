@@ -3,11 +3,11 @@
 //! The rules are those of The TeXbook, chapter 8, and of tex.web part 24 (§§343 to 356), with plain TeX's category codes. What this crate refuses is listed in docs/RULES.md.
 #![tactic(auto)]
 
+mod lexeme;
 mod lexer;
-mod piece;
 mod token;
 
-pub use lexer::tokens;
+pub use lexer::{MAX_SOURCE, tokens};
 pub use token::{Token, TokenError, TokenKind, TokenList};
 
 #[cfg(test)]

@@ -1,4 +1,4 @@
-use crate::{Token, TokenError, TokenKind, TokenList, tokens};
+use crate::{MAX_SOURCE, Token, TokenError, TokenKind, TokenList, tokens};
 use std::test::Fail;
 
 // A token in short: its name or its character, nothing for a space, and its span.
@@ -82,7 +82,7 @@ fn copies_tokens(rt: HostRuntime) -> Result<(), Fail> {
 #[test]
 fn bounds_the_source(rt: HostRuntime) -> Result<(), Fail> {
     let alloc = rt.alloc();
-    let mut source = vec![in alloc; b'%'; 4_194_304]?;
+    let mut source = vec![in alloc; b'%'; MAX_SOURCE]?;
     assert_eq!(rt; tokens(alloc, &source)?.len(), 0);
     source.push(b'%')?;
     assert_eq!(rt; tokens(alloc, &source).err(), Some(TokenError::TooLong));

@@ -28,10 +28,10 @@ pub struct Token {
     pub start: u32,
     /// The offset past its last byte.
     pub end: u32,
-    ghost ascii: { character_of kind < 128 },
+    ghost ascii: { character_code kind < 128 },
 }
 
-ghost use Rattle.mt_token.specs.Character.{character_of};
+ghost use Rattle.mt_token.specs.Character.{character_code};
 
 /// A list of tokens.
 pub type TokenList = Items<Token>;
@@ -45,7 +45,7 @@ pub enum TokenError {
     /// Another byte that cannot stand there.
     #[error("byte {0} cannot stand there")]
     BadByte(u32),
-    /// The source has more than 4,194,304 bytes.
+    /// The source has more than [`crate::MAX_SOURCE`] bytes.
     #[error("the source is too long")]
     TooLong,
     /// Memory ran out.
@@ -67,11 +67,10 @@ impl TokenKind {
         ensures { IfOk result (λ kind. kind ≡ self.now) }
     {
         match self {
-            TokenKind::Control(name) => {
-                let mut bytes = Vec::new(alloc);
-                bytes.extend_from_slice(name.as_slice())?;
-                Ok(TokenKind::Control(Name::from_vec(bytes)))
-            }
+            TokenKind::Control(name) => Ok(TokenKind::Control(Name::from_slice(
+                alloc,
+                name.as_slice(),
+            )?)),
             TokenKind::Char(c) => Ok(TokenKind::Char(*c)),
             TokenKind::Space => Ok(TokenKind::Space),
         }

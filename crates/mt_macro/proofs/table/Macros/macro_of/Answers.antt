@@ -1,7 +1,7 @@
 use Rattle.std.proofs.Common.{ℕ, Vec, Global, ap, ◌∙◌}
 use Rattle.mt_macro.proofs.Named.{lookup_named, named_short}
 use Rattle.mt_macro.specs.Table.{Table, macro_of}
-use Rattle.mt_macro.proofs.table.Macros.named.Goals as goal
+use Rattle.mt_macro.proofs.table.Macros.macro_of.Goals as goal
 
 pub returns-clause-is : goal.returns-clause-is
 returns-clause-is c = c.get.ensures.value ∙ (lookup_named (λ (k : Vec ℕ Global). k.items) c.args.name.now c.self.inside.by_name.entries ∙ ap (λ (t : Table). macro_of t c.args.name.now) c.self.view_is)

@@ -1,17 +1,17 @@
--- Places in a list whose first tokens are passed.
+-- Indexes in a list whose first tokens are passed.
 use Rattle.std.proofs.Common.{◌≡◌, ℕ, ◌+◌, refl, ap, arith}
 use Rattle.std.specs.Prelude.{Option, Some, None}
 use Rattle.std.specs.Option.{option_map}
-use Rattle.mt_macro.specs.Braces.{next_place}
+use Rattle.mt_macro.specs.Braces.{next_index}
 
 abbrev pub shifted : ℕ → Option ℕ → Option ℕ
-shifted at place = option_map (λ (p : ℕ). p + at) place
+shifted at index = option_map (λ (p : ℕ). p + at) index
 
-pub shifted_none : (place : Option ℕ) → place ≡ shifted 0 place
+pub shifted_none : (index : Option ℕ) → index ≡ shifted 0 index
 shifted_none None = refl
 shifted_none (Some p) = ap Some (let e : p ≡ p + 0 = omega arith in e)
 
-pub shifted_next : (at : ℕ) (place : Option ℕ) → shifted at (next_place place) ≡ shifted (at + 1) place
+pub shifted_next : (at : ℕ) (index : Option ℕ) → shifted at (next_index index) ≡ shifted (at + 1) index
 shifted_next at None = refl
 shifted_next at (Some p) = ap Some (let e : p + 1 + at ≡ p + (at + 1) = omega arith in e)
 

@@ -1,5 +1,5 @@
 use Rattle.std.proofs.Common.{◌≡◌, take}
-use Rattle.mt_macro.proofs.table.copied.Given as goal
+use Rattle.mt_macro.proofs.table.copy_body.Given as goal
 
 abbrev pub invariant-loop-token : goal.invariant-loop-token
 invariant-loop-token l = l.tokens.items ≡ take l.token-index l.list

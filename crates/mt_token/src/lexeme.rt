@@ -1,6 +1,6 @@
-//! The piece of a source that stands in front: bytes without a token, a token, or a fault.
+//! The lexeme of a source that stands in front: bytes without a token, a token, or a fault.
 ghost use Rattle.std.specs.Prelude.{◌≡◌, ◌<◌, ◌≤◌, ◌+◌, ◌==◌, IfOk, length};
-ghost use Rattle.mt_token.specs.Pieces.{is_letter, is_visible, line_end, letters, comment, piece, piece_after_escape, Fits};
+ghost use Rattle.mt_token.specs.Lexemes.{is_letter, is_visible, line_end, letters, comment, lexeme, lexeme_after_escape, Fits};
 
 use crate::token::TokenKind;
 use mt_scaled::Name;
@@ -19,7 +19,7 @@ pub enum State {
 
 /// What stands in front of a rest of the source.
 #[derive(Debug, Drop)]
-pub enum Piece {
+pub enum Lexeme {
     /// So many bytes that give no token, and the state after them.
     Passed(usize, State),
     /// A token, its number of bytes, and the state after it.
@@ -84,71 +84,63 @@ fn line_end(rest: &[u8]) -> usize
     }
 }
 
-fn name_of(alloc: Global, bytes: &[u8]) -> Result<Name, AllocError>
-    ensures { IfOk result (λ name. name ≡ bytes.now) }
-{
-    let mut name = Vec::new(alloc);
-    name.extend_from_slice(bytes)?;
-    Ok(Name::from_vec(name))
-}
-
-// The piece at a `\`, by what follows it.
-fn piece_after_escape(alloc: Global, after: &[u8]) -> Result<Piece, AllocError>
-    ensures is { IfOk result (λ p. p ≡ piece_after_escape after.now) }
+// The lexeme at a `\`, by what follows it.
+fn lexeme_after_escape(alloc: Global, after: &[u8]) -> Result<Lexeme, AllocError>
+    ensures is { IfOk result (λ p. p ≡ lexeme_after_escape after.now) }
     ensures fits { IfOk result (Fits (length after.now + 1)) }
 {
     let count = letters(after);
     if count > 0 {
-        return Ok(Piece::Made(
-            TokenKind::Control(name_of(alloc, &after[..count])?),
+        return Ok(Lexeme::Made(
+            TokenKind::Control(Name::from_slice(alloc, &after[..count])?),
             count + 1,
             State::Skip,
         ));
     }
     if line_end(after) > 0 {
-        return Ok(Piece::BadByte(0));
+        return Ok(Lexeme::BadByte(0));
     }
     match after {
-        [] | [b'\t' | b' ', ..] => Ok(Piece::BadByte(0)),
-        [b, ..] if is_visible(*b) => Ok(Piece::Made(
-            TokenKind::Control(name_of(alloc, &after[..1])?),
+        [] | [b'\t' | b' ', ..] => Ok(Lexeme::BadByte(0)),
+        [b, ..] if is_visible(*b) => Ok(Lexeme::Made(
+            TokenKind::Control(Name::from_slice(alloc, &after[..1])?),
             2,
             State::Middle,
         )),
-        [b, ..] if *b > 127 => Ok(Piece::NotAscii(1)),
-        _ => Ok(Piece::BadByte(1)),
+        [b, ..] if *b > 127 => Ok(Lexeme::NotAscii(1)),
+        _ => Ok(Lexeme::BadByte(1)),
     }
 }
 
-/// The piece in front of a rest that is not empty.
-pub fn next_piece(alloc: Global, state: State, rest: &[u8]) -> Result<Piece, AllocError>
+/// The lexeme in front of a rest that is not empty.
+pub fn next_lexeme(alloc: Global, state: State, rest: &[u8]) -> Result<Lexeme, AllocError>
     requires { 0 < length rest.now }
-    ensures is { IfOk result (λ p. p ≡ piece state rest.now) }
+    ensures is { IfOk result (λ p. p ≡ lexeme state rest.now) }
     ensures fits { IfOk result (Fits (length rest.now)) }
 {
     let end = line_end(rest);
     if end > 0 {
         return match state {
-            State::New => Ok(Piece::Made(
-                TokenKind::Control(name_of(alloc, b"par")?),
+            State::New => Ok(Lexeme::Made(
+                TokenKind::Control(Name::from_slice(alloc, b"par")?),
                 end,
                 State::New,
             )),
-            State::Middle => Ok(Piece::Made(TokenKind::Space, end, State::New)),
-            State::Skip => Ok(Piece::Passed(end, State::New)),
+            State::Middle => Ok(Lexeme::Made(TokenKind::Space, end, State::New)),
+            State::Skip => Ok(Lexeme::Passed(end, State::New)),
         };
     }
     match rest {
         [b'\t' | b' ', ..] => match state {
-            State::Middle => Ok(Piece::Made(TokenKind::Space, 1, State::Skip)),
-            other => Ok(Piece::Passed(1, other)),
+            State::Middle => Ok(Lexeme::Made(TokenKind::Space, 1, State::Skip)),
+            other => Ok(Lexeme::Passed(1, other)),
         },
-        [b'%', after @ ..] => Ok(Piece::Passed(1 + comment(after), State::New)),
-        [b'\\', after @ ..] => piece_after_escape(alloc, after),
-        [b'^', b'^', ..] => Ok(Piece::BadByte(1)),
-        [b'~', ..] => Ok(Piece::BadByte(0)),
-        [b, ..] if is_visible(*b) => Ok(Piece::Made(TokenKind::Char(*b), 1, State::Middle)),
-        [b, ..] if *b > 127 => Ok(Piece::NotAscii(0)),
-        _ => Ok(Piece::BadByte(0)),
+        [b'%', after @ ..] => Ok(Lexeme::Passed(1 + comment(after), State::New)),
+        [b'\\', after @ ..] => lexeme_after_escape(alloc, after),
+        [b'^', b'^', ..] => Ok(Lexeme::BadByte(1)),
+        [b'~', ..] => Ok(Lexeme::BadByte(0)),
+        [b, ..] if is_visible(*b) => Ok(Lexeme::Made(TokenKind::Char(*b), 1, State::Middle)),
+        [b, ..] if *b > 127 => Ok(Lexeme::NotAscii(0)),
+        _ => Ok(Lexeme::BadByte(0)),
     }
 }

@@ -7,12 +7,12 @@ Appends before None bytes = ⊤
 Appends None (Some now) bytes = ⊥
 Appends (Some before) (Some now) bytes = now ≡ before ++ bytes
 
--- the bytes of a piece that a put took
-abbrev pub taken : {E : Type 0} → Result ℕ E → List ℕ → List ℕ
-taken (Ok count) piece = take count piece
-taken (Err e) piece = []
+-- the first bytes of a piece, those that a put took
+abbrev pub put_prefix : {E : Type 0} → Result ℕ E → List ℕ → List ℕ
+put_prefix (Ok count) piece = take count piece
+put_prefix (Err e) piece = []
 
--- the bytes that a row of puts took
-abbrev pub taken_all : {T : Type 0} → Result T ℕ → List ℕ → List ℕ
-taken_all (Ok done) bytes = bytes
-taken_all (Err count) bytes = take count bytes
+-- the first bytes, those that a row of puts took
+abbrev pub write_prefix : {T : Type 0} → Result T ℕ → List ℕ → List ℕ
+write_prefix (Ok done) bytes = bytes
+write_prefix (Err count) bytes = take count bytes

@@ -1,0 +1,6 @@
+use Rattle.std.proofs.Common.{◌≡◌, take}
+use Rattle.mt_macro.specs.Arguments.{tokens_of}
+use Rattle.mt_macro.proofs.expansion.copy_tokens.Given as goal
+
+abbrev pub invariant-loop-token : goal.invariant-loop-token
+invariant-loop-token l = l.tokens.items ≡ tokens_of (take l.token-index l.list)
