@@ -4,7 +4,7 @@ use Rattle.mt_box.specs.Layout.{Layout}
 use Rattle.mt_box.specs.declared.packed.Node.{Node}
 use Rattle.mt_box.specs.declared.packed.Node.TheVariants.{Glyph as GlyphNode, Rule as RuleNode, Boxed as BoxNode}
 use Rattle.mt_box.specs.declared.piece.Piece.{Piece}
-use Rattle.mt_box.specs.declared.piece.Piece.TheVariants.{Glyph as GlyphPiece, Boxed as BoxPiece, Kern, Space}
+use Rattle.mt_box.specs.declared.piece.Piece.TheVariants as piece
 use Rattle.mt_box.specs.declared.rows.Pen.{Pen}
 use Rattle.mt_box.specs.tree.Nodes.{FitsIn, AllFit, places_of_nodes}
 use Rattle.mt_box.specs.tree.Pen.{pen_extents}
@@ -27,20 +27,20 @@ level_low [] = omega arith
 level_low (q ∷ qs) = omega (arith, level_low qs)
 
 level_of_modest : (q : Piece) → IsModest q → level_of_piece q + 1 ≤ 2 ^ 20
-level_of_modest (GlyphPiece f c e) h = omega arith
-level_of_modest (BoxPiece r b) h = omega (arith, h.1)
-level_of_modest (Kern k) h = omega arith
-level_of_modest (Space w s) h = omega arith
+level_of_modest (piece.Glyph f c e) h = omega arith
+level_of_modest (piece.Boxed r b) h = omega (arith, h.1)
+level_of_modest (piece.Kern k) h = omega arith
+level_of_modest (piece.Space w s) h = omega arith
 
 level_of_row : (row : List Piece) → AllModest row → row_level row ≤ 2 ^ 20
 level_of_row [] h = omega arith
 level_of_row (q ∷ qs) h = omega (arith, level_of_modest q h.0, level_of_row qs h.1)
 
 measurable_one : (q : Piece) → IsModest q → IsMeasurable q
-measurable_one (GlyphPiece f c e) h = h
-measurable_one (BoxPiece r b) h = h.0
-measurable_one (Kern k) h = h
-measurable_one (Space w s) h = h
+measurable_one (piece.Glyph f c e) h = h
+measurable_one (piece.Boxed r b) h = h.0
+measurable_one (piece.Kern k) h = h
+measurable_one (piece.Space w s) h = h
 
 pub measurable : (row : List Piece) → AllModest row → AllMeasurable row
 measurable [] h = tt

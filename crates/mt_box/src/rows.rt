@@ -10,7 +10,6 @@ ghost use Rattle.mt_box.specs.Packs.{Packs};
 
 use crate::packed::{Node, seal};
 use crate::{Extents, PackError, Packed, Piece, Row};
-use mt_scaled::Length;
 use std::alloc::{AllocError, Global};
 
 /// The row packed: the box of its pieces, each directly to the right of the one before it.
@@ -64,23 +63,21 @@ pub fn shrink_of(row: &Row) -> i64
     ensures is { result ≡ row_shrink (piece_values row.now) }
     ensures small { Within (2 ^ 61) result }
 {
-    let mut total = Length { sp: 0 };
+    let mut total = 0;
     for piece in row.as_slice() {
         total = with_shrink(total, piece);
     }
-    total.sp
+    total
 }
 
 #[tactic(auto, using(std::proofs::lemmas::Int::ints))]
-fn with_shrink(total: Length, piece: &Piece) -> Length
+fn with_shrink(total: i64, piece: &Piece) -> i64
     requires measurable { IsMeasurable piece.now }
-    requires total { Within (2 ^ 61) total.sp }
-    ensures is { result.sp ≡ total.sp +ℤ piece_shrink (piece_value piece.now) }
+    requires total { Within (2 ^ 61) total }
+    ensures is { result ≡ total +ℤ piece_shrink (piece_value piece.now) }
 {
     match piece {
-        Piece::Space { shrink, .. } => Length {
-            sp: total.sp + *shrink,
-        },
+        Piece::Space { shrink, .. } => total + *shrink,
         _ => total,
     }
 }

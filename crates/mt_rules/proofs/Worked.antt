@@ -1,38 +1,60 @@
--- Worked cases: styles, final classes and spaces of known formulas.
-use Rattle.std.proofs.Common.{◌≡◌, [], ◌∷◌, refl, true, pos, None}
-use Rattle.mt_rules.specs.declared.class.Class.TheVariants.{Ord, Op, Bin, Rel, Open, Close, Punct, Inner}
+-- Worked cases: classes, styles and spaces of known formulas.
+use Rattle.std.proofs.Common.{◌≡◌, refl, true, pos, Some, None}
+use Rattle.mt_rules.specs.declared.class.Class.TheVariants.{Ord, Op, Bin, Rel, Open, Close, Inner}
 use Rattle.mt_rules.specs.declared.kind.Kind.TheVariants.{Plain, Radical}
 use Rattle.mt_rules.specs.declared.kind.Limits.{Limits}
 use Rattle.mt_rules.specs.declared.symbol.Delim.{Delim}
 use Rattle.mt_rules.specs.declared.style.Style.TheVariants.{D, T, S, Sc, Ss}
-use Rattle.mt_rules.specs.Classes.{final_classes, own_classes}
-use Rattle.mt_rules.specs.Sequence.{Sequence, Part, End, More, AtomElement, FractionElement, LeftElement, RightElement, KernElement, EmptyPart}
+use Rattle.mt_rules.specs.Classes.{forward_of, settled_of, own_class}
+use Rattle.mt_rules.specs.Sequence.{Sequence, Part, AtomElement, FractionElement, LeftElement, RightElement, KernElement, EmptyPart}
 use Rattle.mt_rules.specs.Styles.{sup_of, sub_of, num_of, den_of}
 use Rattle.mt_rules.specs.Spaces.{never_meet, spacing, NoSpacing, ThinSpacing, MediumSpacing}
 
--- a + b keeps its sum, + b and a + = b have none, and (-a, b+) has two signs
-a_plus_b : final_classes (Ord ∷ Bin ∷ Ord ∷ []) ≡ Ord ∷ Bin ∷ Ord ∷ []
-a_plus_b = refl
+-- a + b keeps its sum
+sum_after_a : forward_of (Some Ord) Bin ≡ Bin
+sum_after_a = refl
 
-plus_b : final_classes (Bin ∷ Ord ∷ []) ≡ Ord ∷ Ord ∷ []
-plus_b = refl
+sum_before_b : settled_of Bin (Some Ord) ≡ Bin
+sum_before_b = refl
 
-a_plus_equals_b : final_classes (Ord ∷ Bin ∷ Rel ∷ Ord ∷ []) ≡ Ord ∷ Ord ∷ Rel ∷ Ord ∷ []
-a_plus_equals_b = refl
+-- + b, (+ b and the second sign of a + - b have none at their left
+sign_at_the_start : forward_of None Bin ≡ Ord
+sign_at_the_start = refl
 
-in_parentheses : final_classes (Open ∷ Bin ∷ Ord ∷ Punct ∷ Ord ∷ Bin ∷ Close ∷ []) ≡ Open ∷ Ord ∷ Ord ∷ Punct ∷ Ord ∷ Ord ∷ Close ∷ []
-in_parentheses = refl
+sign_after_an_opening : forward_of (Some Open) Bin ≡ Ord
+sign_after_an_opening = refl
 
--- the second of two signs is ordinary
-a_plus_minus_b : final_classes (Ord ∷ Bin ∷ Bin ∷ Ord ∷ []) ≡ Ord ∷ Bin ∷ Ord ∷ Ord ∷ []
-a_plus_minus_b = refl
+sign_after_a_sum : forward_of (Some Bin) Bin ≡ Ord
+sign_after_a_sum = refl
 
--- between boundaries a square root, a sign, a kern and a fraction: all but the kern have a class of their own
-between_boundaries : (d : Delim) (l : Limits) (n : Part) (s : Sequence) → own_classes (More (LeftElement d) (More (AtomElement (Radical d) l n EmptyPart EmptyPart) (More (AtomElement (Plain Bin) l n EmptyPart EmptyPart) (More (KernElement (pos 5)) (More (FractionElement None d d s s) (More (RightElement d) End)))))) ≡ Open ∷ Ord ∷ Bin ∷ Inner ∷ Close ∷ []
-between_boundaries d l n s = refl
+-- a + = b, a +) and a + have none at their right
+sign_before_a_relation : settled_of Bin (Some Rel) ≡ Ord
+sign_before_a_relation = refl
 
-no_atoms : own_classes (More (KernElement (pos 5)) End) ≡ []
-no_atoms = refl
+sign_before_a_closing : settled_of Bin (Some Close) ≡ Ord
+sign_before_a_closing = refl
+
+sign_at_the_end : settled_of Bin None ≡ Ord
+sign_at_the_end = refl
+
+-- a square root, a sign, a kern, a fraction and the boundaries round them: all but the kern have a class of their own
+square_root : (d : Delim) (l : Limits) (n : Part) → own_class (AtomElement (Radical d) l n EmptyPart EmptyPart) ≡ Some Ord
+square_root d l n = refl
+
+sign : (l : Limits) (n : Part) → own_class (AtomElement (Plain Bin) l n EmptyPart EmptyPart) ≡ Some Bin
+sign l n = refl
+
+kern : own_class (KernElement (pos 5)) ≡ None
+kern = refl
+
+fraction : (d : Delim) (s : Sequence) → own_class (FractionElement None d d s s) ≡ Some Inner
+fraction d s = refl
+
+left_boundary : (d : Delim) → own_class (LeftElement d) ≡ Some Open
+left_boundary d = refl
+
+right_boundary : (d : Delim) → own_class (RightElement d) ≡ Some Close
+right_boundary d = refl
 
 -- a fraction in display style has parts in text style, one in text style parts in script style
 display_numerator : num_of D ≡ T

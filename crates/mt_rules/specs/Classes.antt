@@ -1,10 +1,11 @@
--- The classes of the atoms of a list (The TeXbook, chapter 17; Appendix G, rules 5 and 6).
-use Rattle.std.specs.Prelude.{Bool, true, false, if◌then◌else◌, List, [], ◌∷◌, Option, Some, None}
+-- The classes of atoms (The TeXbook, chapter 17; Appendix G, rules 5 and 6): from the left an atom gets the class
+-- `forward_of`, by what the atom before it has got; then the final class `settled_of`, by what the atom after it has got.
+use Rattle.std.specs.Prelude.{Bool, true, false, if◌then◌else◌, Option, Some, None}
 use Rattle.mt_rules.specs.declared.class.Class.{Class}
 use Rattle.mt_rules.specs.declared.class.Class.TheVariants.{Ord, Op, Bin, Rel, Open, Close, Punct, Inner}
 use Rattle.mt_rules.specs.declared.kind.Kind.{Kind}
 use Rattle.mt_rules.specs.declared.kind.Kind.TheVariants.{Plain}
-use Rattle.mt_rules.specs.Sequence.{Sequence, Element, End, More, AtomElement, FractionElement, LeftElement, RightElement}
+use Rattle.mt_rules.specs.Sequence.{Element, AtomElement, FractionElement, LeftElement, RightElement}
 
 -- a binary operation has no left operand after these
 abbrev pub blocks_left : Class → Bool
@@ -30,34 +31,15 @@ abbrev pub bin_before : Option Class → Class
 bin_before None = Ord
 bin_before (Some after) = if blocks_right after then Ord else Bin
 
--- the class of an atom where the atom before it, if there is one, has by now this class
+-- the class of an atom after the atom before it, if there is one, which has got this class from the left
 abbrev pub forward_of : Option Class → Class → Class
 forward_of before Bin = bin_after before
 forward_of before own = own
 
--- the final class of an atom where the atom after it, if there is one, has by then this class
+-- the final class of an atom before the atom after it, if there is one, which has got this class from the left
 abbrev pub settled_of : Class → Option Class → Class
 settled_of Bin after = bin_before after
 settled_of own after = own
-
--- from left to right: each atom after the one before it
-abbrev pub forwards : Option Class → List Class → List Class
-forwards before [] = []
-forwards before (own ∷ classes) = forward_of before own ∷ forwards (Some (forward_of before own)) classes
-
--- the first class of a list, or else what follows the list
-abbrev pub first_or : List Class → Option Class → Option Class
-first_or [] after = after
-first_or (class ∷ classes) after = Some class
-
--- then each atom before the one after it
-abbrev pub settled_before : Option Class → List Class → List Class
-settled_before after [] = []
-settled_before after (own ∷ classes) = settled_of own (first_or classes after) ∷ settled_before after classes
-
--- the final classes of atoms with these classes of their own
-abbrev pub final_classes : List Class → List Class
-final_classes own = settled_before None (forwards None own)
 
 -- The class of its own that an element has, if it counts as an atom: a boundary does, spaces and styles do not.
 abbrev pub kind_class : Kind → Class
@@ -70,11 +52,3 @@ own_class (FractionElement thickness left right num den) = Some Inner
 own_class (LeftElement delim) = Some Open
 own_class (RightElement delim) = Some Close
 own_class _ = None
-
-abbrev pub joined_class : Option Class → List Class → List Class
-joined_class None classes = classes
-joined_class (Some class) classes = class ∷ classes
-
-abbrev pub own_classes : Sequence → List Class
-own_classes End = []
-own_classes (More e s) = joined_class (own_class e) (own_classes s)

@@ -1,7 +1,7 @@
 ghost use Rattle.std.specs.Prelude.{◌≡◌};
 ghost use Rattle.mt_rules.specs.Spaces.{never_meet};
 
-use crate::{Gap, forward, math_glue, set_final_classes, settled, space_between};
+use crate::{Gap, forward, math_glue, settled, space_between};
 use mt_rules::{Class, Glue, Style};
 use std::process::Abort;
 
@@ -88,13 +88,12 @@ fn the_cells_of_the_table(rt: HostRuntime) {
 #[test]
 fn classes_of_known_formulas(rt: HostRuntime) {
     // a + = b
-    let mut classes = [Class::Ord, Class::Bin, Class::Rel, Class::Ord];
-    set_final_classes(&mut classes);
-    assert_eq!(rt; classes, [Class::Ord, Class::Ord, Class::Rel, Class::Ord]);
+    assert_eq!(rt; forward(Some(Class::Ord), Class::Bin), Class::Bin);
+    assert_eq!(rt; settled(Class::Bin, Some(Class::Rel)), Class::Ord);
     // a + - b
-    let mut classes = [Class::Ord, Class::Bin, Class::Bin, Class::Ord];
-    set_final_classes(&mut classes);
-    assert_eq!(rt; classes, [Class::Ord, Class::Bin, Class::Ord, Class::Ord]);
+    assert_eq!(rt; forward(Some(Class::Bin), Class::Bin), Class::Ord);
+    assert_eq!(rt; settled(Class::Bin, Some(Class::Ord)), Class::Bin);
+    // a sum, and a sign after it
     assert_eq!(rt; forward(Some(Class::Op), Class::Bin), Class::Ord);
     assert_eq!(rt; settled(Class::Bin, Some(Class::Open)), Class::Bin);
 }
