@@ -1,3 +1,6 @@
+-- lists of items and rows, and what they are seen as
 pub mod Lists
+-- cramped styles
 pub mod Styles
+-- the definitions on known formulas
 mod Worked

@@ -1,5 +1,5 @@
--- What every math list keeps: a left boundary stands only first and a right one only last, both or neither; the lists of
--- a choice have no boundaries; rows are the nucleus of each vcenter atom, and stand nowhere else.
+-- What every math list keeps (`IsMathList`): a left boundary stands only first and a right one only last, both or
+-- neither; the lists of a choice have no boundaries; rows are the nucleus of each vcenter atom, and stand nowhere else.
 use Rattle.std.specs.Prelude.{⊤}
 use Rattle.mt_rules.specs.declared.kind.Kind.{Kind}
 use Rattle.mt_rules.specs.declared.kind.Kind.TheVariants.{Vcenter}

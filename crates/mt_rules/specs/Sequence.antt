@@ -1,4 +1,4 @@
--- Math lists as contracts see them: a list is a sequence of elements, and what an atom's field holds is a part.
+-- Math lists as contracts see them: a list is a sequence (`Sequence`) of elements, and what an atom's field holds is a part.
 use Rattle.std.specs.Prelude.{ℕ, zero, suc, ℤ, ◌+◌, Option, Some, None}
 use Rattle.mt_rules.specs.declared.style.Style.{Style}
 use Rattle.mt_rules.specs.declared.symbol.Symbol.{Symbol}

@@ -1,4 +1,4 @@
--- What the types of the program are seen as.
+-- What the types of the code are seen as: a list of items as a sequence (`sequence_of`), an item as an element (`element_of`).
 use Rattle.std.specs.Prelude.{List, [], ◌∷◌}
 use Rattle.mt_rules.specs.Sequence.{Sequence, Element, Part, End, More, AtomElement, FractionElement, LeftElement, RightElement, StyleElement, ChoiceElement, MuSpaceElement, SpaceElement, MuKernElement, KernElement, NonscriptElement, EmptyPart, SymbolPart, ListPart, RowsPart}
 use Rattle.mt_rules.specs.declared.list.Atom.{Atom as AtomFields}

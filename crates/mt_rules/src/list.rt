@@ -119,7 +119,7 @@ impl Model for MathList {
 
     ghost Value = { Sequence };
 
-    ghost use Rattle.mt_rules.specs.Steps.{BuildStep, steps, sequence_from, sequence_from-steps};
+    ghost use Rattle.mt_rules.specs.nesting.Steps.{BuildStep, steps, sequence_from, sequence_from-steps};
     ghost use Rattle.std.specs.Prelude.{List};
     ghost use Rattle.std.specs.Coded.{codes, code_by, coded_list};
 
@@ -136,7 +136,7 @@ impl Model for MathList {
 
     ghost size = { sequence_size };
 
-    ghost use Rattle.mt_rules.specs.Falls.{falls};
+    ghost use Rattle.mt_rules.specs.nesting.Falls.{falls};
 
     ghost size_decreases = { λ l h. falls l.items.items };
 }
@@ -146,7 +146,7 @@ impl Model for RowList {
 
     ghost Value = { Rows };
 
-    ghost use Rattle.mt_rules.specs.Steps.{BuildStep, steps_of_rows, rows_from, rows_from-steps};
+    ghost use Rattle.mt_rules.specs.nesting.Steps.{BuildStep, steps_of_rows, rows_from, rows_from-steps};
     ghost use Rattle.std.specs.Prelude.{List};
     ghost use Rattle.std.specs.Coded.{codes, code_by, coded_list};
 
@@ -160,7 +160,7 @@ impl Model for RowList {
 
     ghost size = { rows_size };
 
-    ghost use Rattle.mt_rules.specs.RowsFall.{rows_fall};
+    ghost use Rattle.mt_rules.specs.nesting.RowsFall.{rows_fall};
 
     ghost size_decreases = { λ l h. rows_fall l.rows.items };
 }

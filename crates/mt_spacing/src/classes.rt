@@ -10,6 +10,7 @@ use mt_rules::Class;
 /// start of a list. A left boundary counts as [`Class::Open`] (The TeXbook, Appendix G, rule 5).
 ///
 /// Whatever comes after these two atoms, the final classes that [`settled`] gives them can stand side by side.
+#[tactic(auto, using(crate::proofs::Neighbours::can_meet))]
 pub fn forward(before: Option<Class>, own: Class) -> Class
     ensures is { result ≡ forward_of before own }
     ensures meets { (left : Class) → before ≡ Some left → CanMeet left result }
