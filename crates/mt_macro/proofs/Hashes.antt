@@ -2,7 +2,7 @@
 use Rattle.std.proofs.Common.{◌≡◌, ℕ, ◌+◌, true, false, List, [], ◌∷◌, length, refl, sym, ap, ◌∙◌, arith}
 use Rattle.std.specs.Prelude.{Some, None, not, ◌&&◌}
 use Rattle.mt_token.specs.declared.token.Token.{Token}
-use Rattle.mt_macro.specs.Braces.{next_index}
+use Rattle.mt_macro.specs.Braces.{index_after_first}
 use Rattle.mt_macro.specs.Parameters.{is_hash, begins_with_parameter, first_bad_parameter}
 use Rattle.mt_macro.proofs.Indexes.{shifted, shifted_none, shifted_next, shifted_here}
 
@@ -17,7 +17,7 @@ looking_start params body = record { is = shifted_none _; size = omega arith }
 bad_here : (params : ℕ) (t : Token) (rest : List Token) → is_hash t && not (begins_with_parameter params rest) ≡ true → first_bad_parameter params (t ∷ rest) ≡ Some 0
 bad_here params t rest e = rw e refl
 
-bad_later : (params : ℕ) (t : Token) (rest : List Token) → is_hash t && not (begins_with_parameter params rest) ≡ false → first_bad_parameter params (t ∷ rest) ≡ next_index (first_bad_parameter params rest)
+bad_later : (params : ℕ) (t : Token) (rest : List Token) → is_hash t && not (begins_with_parameter params rest) ≡ false → first_bad_parameter params (t ∷ rest) ≡ index_after_first (first_bad_parameter params rest)
 bad_later params t rest e = rw e refl
 
 pub looking_bad : (params at : ℕ) (body rest rest' : List Token) (t : Token) → Looking params body at rest → rest ≡ t ∷ rest' → is_hash t && not (begins_with_parameter params rest') ≡ true → Some at ≡ first_bad_parameter params body

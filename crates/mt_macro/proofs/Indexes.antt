@@ -2,7 +2,7 @@
 use Rattle.std.proofs.Common.{◌≡◌, ℕ, ◌+◌, refl, ap, arith}
 use Rattle.std.specs.Prelude.{Option, Some, None}
 use Rattle.std.specs.Option.{option_map}
-use Rattle.mt_macro.specs.Braces.{next_index}
+use Rattle.mt_macro.specs.Braces.{index_after_first}
 
 abbrev pub shifted : ℕ → Option ℕ → Option ℕ
 shifted at index = option_map (λ (p : ℕ). p + at) index
@@ -11,7 +11,7 @@ pub shifted_none : (index : Option ℕ) → index ≡ shifted 0 index
 shifted_none None = refl
 shifted_none (Some p) = ap Some (let e : p ≡ p + 0 = omega arith in e)
 
-pub shifted_next : (at : ℕ) (index : Option ℕ) → shifted at (next_index index) ≡ shifted (at + 1) index
+pub shifted_next : (at : ℕ) (index : Option ℕ) → shifted at (index_after_first index) ≡ shifted (at + 1) index
 shifted_next at None = refl
 shifted_next at (Some p) = ap Some (let e : p + 1 + at ≡ p + (at + 1) = omega arith in e)
 

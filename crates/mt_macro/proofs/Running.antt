@@ -8,10 +8,10 @@ use Rattle.mt_macro.specs.declared.table.Macro.{Macro}
 use Rattle.mt_macro.specs.Table.{Table, macro_at}
 use Rattle.std.specs.Borrow.{Bor}
 use Rattle.mt_macro.specs.Limits.{max_tokens, max_steps}
-use Rattle.mt_macro.specs.Arguments.{Arguments, arguments, fill, tokens_of}
+use Rattle.mt_macro.specs.Arguments.{Arguments, arguments, fill, tokens_behind}
 use Rattle.mt_macro.specs.Expansion.{MacroStep, Done, Missing, Next, past, macro_step, macro_step_at, replacement, Expansion, Expanded, OverBudget, NoArgument, at_last, further, within_budget, run, ExceedsBudget, FitsBudget}
 
-pub lent_length : (ts : List (Bor Token)) → length (tokens_of ts) ≡ length ts
+pub lent_length : (ts : List (Bor Token)) → length (tokens_behind ts) ≡ length ts
 lent_length [] = refl
 lent_length (t ∷ ts) = ap suc (lent_length ts)
 

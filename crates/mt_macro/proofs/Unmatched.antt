@@ -4,7 +4,7 @@ use Rattle.std.specs.Prelude.{Option, Some, None, IfSome, is_some, is_none, ◌=
 use Rattle.std.proofs.lemmas.Bool.Decides.{nat_tests}
 use Rattle.std.proofs.lemmas.List.{take_all}
 use Rattle.mt_token.specs.declared.token.Token.{Token}
-use Rattle.mt_macro.specs.Braces.{Taken, onto, group, level_after, is_open, is_close, next_index, first_unmatched}
+use Rattle.mt_macro.specs.Braces.{Taken, onto, group, level_after, is_open, is_close, index_after_first, first_unmatched}
 use Rattle.mt_macro.proofs.Indexes.{shifted, shifted_none, shifted_next, shifted_here}
 
 not_both : (t : Token) → is_open t ≡ true → is_close t ≡ false
@@ -83,7 +83,7 @@ none_of_some (Some x) = refl
 unmatched_here : (level : ℕ) (t : Token) (rest : List Token) → (is_open t && is_none (group 0 rest)) || (is_close t && (level == 0)) ≡ true → first_unmatched level (t ∷ rest) ≡ Some 0
 unmatched_here level t rest e = rw e refl
 
-unmatched_later : (level : ℕ) (t : Token) (rest : List Token) → (is_open t && is_none (group 0 rest)) || (is_close t && (level == 0)) ≡ false → first_unmatched level (t ∷ rest) ≡ next_index (first_unmatched (level_after level t) rest)
+unmatched_later : (level : ℕ) (t : Token) (rest : List Token) → (is_open t && is_none (group 0 rest)) || (is_close t && (level == 0)) ≡ false → first_unmatched level (t ∷ rest) ≡ index_after_first (first_unmatched (level_after level t) rest)
 unmatched_later level t rest e = rw e refl
 
 test_open : (level : ℕ) (t : Token) (rest : List Token) (b : Bool) → is_open t ≡ true → is_none (group 0 rest) ≡ b → (is_open t && is_none (group 0 rest)) || (is_close t && (level == 0)) ≡ b
@@ -92,7 +92,7 @@ test_open level t rest false o e = rw (o, e, not_both t o) refl
 
 shifted_later : (level level' at : ℕ) (t : Token) (rest : List Token) → (is_open t && is_none (group 0 rest)) || (is_close t && (level == 0)) ≡ false → level_after level t ≡ level' → shifted at (first_unmatched level (t ∷ rest)) ≡ shifted (at + 1) (first_unmatched level' rest)
 shifted_later level level' at t rest e l =
-    ap (shifted at) (unmatched_later level t rest e ∙ ap (λ n. next_index (first_unmatched n rest)) l) ∙ shifted_next at _
+    ap (shifted at) (unmatched_later level t rest e ∙ ap (λ n. index_after_first (first_unmatched n rest)) l) ∙ shifted_next at _
 
 open_outside : (outermost at : ℕ) (t : Token) (rest : List Token) (b : Bool) → is_open t ≡ true → is_some (group 0 rest) ≡ b → watched 0 outermost at (t ∷ rest) ≡ watched 1 at (at + 1) rest
 unfolding watched
@@ -185,7 +185,7 @@ at_end (suc level) outermost at = rw (suc_zero level) refl
 pub watching_end : (list rest : List Token) (level outermost at : ℕ) → Watching list level outermost at rest → rest ≡ [] → first_unmatched 0 list ≡ cond (level == 0) None (Some outermost)
 watching_end list rest level outermost at w e = w.is ∙ (ap (watched level outermost at) e ∙ at_end level outermost at)
 
-next_within : (n : ℕ) (o : Option ℕ) → IfSome o (λ p. p < n) → IfSome (next_index o) (λ p. p < suc n)
+next_within : (n : ℕ) (o : Option ℕ) → IfSome o (λ p. p < n) → IfSome (index_after_first o) (λ p. p < suc n)
 next_within n None h = tt
 next_within n (Some p) h = omega (arith, h)
 

@@ -47,11 +47,11 @@ fill arguments (t ∷ []) = t ∷ []
 fill arguments (t ∷ u ∷ rest) = if is_hash t then get_or arguments (character_code u.kind - 49) [] ++ fill arguments rest else t ∷ fill arguments (u ∷ rest)
 
 -- the tokens behind references
-abbrev pub tokens_of : List (Bor Token) → List Token
-tokens_of ts = map (λ (t : Bor Token). t.now) ts
+abbrev pub tokens_behind : List (Bor Token) → List Token
+tokens_behind ts = map (λ (t : Bor Token). t.now) ts
 
-abbrev pub token_lists_of : List (List (Bor Token)) → List (List Token)
-token_lists_of vs = map (λ (v : List (Bor Token)). tokens_of v) vs
+abbrev pub token_lists_behind : List (List (Bor Token)) → List (List Token)
+token_lists_behind vs = map (λ (v : List (Bor Token)). tokens_behind v) vs
 
 -- what was taken, if anything, is this argument, and these tokens are left after it
 abbrev pub Takes : Option (List Token) → Option Taken → List Token → Type 0

@@ -3,7 +3,7 @@ ghost use Rattle.std.specs.Prelude.{◌≡◌, ◌<◌, ◌≤◌, ◌+◌, IfOk
 ghost use Rattle.mt_macro.specs.Limits.{max_steps, max_tokens};
 ghost use Rattle.mt_macro.specs.Braces.{first_unmatched};
 ghost use Rattle.mt_macro.specs.Table.{HasShortBody};
-ghost use Rattle.mt_macro.specs.Arguments.{tokens_of, arguments};
+ghost use Rattle.mt_macro.specs.Arguments.{tokens_behind, arguments};
 ghost use Rattle.mt_macro.specs.Expansion.{run, expansion, Expands, Replaces, replacement};
 ghost use Rattle.mt_macro.specs.declared.expansion.ExpandError.TheVariants.{OutOfMemory};
 
@@ -76,7 +76,7 @@ pub fn expand(alloc: Global, macros: &Macros, list: &[Token]) -> Result<TokenLis
 
 // The tokens behind references, in memory of their own.
 fn copy_tokens(alloc: Global, list: &[&Token]) -> Result<TokenList, AllocError>
-    ensures { IfOk result (λ tokens. tokens ≡ tokens_of list.now) }
+    ensures { IfOk result (λ tokens. tokens ≡ tokens_behind list.now) }
 {
     let mut tokens = Vec::new(alloc);
     for token in list {

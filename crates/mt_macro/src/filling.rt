@@ -1,7 +1,7 @@
 //! A body with arguments in place of its parameters.
 ghost use Rattle.std.specs.Prelude.{◌≡◌, ◌<◌, ◌≤◌, ◌+◌, ◌-◌, ◌^◌, ◌++◌, [], IfOk, OnOk, length, All, get_or};
 ghost use Rattle.mt_token.specs.Character.{character_code};
-ghost use Rattle.mt_macro.specs.Arguments.{fill, tokens_of, token_lists_of, IsShortArgument};
+ghost use Rattle.mt_macro.specs.Arguments.{fill, tokens_behind, token_lists_behind, IsShortArgument};
 
 use crate::arguments::{Argument, push_token};
 use crate::braces::character;
@@ -20,7 +20,7 @@ fn index_of(digit: &Token) -> usize
 // How many tokens a parameter's argument has, 0 where there is none.
 fn argument_len(arguments: &[Argument], digit: &Token) -> usize
     requires { All IsShortArgument arguments.now }
-    ensures is { result ≡ length (get_or (token_lists_of arguments.now) (character_code digit.now.kind - 49) []) }
+    ensures is { result ≡ length (get_or (token_lists_behind arguments.now) (character_code digit.now.kind - 49) []) }
     ensures short { result < 2 ^ 31 }
 {
     match arguments.get(index_of(digit)) {
@@ -33,7 +33,7 @@ fn argument_len(arguments: &[Argument], digit: &Token) -> usize
 pub fn fill_len(body: &[Token], arguments: &[Argument]) -> u64
     requires body { length body.now ≤ 2 ^ 32 }
     requires arguments { All IsShortArgument arguments.now }
-    ensures is { result ≡ length (fill (token_lists_of arguments.now) body.now) }
+    ensures is { result ≡ length (fill (token_lists_behind arguments.now) body.now) }
     ensures small { result ≤ 2 ^ 63 }
 {
     let mut count = 0;
@@ -59,7 +59,7 @@ pub fn fill<'a>(
     body: &'a [Token],
     arguments: &[Argument<'a>],
 ) -> Result<Vec<&'a Token>, AllocError>
-    ensures { IfOk result (λ tokens. tokens_of tokens.items ≡ fill (token_lists_of arguments.now) body.now) }
+    ensures { IfOk result (λ tokens. tokens_behind tokens.items ≡ fill (token_lists_behind arguments.now) body.now) }
 {
     let mut tokens = spare.take();
     let mut rest = body;
@@ -84,7 +84,7 @@ fn push_argument<'a>(
     arguments: &[Argument<'a>],
     digit: &Token,
 ) -> Result<(), AllocError>
-    ensures { OnOk result (tokens_of tokens.new.items ≡ tokens_of tokens.old.items ++ get_or (token_lists_of arguments.now) (character_code digit.now.kind - 49) []) }
+    ensures { OnOk result (tokens_behind tokens.new.items ≡ tokens_behind tokens.old.items ++ get_or (token_lists_behind arguments.now) (character_code digit.now.kind - 49) []) }
 {
     match arguments.get(index_of(digit)) {
         Some(argument) => push_slice(tokens, argument.as_slice()),
@@ -93,7 +93,7 @@ fn push_argument<'a>(
 }
 
 fn push_slice<'a>(tokens: &mut Vec<&'a Token>, more: &[&'a Token]) -> Result<(), AllocError>
-    ensures { OnOk result (tokens_of tokens.new.items ≡ tokens_of tokens.old.items ++ tokens_of more.now) }
+    ensures { OnOk result (tokens_behind tokens.new.items ≡ tokens_behind tokens.old.items ++ tokens_behind more.now) }
 {
     tokens.extend_from_slice(more)?;
     Ok(())

@@ -9,7 +9,7 @@ use Rattle.std.proofs.lemmas.List.{length-map}
 use Rattle.std.proofs.lemmas.Bool.{false_from_ne_true}
 use Rattle.std.proofs.lemmas.Map.Entries.{lookup_head, lookup_tail}
 use Rattle.std.proofs.lemmas.Slice.Eq.{bytes_eq-Decides}
-use Rattle.mt_token.specs.Tokens.{lexed, mark_of}
+use Rattle.mt_token.specs.Tokens.{source_tokens, spanned}
 use Rattle.mt_macro.specs.Table.{Table, macro_of, with_macro, is_own}
 use Rattle.mt_macro.specs.Definition.{body_fault}
 use Rattle.mt_plain.specs.MacroTexts.{MacroTexts, accent_macros, delimiter_macros, other_macros, family_macros, function_macros, limit_macros, macro_texts}
@@ -115,12 +115,12 @@ has_plain table put = in_either_order table (put.has [] (λ name. refl))
 
 -- texts of bodies, by evaluation
 module _ (ds : MacroTexts) where
-  pub are_body_texts : map (λ (d : List ℕ × List ℕ). lexed d.1) ds ≡ map (λ (d : List ℕ × List ℕ). Ok (map mark_of (body_of d.1))) ds
+  pub are_body_texts : map (λ (d : List ℕ × List ℕ). source_tokens d.1) ds ≡ map (λ (d : List ℕ × List ℕ). Ok (map spanned (body_of d.1))) ds
       → map (λ (d : List ℕ × List ℕ). body_fault 0 (body_of d.1)) ds ≡ map (λ (d : List ℕ × List ℕ). None) ds
       → map (λ (d : List ℕ × List ℕ). nat_le (length (body_of d.1)) 4294967296) ds ≡ map (λ (d : List ℕ × List ℕ). true) ds
       → AreBodyTexts ds
   are_body_texts lexes faultless short k d within = record {
-    lexes = sym (mapped_at (λ (d : List ℕ × List ℕ). lexed d.1) ds k d (Ok []) within) ∙ ap (λ l. get_or l k (Ok [])) lexes ∙ mapped_at (λ (d : List ℕ × List ℕ). Ok (map mark_of (body_of d.1))) ds k d (Ok []) within;
+    lexes = sym (mapped_at (λ (d : List ℕ × List ℕ). source_tokens d.1) ds k d (Ok []) within) ∙ ap (λ l. get_or l k (Ok [])) lexes ∙ mapped_at (λ (d : List ℕ × List ℕ). Ok (map spanned (body_of d.1))) ds k d (Ok []) within;
     faultless = sym (mapped_at (λ (d : List ℕ × List ℕ). body_fault 0 (body_of d.1)) ds k d None within) ∙ ap (λ l. get_or l k None) faultless ∙ mapped_at (λ (d : List ℕ × List ℕ). None) ds k d None within;
     short = leb-true _ _ (sym (mapped_at (λ (d : List ℕ × List ℕ). nat_le (length (body_of d.1)) 4294967296) ds k d true within) ∙ ap (λ l. get_or l k true) short ∙ mapped_at (λ (d : List ℕ × List ℕ). true) ds k d true within);
   }
@@ -149,6 +149,6 @@ pub limit_texts_lex : AreBodyTexts limit_macros
 unfolding limit_macros body_of
 limit_texts_lex = are_body_texts limit_macros refl refl refl
 
-pub all_texts_lex : map (λ (d : List ℕ × List ℕ). lexed d.1) macro_texts ≡ map (λ (d : List ℕ × List ℕ). Ok (map mark_of (body_of d.1))) macro_texts
+pub all_texts_lex : map (λ (d : List ℕ × List ℕ). source_tokens d.1) macro_texts ≡ map (λ (d : List ℕ × List ℕ). Ok (map spanned (body_of d.1))) macro_texts
 unfolding accent_macros delimiter_macros other_macros family_macros function_macros limit_macros macro_texts body_of
 all_texts_lex = refl

@@ -8,8 +8,8 @@ use Rattle.std.specs.Map.{lookup}
 use Rattle.mt_token.specs.declared.token.Token.{Token}
 use Rattle.mt_token.specs.declared.token.TokenKind.{TokenKind}
 use Rattle.mt_token.specs.declared.token.TokenKind.TheVariants.{Control, Char, Space}
-use Rattle.mt_token.specs.Character.{character_of}
-use Rattle.mt_token.specs.Tokens.{Mark, Answer, mark_of, lexed}
+use Rattle.mt_token.specs.Character.{character_code}
+use Rattle.mt_token.specs.Tokens.{Spanned, Answer, spanned, source_tokens}
 use Rattle.mt_macro.specs.declared.table.Macro.{Macro}
 use Rattle.mt_macro.specs.Table.{Table, macro_of, with_macro, is_own}
 use Rattle.mt_macro.specs.Definition.{body_fault}
@@ -25,13 +25,13 @@ ascii_kind (Control name) = Control name
 ascii_kind (Char c) = Char (c % 128)
 ascii_kind Space = Space
 
-pub ascii_kind_below : (kind : TokenKind) → character_of (ascii_kind kind) < 128
+pub ascii_kind_below : (kind : TokenKind) → character_code (ascii_kind kind) < 128
 ascii_kind_below (Control name) = lit< tt
 ascii_kind_below (Char c) = mod-lt c (lit< tt)
 ascii_kind_below Space = lit< tt
 
 -- the token of a mark
-abbrev pub token_of : Mark → Token
+abbrev pub token_of : Spanned → Token
 token_of m = record { kind = ascii_kind m.kind; start = m.start; end = m.end; ascii = ascii_kind_below m.kind }
 
 abbrev pub tokens_of : Answer → List Token
@@ -40,7 +40,7 @@ tokens_of (Err e) = []
 
 -- the body with this text: its tokens
 unfoldable pub body_of : List ℕ → List Token
-body_of text = tokens_of (lexed text)
+body_of text = tokens_of (source_tokens text)
 
 abbrev pub macro_with : List ℕ → Macro
 macro_with text = record { own = false; params = 0; body = body_of text }
@@ -56,7 +56,7 @@ newest_first (d ∷ ds) done = newest_first ds (d ∷ done)
 
 -- the text of a body: it has tokens, and they can be put in without parameters
 pub record IsBodyText (text : List ℕ) : Type 0 where
-  pub lexes : lexed text ≡ Ok (map mark_of (body_of text))
+  pub lexes : source_tokens text ≡ Ok (map spanned (body_of text))
   pub faultless : body_fault 0 (body_of text) ≡ None
   pub short : length (body_of text) ≤ 2 ^ 32
 
