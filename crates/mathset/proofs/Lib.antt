@@ -1,6 +1,6 @@
 pub mod EndLemmas
 pub mod FontLemmas
-pub mod PieceLemmas
+pub mod LogPartLemmas
 pub mod PureLemmas
 pub mod RowLemmas
 pub mod StepLemmas

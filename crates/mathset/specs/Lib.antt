@@ -2,9 +2,10 @@ pub mod Answer
 pub mod Codes
 pub mod Ends
 pub mod FontSteps
+pub mod Limits
 pub mod Log
 pub mod Outcome
-pub mod Pieces
+pub mod LogParts
 pub mod Reads
 pub mod Rows
 pub mod Symbols
