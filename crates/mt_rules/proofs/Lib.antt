@@ -4,3 +4,5 @@ pub mod Lists
 pub mod Styles
 -- the definitions on known formulas
 mod Worked
+-- the rules of Appendix G on parts of formulas in made-up fonts
+mod cases

@@ -14,5 +14,39 @@ pub mod Classes
 pub mod Spaces
 -- the fault of a part whose box was not packed
 pub mod PartErrors
+-- what setting answers: a value, or the first fault
+pub mod Setting
+-- what a call answers beside it
+pub mod Calls
+-- the parameters of the math fonts by their names
+pub mod Parameters
+-- where a symbol is found, and how far a character reaches
+pub mod Symbols
+-- the characters that a delimiter may be, and the one that is taken
+pub mod Candidates
+-- extensible characters
+pub mod Extensibles
+-- delimiters, and the size of boundaries
+pub mod Delimiters
+-- superscripts and subscripts
+pub mod Scripts
+-- scripts above and below an operator
+pub mod Limits
+-- fractions
+pub mod Fractions
+-- radicals
+pub mod Radicals
+-- rules over and under a body
+pub mod Lines
+-- rows one below another, centred on the axis
+pub mod Vcenter
+-- accents
+pub mod Accents
+-- the nucleus of an atom, and clean boxes
+pub mod Nuclei
+-- large operators
+pub mod Operators
+-- the row of an atom and of a fraction
+pub mod AtomRow
 -- how lists in lists are told apart and counted: only the types of the code cite it
 pub mod nesting

@@ -1,5 +1,5 @@
 -- Styles by their numbers (The TeXbook, Appendix G; tex.web, section 702).
-use Rattle.std.specs.Prelude.{ℕ, ◌+◌, ◌-◌, ◌*◌, ◌/◌, ◌%◌, Bool, nat_lt, if◌then◌else◌, [], ◌∷◌, get_or}
+use Rattle.std.specs.Prelude.{ℕ, ◌+◌, ◌-◌, ◌*◌, ◌/◌, ◌%◌, Bool, ◌==◌, nat_lt, if◌then◌else◌, [], ◌∷◌, get_or}
 use Rattle.mt_family.specs.declared.size.Size.{Size}
 use Rattle.mt_family.specs.declared.size.Size.TheVariants.{Text, Script, Scriptscript}
 use Rattle.mt_rules.specs.declared.style.Style.{Style}
@@ -41,3 +41,14 @@ den_of s = style_at (2 * (style_index s / 2) + 3 - 2 * (style_index s / 6))
 -- display style and text style, each with its cramped form
 abbrev pub is_display_or_text : Style → Bool
 is_display_or_text s = nat_lt (style_index s) 4
+
+-- display style, cramped or not
+abbrev pub is_display : Style → Bool
+is_display s = nat_lt (style_index s) 2
+
+abbrev pub is_cramped : Style → Bool
+is_cramped s = style_index s % 2 == 1
+
+-- the size of a style's scripts
+abbrev pub script_size_of : Style → Size
+script_size_of s = size_of (sup_of s)

@@ -1,0 +1,15 @@
+-- Worked cases of the rules of Appendix G, in made-up fonts with odd numbers and in the example fonts.
+mod Writing
+mod OddFonts
+mod ToyFonts
+mod ScriptCases
+mod LimitCases
+mod FractionCases
+mod RadicalCases
+mod LineCases
+mod DelimiterCases
+mod AtomCases
+mod OperatorCases
+mod AccentCases
+mod PartCases
+mod ToyCases

@@ -1,0 +1,223 @@
+-- The row that an atom is set to (`atom_row`), and that of a fraction (`fraction_row`; The TeXbook, Appendix G, rules 8 to 18; tex.web,
+-- sections 733 to 759).
+use Rattle.std.specs.Prelude.{ℕ, ℤ, pos, List, [], ◌∷◌, Bool, true, false, ◌&&◌, not, Option, Some, None, unwrap_or, Ok, if◌then◌else◌}
+use Rattle.mt_tfm.specs.Font.{skew_of}
+use Rattle.mt_family.specs.declared.size.Size.{Size}
+use Rattle.mt_family.specs.SetValue.{SetValue, number_in}
+use Rattle.mt_box.specs.Layout.{Layout}
+use Rattle.mt_box.specs.Rows.{PieceValue, PieceBox}
+use Rattle.mt_rules.specs.declared.class.Class.{Class}
+use Rattle.mt_rules.specs.declared.class.Class.TheVariants.{Op}
+use Rattle.mt_rules.specs.declared.kind.Kind.{Kind}
+use Rattle.mt_rules.specs.declared.kind.Kind.TheVariants.{Plain, Radical, Accent, Over, Under, Vcenter}
+use Rattle.mt_rules.specs.declared.kind.Limits.{Limits}
+use Rattle.mt_rules.specs.declared.symbol.Symbol.{Symbol}
+use Rattle.mt_rules.specs.declared.symbol.Delim.{Delim}
+use Rattle.mt_rules.specs.declared.style.Style.{Style}
+use Rattle.mt_rules.specs.declared.style.Style.TheVariants.{T}
+use Rattle.mt_rules.specs.Styles.{size_of, sup_of, sub_of, cramped_of, num_of, den_of}
+use Rattle.mt_rules.specs.Setting.{Setting, ◌>>=◌, make_row, pack_row}
+use Rattle.mt_rules.specs.Parameters.{default_rule_thickness}
+use Rattle.mt_rules.specs.Symbols.{font_of_number, find_symbol}
+use Rattle.mt_rules.specs.Scripts.{row_with_scripts}
+use Rattle.mt_rules.specs.Limits.{limits}
+use Rattle.mt_rules.specs.Fractions.{fraction}
+use Rattle.mt_rules.specs.Radicals.{radical}
+use Rattle.mt_rules.specs.Lines.{overline, underline}
+use Rattle.mt_rules.specs.Vcenter.{vcenter}
+use Rattle.mt_rules.specs.Accents.{accent}
+use Rattle.mt_rules.specs.Nuclei.{RowByStyle, Content, SymbolContent, ListContent, RowsContent, is_empty, SymbolRole, OrdinarySymbol, Nucleus, empty_nucleus, nucleus_row, packed_list, make_clean, clean_field, clean_list}
+use Rattle.mt_rules.specs.Operators.{uses_limits, operator_nucleus}
+
+pub record AtomContent : Type 0 where
+  pub kind : Kind
+  pub limits : Limits
+  pub nucleus : Content
+  pub sup : Content
+  pub sub : Content
+
+-- ---- scripts
+
+abbrev pub some_box : Setting Layout → Setting (Option Layout)
+some_box setting = do
+  box ← setting
+  Ok (Some box)
+
+-- the clean box of a script, if it is there
+abbrev pub script_box : SetValue → Style → Content → Setting (Option Layout)
+script_box fonts style field = if is_empty field then Ok None else some_box (clean_field fonts style field)
+
+-- superscript, subscript, both beside the nucleus, the whole row
+abbrev pub nucleus_with_scripts : SetValue → Style → Nucleus → Content → Content → Setting (List PieceValue)
+nucleus_with_scripts fonts style nucleus sup sub = do
+  above ← script_box fonts (sup_of style) sup
+  below ← script_box fonts (sub_of style) sub
+  row ← row_with_scripts fonts style nucleus.row nucleus.delta above below
+  make_row row
+
+abbrev pub box_nucleus : Layout → Nucleus
+box_nucleus box = record { row = PieceBox (pos 0) box ∷ []; delta = pos 0 }
+
+abbrev pub part_with_scripts : SetValue → Style → Setting Layout → Content → Content → Setting (List PieceValue)
+part_with_scripts fonts style part sup sub = do
+  box ← part
+  nucleus_with_scripts fonts style (box_nucleus box) sup sub
+
+-- ---- operators
+
+-- with limits, the row of a list is not packed by itself
+abbrev pub row_of_list : RowByStyle → Style → Setting Nucleus
+row_of_list list style = do
+  row ← list style
+  Ok (record { row = row; delta = pos 0 })
+
+abbrev pub nucleus_under_limits : SetValue → Style → Content → Setting Nucleus
+nucleus_under_limits fonts style (SymbolContent symbol) = operator_nucleus fonts style symbol false
+nucleus_under_limits fonts style (ListContent list) = row_of_list list style
+nucleus_under_limits fonts style _ = Ok empty_nucleus
+
+-- the nucleus and its clean box, superscript, subscript, the three one above another, the whole row
+abbrev pub operator_with_limits : SetValue → Style → Content → Content → Content → Setting (List PieceValue)
+operator_with_limits fonts style field sup sub = do
+  nucleus ← nucleus_under_limits fonts style field
+  box ← make_clean nucleus.row
+  above ← script_box fonts (sup_of style) sup
+  below ← script_box fonts (sub_of style) sub
+  all ← limits fonts (size_of style) box nucleus.delta above below
+  make_row (PieceBox (pos 0) all ∷ [])
+
+abbrev pub nucleus_beside_scripts : SetValue → Style → Content → Bool → Setting Nucleus
+nucleus_beside_scripts fonts style (SymbolContent symbol) subscript = operator_nucleus fonts style symbol subscript
+nucleus_beside_scripts fonts style (ListContent list) subscript = packed_list list style
+nucleus_beside_scripts fonts style _ subscript = Ok empty_nucleus
+
+abbrev pub operator_without_limits : SetValue → Style → Content → Content → Content → Setting (List PieceValue)
+operator_without_limits fonts style field sup sub = do
+  nucleus ← nucleus_beside_scripts fonts style field (not (is_empty sub))
+  nucleus_with_scripts fonts style nucleus sup sub
+
+abbrev pub operator_by_limits : Bool → SetValue → Style → Content → Content → Content → Setting (List PieceValue)
+operator_by_limits true fonts style nucleus sup sub = operator_with_limits fonts style nucleus sup sub
+operator_by_limits false fonts style nucleus sup sub = operator_without_limits fonts style nucleus sup sub
+
+abbrev pub operator_row : SetValue → Style → Limits → Content → Content → Content → Setting (List PieceValue)
+operator_row fonts style choice nucleus sup sub = operator_by_limits (uses_limits choice style) fonts style nucleus sup sub
+
+-- ---- atoms of the plain kind
+
+abbrev pub ordinary_row : SetValue → Style → SymbolRole → Content → Content → Content → Setting (List PieceValue)
+ordinary_row fonts style role field sup sub = do
+  nucleus ← nucleus_row fonts style field role (not (is_empty sub))
+  nucleus_with_scripts fonts style nucleus sup sub
+
+abbrev pub class_row : Class → SetValue → Style → SymbolRole → Limits → Content → Content → Content → Setting (List PieceValue)
+class_row Op fonts style role choice nucleus sup sub = operator_row fonts style choice nucleus sup sub
+class_row _ fonts style role choice nucleus sup sub = ordinary_row fonts style role nucleus sup sub
+
+-- ---- parts round a nucleus: it comes first
+
+abbrev pub radical_part : SetValue → Style → Delim → Content → Setting Layout
+radical_part fonts style sign nucleus = do
+  body ← clean_field fonts (cramped_of style) nucleus
+  radical fonts style sign body
+
+abbrev pub overline_part : SetValue → Style → Content → Setting Layout
+overline_part fonts style nucleus = do
+  body ← clean_field fonts (cramped_of style) nucleus
+  overline fonts (size_of style) body
+
+abbrev pub underline_part : SetValue → Style → Content → Setting Layout
+underline_part fonts style nucleus = do
+  body ← clean_field fonts style nucleus
+  underline fonts (size_of style) body
+
+-- each row is a formula in text style, packed
+abbrev pub pack_rows : List RowByStyle → Setting (List Layout)
+pack_rows [] = Ok []
+pack_rows (list ∷ lists) = do
+  row ← list T
+  box ← pack_row row
+  boxes ← pack_rows lists
+  Ok (box ∷ boxes)
+
+abbrev pub content_rows : Content → List RowByStyle
+content_rows (RowsContent rows) = rows
+content_rows _ = []
+
+abbrev pub vcenter_part : SetValue → Style → Content → Setting Layout
+vcenter_part fonts style nucleus = do
+  rows ← pack_rows (content_rows nucleus)
+  vcenter fonts (size_of style) rows
+
+-- ---- accents
+
+-- the skew of a symbol, in the font that its family has at this size
+abbrev pub skew_in : SetValue → Option ℕ → ℕ → ℤ
+skew_in fonts None c = pos 0
+skew_in fonts (Some font) c = skew_of (font_of_number fonts font) c
+
+abbrev pub content_skew : SetValue → Size → Content → ℤ
+content_skew fonts size (SymbolContent symbol) = skew_in fonts (number_in fonts.families symbol.fam size) symbol.code
+content_skew fonts size _ = pos 0
+
+-- the scripts belong to the atom
+abbrev pub accent_outside : SetValue → Style → Symbol → Content → Content → Content → Setting (List PieceValue)
+accent_outside fonts style symbol nucleus sup sub = do
+  font ← find_symbol fonts (size_of style) symbol
+  plain ← clean_field fonts (cramped_of style) nucleus
+  box ← accent fonts font symbol.code (content_skew fonts (size_of style) nucleus) plain.extents plain
+  nucleus_with_scripts fonts style (box_nucleus box) sup sub
+
+-- the scripts belong to the symbol under the accent, which is set again with them
+abbrev pub accent_inside : SetValue → Style → Symbol → Content → Content → Content → Setting (List PieceValue)
+accent_inside fonts style symbol nucleus sup sub = do
+  font ← find_symbol fonts (size_of style) symbol
+  plain ← clean_field fonts (cramped_of style) nucleus
+  row ← ordinary_row fonts style OrdinarySymbol nucleus sup sub
+  body ← pack_row row
+  box ← accent fonts font symbol.code (content_skew fonts (size_of style) nucleus) plain.extents body
+  make_row (PieceBox (pos 0) box ∷ [])
+
+abbrev pub accent_by_scripts : Bool → SetValue → Style → Symbol → Content → Content → Content → Setting (List PieceValue)
+accent_by_scripts true fonts style symbol nucleus sup sub = accent_inside fonts style symbol nucleus sup sub
+accent_by_scripts false fonts style symbol nucleus sup sub = accent_outside fonts style symbol nucleus sup sub
+
+abbrev pub is_symbol : Content → Bool
+is_symbol (SymbolContent symbol) = true
+is_symbol _ = false
+
+abbrev pub accent_row : SetValue → Style → Symbol → Content → Content → Content → Setting (List PieceValue)
+accent_row fonts style symbol nucleus sup sub =
+    accent_by_scripts (is_symbol nucleus && not (is_empty sup && is_empty sub)) fonts style symbol nucleus sup sub
+
+-- ---- atoms of all kinds
+
+abbrev pub kind_row : Kind → SetValue → Style → SymbolRole → Limits → Content → Content → Content → Setting (List PieceValue)
+kind_row (Plain class) fonts style role choice nucleus sup sub = class_row class fonts style role choice nucleus sup sub
+kind_row (Radical sign) fonts style role choice nucleus sup sub =
+    part_with_scripts fonts style (radical_part fonts style sign nucleus) sup sub
+kind_row (Accent symbol) fonts style role choice nucleus sup sub = accent_row fonts style symbol nucleus sup sub
+kind_row Over fonts style role choice nucleus sup sub = part_with_scripts fonts style (overline_part fonts style nucleus) sup sub
+kind_row Under fonts style role choice nucleus sup sub = part_with_scripts fonts style (underline_part fonts style nucleus) sup sub
+kind_row Vcenter fonts style role choice nucleus sup sub = part_with_scripts fonts style (vcenter_part fonts style nucleus) sup sub
+
+unfoldable pub atom_row : SetValue → Style → SymbolRole → AtomContent → Setting (List PieceValue)
+atom_row fonts style role a = kind_row a.kind fonts style role a.limits a.nucleus a.sup a.sub
+
+-- ---- fractions
+
+pub record FractionContent : Type 0 where
+  -- None is the thickness of the font's rules
+  pub thickness : Option ℤ
+  pub left : Delim
+  pub right : Delim
+  pub num : RowByStyle
+  pub den : RowByStyle
+
+-- numerator, denominator, then the fraction
+unfoldable pub fraction_row : SetValue → Style → FractionContent → Setting (List PieceValue)
+fraction_row fonts style f = do
+  num ← clean_list f.num (num_of style)
+  den ← clean_list f.den (den_of style)
+  box ← fraction fonts style (unwrap_or f.thickness (default_rule_thickness fonts (size_of style))) f.left f.right num den
+  Ok (PieceBox (pos 0) box ∷ [])
