@@ -30,12 +30,12 @@ ascii_kind_below (Control name) = lit< tt
 ascii_kind_below (Char c) = mod-lt c (lit< tt)
 ascii_kind_below Space = lit< tt
 
--- the token of a mark
+-- the token of a kind and a span
 abbrev pub token_of : Spanned → Token
-token_of m = record { kind = ascii_kind m.kind; start = m.start; end = m.end; ascii = ascii_kind_below m.kind }
+token_of s = record { kind = ascii_kind s.kind; start = s.start; end = s.end; ascii = ascii_kind_below s.kind }
 
 abbrev pub tokens_of : Answer → List Token
-tokens_of (Ok marks) = map token_of marks
+tokens_of (Ok list) = map token_of list
 tokens_of (Err e) = []
 
 -- the body with this text: its tokens

@@ -1,0 +1,17 @@
+mod Short
+mod Bounds
+mod ItemBounds
+mod Writing
+mod AtomCases
+mod GroupCases
+mod ScriptCases
+mod DelimiterCases
+mod SpaceCases
+mod NameFaults
+mod ScriptFaults
+mod FieldFaults
+mod NumberFaults
+mod DepthFaults
+mod DocumentWriting
+mod DocumentCases
+mod DocumentFaults

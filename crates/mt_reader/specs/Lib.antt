@@ -1,0 +1,16 @@
+pub mod Role
+pub mod Parts
+pub mod Numbers
+pub mod Dimensions
+pub mod Symbols
+pub mod Delimiters
+pub mod Atoms
+pub mod Lists
+pub mod Groups
+pub mod Fields
+pub mod Primes
+pub mod Rows
+pub mod Items
+pub mod Formulas
+pub mod Counts
+pub mod documents

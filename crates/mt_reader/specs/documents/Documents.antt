@@ -1,0 +1,176 @@
+-- Documents: definitions, assignments, formulas and the ends of pages (own; The TeXbook, chapters 20 and 24).
+use Rattle.std.specs.Prelude.{ℕ, zero, suc, ◌+◌, ◌-◌, ◌==◌, nat_lt, Bool, true, false, ◌&&◌, ◌||◌, List, [], ◌∷◌, ◌++◌, length, Option, Some, None, Result, Ok, Err, if◌then◌else◌, codes}
+use Rattle.std.specs.Str.{bytes_eq}
+use Rattle.mt_token.specs.declared.token.Token.{Token}
+use Rattle.mt_token.specs.declared.token.TokenKind.{TokenKind}
+use Rattle.mt_token.specs.declared.token.TokenKind.TheVariants.{Control, Char, Space}
+use Rattle.mt_macro.specs.declared.definition.MacroError.{MacroError}
+use Rattle.mt_macro.specs.Braces.{Taken}
+use Rattle.mt_macro.specs.Table.{Table}
+use Rattle.mt_macro.specs.Definition.{define}
+use Rattle.mt_macro.specs.Expansion.{Expansion, Expanded, OverBudget, NoArgument, NoPartner, ListTooLong, expansion}
+use Rattle.mt_scaled.specs.declared.unit.Units.{Units}
+use Rattle.mt_plain.specs.CodeTables.{CodeTables}
+use Rattle.mt_reader.specs.Parts.{Read, Got, Fault}
+use Rattle.mt_rules.specs.declared.document.Formula.{Formula}
+use Rattle.mt_reader.specs.Formulas.{Reading, Reads, ReadFault, reading}
+use Rattle.mt_reader.specs.documents.Definitions.{MacroDefinition, macro_definition}
+use Rattle.mt_reader.specs.documents.Assignments.{math_code_assignment, delcode_assignment}
+use Rattle.mt_reader.specs.documents.Dollars.{begins_display, between_dollars}
+
+-- what has been read: the pages that are ended, the formulas of the page that is not, how many formulas there are, and how many tokens they had after expansion
+pub record DocumentState : Type 0 where
+  pub tables : CodeTables
+  pub macros : Table
+  pub pages : List (List Formula)
+  pub page : List Formula
+  pub count : ℕ
+  pub total : ℕ
+
+-- why a document is refused; n is the number of the formula that is being read, or of the next one
+pub data DocumentFault : Type 0 where
+  -- a token outside of formulas, by its place
+  Outside : (n : ℕ) (cause : ℕ) (place : ℕ) → DocumentFault
+  NotExpanded : (n : ℕ) (outcome : Expansion) → DocumentFault
+  NotRead : (n : ℕ) (cause : ℕ) (place : ℕ) → DocumentFault
+  TooManyTokens : (n : ℕ) (count : ℕ) → DocumentFault
+  TooManyPages : (count : ℕ) → DocumentFault
+
+-- what becomes of a token and those after it
+pub data Turn : Type 0 where
+  Goes : (state : DocumentState) (rest : List Token) → Turn
+  Ends : (state : DocumentState) → Turn
+  Stops : (refusal : DocumentFault) → Turn
+  -- a token outside of formulas is at fault: so many are left from it on
+  StopsOutside : (n : ℕ) (cause : ℕ) (left : ℕ) → Turn
+
+-- what a token is outside of formulas, whatever its name is defined as
+pub data OutsideRole : Type 0 where
+  Passed : OutsideRole
+  Defines : OutsideRole
+  SetsMathCode : OutsideRole
+  SetsDelimiterCode : OutsideRole
+  BeginsFormula : OutsideRole
+  EndsPage : OutsideRole
+  EndsDocument : OutsideRole
+  Misplaced : OutsideRole
+
+abbrev pub outside_name_role : List ℕ → OutsideRole
+outside_name_role name =
+    if bytes_eq name (codes "par") then Passed
+    else if bytes_eq name (codes "def") then Defines
+    else if bytes_eq name (codes "mathcode") then SetsMathCode
+    else if bytes_eq name (codes "delcode") then SetsDelimiterCode
+    else if bytes_eq name (codes "eject") then EndsPage
+    else if bytes_eq name (codes "bye") || bytes_eq name (codes "end") then EndsDocument
+    else Misplaced
+
+abbrev pub outside_role : TokenKind → OutsideRole
+outside_role (Control name) = outside_name_role name
+outside_role (Char c) = if c == 36 then BeginsFormula else Misplaced
+outside_role Space = Passed
+
+-- a page without formulas is none
+abbrev pub with_page : List (List Formula) → List Formula → List (List Formula)
+with_page pages [] = pages
+with_page pages (e ∷ es) = pages ++ (e ∷ es) ∷ []
+
+abbrev pub after_page_end : DocumentState → DocumentState
+after_page_end s = record s { pages = with_page s.pages s.page; page = [] }
+
+-- the pages that a document has where it ends
+abbrev pub document_pages : DocumentState → List (List Formula)
+document_pages s = with_page s.pages s.page
+
+abbrev pub outside_fault : DocumentState → ℕ → ℕ → Turn
+outside_fault s cause left = StopsOutside (s.count + 1) cause left
+
+abbrev pub with_table : DocumentState → ℕ → List Token → Result Table MacroError → Turn
+with_table s left rest (Ok macros) = Goes (record s { macros = macros }) rest
+with_table s left rest (Err e) = outside_fault s 35 left
+
+-- a definition, and then whether there is room for it
+abbrev pub after_definition : DocumentState → ℕ → Read MacroDefinition → Turn
+after_definition s left (Fault cause at) = outside_fault s cause at
+after_definition s left (Got d rest) = with_table s left rest (define s.macros d.name d.params d.body)
+
+abbrev pub after_assignment : DocumentState → ℕ → Read CodeTables → Turn
+after_assignment s left (Fault cause at) = outside_fault s 36 left
+after_assignment s left (Got tables rest) = Goes (record s { tables = tables }) rest
+
+abbrev pub is_empty_page : List Formula → Bool
+is_empty_page [] = true
+is_empty_page (e ∷ es) = false
+
+-- the next formula would begin page 5,001
+abbrev pub is_page_limit : DocumentState → Bool
+is_page_limit s = is_empty_page s.page && (length s.pages == 5000)
+
+module _ (units : Units) where
+  abbrev pub after_reading : DocumentState → Bool → ℕ → List Token → Reading → Turn
+  after_reading s display total rest (ReadFault cause place) = Stops (NotRead (s.count + 1) cause place)
+  after_reading s display total rest (Reads body tag) =
+      let formula : Formula = record { number = s.count + 1; display = display; body = body; tag = tag } in
+      Goes (record s { page = s.page ++ formula ∷ []; count = s.count + 1; total = total }) rest
+
+  abbrev pub after_expansion : DocumentState → Bool → List Token → Expansion → Turn
+  after_expansion s display rest (Expanded list) =
+      let total = s.total + length list in
+      elim (nat_lt 1000000 total) [
+        | true ↦ Stops (TooManyTokens (s.count + 1) total)
+        | false ↦ after_reading s display total rest (reading s.tables units display list)
+      ]
+  after_expansion s display rest (OverBudget steps n) = Stops (NotExpanded (s.count + 1) (OverBudget steps n))
+  after_expansion s display rest (NoArgument place) = Stops (NotExpanded (s.count + 1) (NoArgument place))
+  after_expansion s display rest (NoPartner place) = Stops (NotExpanded (s.count + 1) (NoPartner place))
+  after_expansion s display rest ListTooLong = Stops (NotExpanded (s.count + 1) ListTooLong)
+
+  abbrev pub formula_in : DocumentState → Bool → ℕ → Option Taken → Turn
+  formula_in s display left None = outside_fault s 32 left
+  formula_in s display left (Some taken) = after_expansion s display taken.after (expansion s.macros taken.argument)
+
+  -- a formula after its first dollar: it is expanded, counted and read
+  abbrev pub formula_turn : DocumentState → List Token → Bool → Turn
+  formula_turn s rest true = Stops (TooManyPages 5001)
+  formula_turn s rest false = formula_in s (begins_display rest) (length rest + 1) (between_dollars rest)
+
+  abbrev pub turn_by : DocumentState → List Token → OutsideRole → Turn
+  turn_by s rest Passed = Goes s rest
+  turn_by s rest Defines = after_definition s (length rest + 1) (macro_definition rest)
+  turn_by s rest SetsMathCode = after_assignment s (length rest + 1) (math_code_assignment s.tables rest)
+  turn_by s rest SetsDelimiterCode = after_assignment s (length rest + 1) (delcode_assignment s.tables rest)
+  turn_by s rest BeginsFormula = formula_turn s rest (is_page_limit s)
+  turn_by s rest EndsPage = Goes (after_page_end s) rest
+  turn_by s rest EndsDocument = Ends s
+  turn_by s rest Misplaced = outside_fault s 31 (length rest + 1)
+
+  abbrev pub DocumentAnswer : Type 0
+  DocumentAnswer = Result (List (List Formula)) DocumentFault
+
+  module _ (length_of_all : ℕ) where
+    abbrev pub turn_answer : (DocumentState → List Token → DocumentAnswer) → Turn → DocumentAnswer
+    turn_answer again (Goes s rest) = again s rest
+    turn_answer again (Ends s) = Ok (document_pages s)
+    turn_answer again (Stops refusal) = Err refusal
+    turn_answer again (StopsOutside n cause left) = Err (Outside n cause (length_of_all - left))
+
+    abbrev pub document_turn : (DocumentState → List Token → DocumentAnswer) → DocumentState → List Token → DocumentAnswer
+    document_turn again s [] = Ok (document_pages s)
+    document_turn again s (t ∷ rest) = turn_answer again (turn_by s rest (outside_role t.kind))
+
+    -- the pages after what has been read, by at most so many turns
+    unfoldable pub pages_from : ℕ → DocumentState → List Token → DocumentAnswer
+    pages_from zero = λ (s : DocumentState) (tokens : List Token). Ok (document_pages s)
+    pages_from (suc n) = document_turn (pages_from n)
+
+  -- the pages, where this has been read before; each turn takes a token, so this many are enough
+  abbrev pub document_from : DocumentState → List Token → DocumentAnswer
+  document_from s tokens = pages_from (length tokens) (length tokens) s tokens
+
+  -- nothing read yet
+  abbrev pub start_state : CodeTables → Table → DocumentState
+  start_state tables macros = record { tables = tables; macros = macros; pages = []; page = []; count = 0; total = 0 }
+
+  -- the pages of a document, or why it is refused
+  abbrev pub document : CodeTables → Table → List Token → DocumentAnswer
+  document tables macros tokens = document_from (start_state tables macros) tokens
