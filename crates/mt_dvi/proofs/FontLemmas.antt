@@ -8,12 +8,12 @@ use Rattle.std.proofs.lemmas.List.{map-append, append-nil}
 use Rattle.mt_dvi.specs.Codes.{Define, Definition, Select}
 use Rattle.mt_dvi.specs.Emits.{Emits}
 use Rattle.mt_dvi.specs.File.{Continues, File, file_step}
-use Rattle.mt_dvi.specs.Fonts.{metrics_at, first_definition, definition_of, number_named}
+use Rattle.mt_dvi.specs.Fonts.{metrics_at, first_definition, definition_of}
 use Rattle.mt_dvi.specs.LeadsTo.{LeadsTo, in_page, is_among, with_definitions, with_number}
 use Rattle.mt_dvi.specs.Machine.{is_far}
 use Rattle.mt_family.specs.Fields.{is_name}
 use Rattle.mt_family.specs.ListFacts.{IsFontLine}
-use Rattle.mt_family.specs.SetValue.{IsSet, SetValue}
+use Rattle.mt_family.specs.SetValue.{IsSet, SetValue, name_in, number_named}
 use Rattle.mt_family.specs.declared.list.FontLine.{FontLine}
 use Rattle.mt_dvi.specs.declared.page.Cursor.{Cursor}
 use Rattle.mt_dvi.proofs.Prefix.{leads_next}
@@ -50,7 +50,7 @@ added_old numbers n fresh = rw fresh refl
 
 -- a selection is read
 step_select : (fonts : SetValue) (file : File) (c : Cursor) (numbers : List ℕ) (n : ℕ) (rest : List ℕ) → is_among numbers n ≡ true
-    → number_named fonts (definition_of fonts n).name (definition_of fonts n).size ≡ Some n → is_far c.h ≡ false → is_far c.v ≡ false
+    → number_named fonts (definition_of fonts n).name (pos (definition_of fonts n).size) ≡ Some n → is_far c.h ≡ false → is_far c.v ≡ false
     → file_step fonts (in_page (with_definitions fonts file numbers) c) (Select n) rest ≡ Continues (in_page (with_definitions fonts file numbers) (record c { font = Some n }))
 step_select fonts file c numbers n rest known place h v =
     let e : first_definition (map (definition_of fonts) numbers) n ≡ Some (definition_of fonts n) = defined_is fonts numbers n ∙ ap (λ (b : Bool). if b then Some (definition_of fonts n) else None) known in
@@ -77,7 +77,7 @@ pub record IsListed (fonts : SetValue) (n : ℕ) : Type 0 where
   pub line : FontLine
   pub line_is : slice_get fonts.lines n ≡ Some line
   pub short : length line.name ≤ 64
-  pub found : number_named fonts (definition_of fonts n).name (definition_of fonts n).size ≡ Some n
+  pub found : number_named fonts (definition_of fonts n).name (pos (definition_of fonts n).size) ≡ Some n
 
 short_name : (name : List ℕ) → IsTrue (is_name name) → length name ≤ 64
 short_name name is = grind (arith, nat_tests)
@@ -91,14 +91,15 @@ listed fonts n set lt =
     let m = p.0 in
     let line = p.2 in
     let facts = kept IsFontLine fonts.lines n line set.list.each p.3 in
-    let size : pos (nat_abs m.at) ≡ line.at = omega (arith, ints, facts.above, p.4) in
+    let size : pos (nat_abs m.at) ≡ m.at = omega (arith, ints, facts.above, p.4) in
+    let name : name_in fonts.lines n ≡ Some line.name = rw p.3 refl in
     record {
       metrics = m;
       metrics_is = p.1;
       line = line;
       line_is = p.3;
       short = short_name line.name facts.name;
-      found = rw (p.1, p.3, size) (set.list.once n line p.3);
+      found = rw (p.1, p.3, size) (set.named n line.name m name p.1);
     }
 
 pub chosen : (fonts : SetValue) (old new : List ℕ) (numbers : List ℕ) (n : ℕ) (c : Cursor) → Emits 1 old new (Select n) → IsSet fonts → n < length fonts.fonts → is_among numbers n ≡ true → is_far c.h ≡ false → is_far c.v ≡ false

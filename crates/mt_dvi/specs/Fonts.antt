@@ -1,15 +1,11 @@
 -- The fonts of a set as a DVI file names them.
 use Rattle.std.specs.Prelude.{ℕ, ℤ, pos, List, [], Option, Some, None, ◌==◌, nat_abs, slice_get, find, unwrap_or}
 use Rattle.mt_tfm.specs.Font.{Metrics, width_of, depth_of}
-use Rattle.mt_family.specs.SetValue.{SetValue, name_in, named}
+use Rattle.mt_family.specs.SetValue.{SetValue, name_in}
 use Rattle.mt_dvi.specs.Codes.{Definition}
 
 abbrev pub metrics_at : SetValue → ℕ → Option Metrics
 metrics_at fonts n = slice_get fonts.fonts n
-
--- the number of the set's font of this name and size
-abbrev pub number_named : SetValue → List ℕ → ℕ → Option ℕ
-number_named fonts name size = named fonts.lines name (pos size)
 
 -- what the file says of a font's number, by the first definition of it
 abbrev pub first_definition : List Definition → ℕ → Option Definition

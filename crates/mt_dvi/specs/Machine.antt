@@ -1,9 +1,9 @@
 -- The machine inside a page: its registers, and what each operation does (tex.web, section 585).
 use Rattle.std.specs.Prelude.{ℕ, ℤ, pos, ◌+ℤ◌, nat_abs, List, [], ◌∷◌, length, Option, Some, None, Result, Ok, Err, Bool, nat_lt, nat_le, int_lt, ◌&&◌, ◌||◌, if◌then◌else◌}
 use Rattle.mt_tfm.specs.Font.{Metrics, width_of, exists}
-use Rattle.mt_family.specs.SetValue.{SetValue}
+use Rattle.mt_family.specs.SetValue.{SetValue, number_named}
 use Rattle.mt_dvi.specs.Codes.{Register, W, X, Y, Z, Definition, Operation, Char, Rule, Nop, Push, Pop, Right, Down, Set, Add, Select, Special}
-use Rattle.mt_dvi.specs.Fonts.{number_named, first_definition, metrics_at}
+use Rattle.mt_dvi.specs.Fonts.{first_definition, metrics_at}
 use Rattle.mt_box.specs.declared.place.Place.{Place}
 use Rattle.mt_box.specs.declared.place.Place.TheVariants as places
 
@@ -121,7 +121,7 @@ select_font m (Some n) = without_place (record m { font = Some n })
 
 -- a font that is defined with an area is none of the set
 abbrev pub select_without_area : SetValue → Machine → List ℕ → Definition → Effects
-select_without_area fonts m [] d = select_font m (number_named fonts d.name d.size)
+select_without_area fonts m [] d = select_font m (number_named fonts d.name (pos d.size))
 select_without_area fonts m (byte ∷ area) d = Err UnknownFont
 
 abbrev pub select_effect : SetValue → Machine → Option Definition → Effects

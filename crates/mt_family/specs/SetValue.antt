@@ -1,6 +1,6 @@
 -- Fonts by family and size.
 use Rattle.std.specs.Prelude.{◌≡◌, ℕ, ℤ, List, [], ◌∷◌, length, map, Bool, nat_le, true, false, Option, Some, None, unwrap_or, ◌&&◌}
-use Rattle.std.specs.List.{find, slice_get, position, range_with_len}
+use Rattle.std.specs.List.{find, slice_get, position, range_with_len, zip}
 use Rattle.std.specs.Option.{option_map}
 use Rattle.std.specs.Ordering.{int_eq}
 use Rattle.std.specs.Str.{bytes_eq}
@@ -47,9 +47,18 @@ font_of families fonts fam size = font_at fonts (number_in families fam size)
 abbrev pub name_in : List FontLine → ℕ → Option (List ℕ)
 name_in lines n = option_map (λ (line : FontLine). line.name) (slice_get lines n)
 
+-- a font has this name by its line, and this size of its own
+abbrev pub has_name_and_size : List ℕ → ℤ → FontLine × Metrics → Bool
+has_name_and_size name size font = bytes_eq font.0.name name && int_eq font.1.at size
+
 -- the number of the font of a name and a size
-abbrev pub named : List FontLine → List ℕ → ℤ → Option ℕ
-named lines name at = position (λ (line : FontLine). bytes_eq line.name name && int_eq line.at at) lines
+abbrev pub number_named : SetValue → List ℕ → ℤ → Option ℕ
+number_named s name size = position (has_name_and_size name size) (zip s.lines s.fonts)
+
+-- the name and the size of each font lead back to its number
+abbrev pub NamesLeadBack : SetValue → Type 0
+NamesLeadBack s = (n : ℕ) (name : List ℕ) (m : Metrics) →
+    name_in s.lines n ≡ Some name → slice_get s.fonts n ≡ Some m → number_named s name m.at ≡ Some n
 
 -- there is a font, with so many parameters
 abbrev pub has_params : ℕ → Option Metrics → Bool
@@ -71,5 +80,6 @@ pub record AreLoaded (lines : List FontLine) (fonts : List Metrics) : Type 0 whe
 pub record IsSet (s : SetValue) : Type 0 where
   pub list : IsFontList (record { lines = s.lines; families = s.families })
   pub loaded : AreLoaded s.lines s.fonts
+  pub named : NamesLeadBack s
   pub symbols : HasParams s.families s.fonts 2 22
   pub extension : HasParams s.families s.fonts 3 13

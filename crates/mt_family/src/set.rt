@@ -1,12 +1,13 @@
 //! The fonts of a list, by number and by family and size.
-ghost use Rattle.std.specs.Prelude.{◌≡◌, ◌≤◌, ◌<◌, ◌^◌, ◌⊎◌, ◌↔◌, IsTrue, ℕ, length, map, slice_get, IfOk, IfErr, OnOk, Some, None, true, IfSome, find};
+ghost use Rattle.std.specs.Prelude.{◌≡◌, ◌≤◌, ◌<◌, ◌^◌, ◌⊎◌, ◌↔◌, IsTrue, ℕ, length, map, slice_get, IfOk, IfErr, OnOk, Some, None, true, IfSome, find, position};
+ghost use Rattle.std.specs.List.{zip};
 ghost use Rattle.std.specs.Option.{option_copied};
 ghost use Rattle.std.specs.Result.{result_err};
 ghost use Rattle.mt_family.specs.declared.error.SetError.TheVariants.{OutOfMemory};
 ghost use Rattle.mt_family.specs.declared.list.FamilyLine.{FamilyLine};
 ghost use Rattle.mt_scaled.specs.Number.{Within};
 ghost use Rattle.mt_family.specs.ListFacts.{is_family};
-ghost use Rattle.mt_family.specs.SetValue.{number_in, number_by, numbers_of, table_of, font_at, font_of, name_in, named, has_params, HasParams, AreLoaded, IsSet};
+ghost use Rattle.mt_family.specs.SetValue.{number_in, number_by, numbers_of, table_of, font_at, font_of, name_in, has_name_and_size, number_named, NamesLeadBack, has_params, HasParams, AreLoaded, IsSet};
 ghost use Rattle.mt_family.specs.Sets.{size_fault, family_fault, set_fault, param_in, units_of, sy as sy_of, ex as ex_of};
 
 use crate::error::SetError;
@@ -80,13 +81,21 @@ fn number_in(families: &[FamilyLine], fam: u8, size: Size) -> Option<u16>
     numbers[usize::from(size.index())]
 }
 
-fn place_of(lines: &[FontLine], name: &[u8], at: &i64) -> Option<usize>
-    ensures is { result ≡ named lines.now name.now at.now }
-    ensures below { IfSome result (λ i. i < length lines.now) }
+fn has_name_and_size(line: &FontLine, font: &Font, name: &[u8], size: &i64) -> bool
+    ensures { result ≡ has_name_and_size name.now size.now (line.now, font.now) }
+{
+    line.name.as_slice() == name && font.at() == *size
+}
+
+// The index of the font of a name and a size.
+fn index_named(lines: &[FontLine], fonts: &[Font], name: &[u8], size: &i64) -> Option<usize>
+    ensures is { result ≡ position (has_name_and_size name.now size.now) (zip lines.now fonts.now) }
+    ensures below { IfSome result (λ i. i < length fonts.now) }
 {
     lines
         .iter()
-        .position(|line| line.name.as_slice() == name && line.at == *at)
+        .zip(fonts)
+        .position(|(line, font)| has_name_and_size(line, font, name, size))
 }
 
 fn font_at(fonts: &[Font], number: Option<u16>) -> Option<&Font>
@@ -225,13 +234,15 @@ impl FontSet {
         self.lines.get(usize::from(n)).map(|line| &line.name)
     }
 
-    /// The number of the font of a name and a size in scaled points.
+    /// The number of the font of a name and a size in scaled points. The name and the size of each
+    /// font of the set lead back to its number.
     pub fn find(&self, name: &[u8], at: i64) -> Option<u16>
-        ensures is { result ≡ named self.now.lines name.now at }
+        ensures is { result ≡ number_named self.now name.now at }
         ensures known { (n : ℕ) → result ≡ Some n → n < length self.now.fonts }
+        ensures leads_back { NamesLeadBack self.now }
     {
-        match place_of(&self.lines, name, &at) {
-            Some(place) => Some(place as u16),
+        match index_named(&self.lines, &self.fonts, name, &at) {
+            Some(index) => Some(index as u16),
             None => None,
         }
     }
