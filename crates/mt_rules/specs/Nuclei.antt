@@ -12,7 +12,7 @@ use Rattle.mt_rules.specs.declared.symbol.Symbol.{Symbol}
 use Rattle.mt_rules.specs.declared.style.Style.{Style}
 use Rattle.mt_rules.specs.Styles.{size_of}
 use Rattle.mt_rules.specs.Setting.{Setting, ◌>>=◌, ◌>>◌, SmartLigature, make_box, make_row, pack_row, empty_layout, test_extents}
-use Rattle.mt_rules.specs.Symbols.{font_of_number, find_symbol, glyph_extents}
+use Rattle.mt_rules.specs.Symbols.{font_of_number, find_symbol, extents_without_italic}
 
 -- a list, as the row that it is set to in each style
 abbrev pub RowByStyle : Type 0
@@ -67,8 +67,8 @@ nucleus_with_italic glyph italic subscript =
 
 abbrev pub glyph_nucleus : ℕ → Metrics → ℕ → SymbolRole → Bool → Setting Nucleus
 glyph_nucleus font m c role subscript = do
-  test_extents (glyph_extents m c)
-  Ok (nucleus_with_italic (PieceGlyph font c (glyph_extents m c)) (role_italic role m c) subscript)
+  test_extents (extents_without_italic m c)
+  Ok (nucleus_with_italic (PieceGlyph font c (extents_without_italic m c)) (role_italic role m c) subscript)
 
 -- found, then refused or not, then its glyph
 abbrev pub symbol_nucleus : SetValue → Size → Symbol → SymbolRole → Bool → Setting Nucleus

@@ -1,6 +1,7 @@
 //! Styles of formulas.
 ghost use Rattle.std.specs.Prelude.{◌≡◌};
 ghost use Rattle.mt_rules.specs.Styles.{style_index, size_of, sup_of, sub_of, cramped_of, num_of, den_of};
+ghost use Rattle.mt_rules.specs.Styles.{is_display as is_display_style, is_cramped as is_cramped_style};
 
 use mt_family::Size;
 
@@ -41,6 +42,20 @@ impl Style {
             Style::Ss => 6,
             Style::Ssc => 7,
         }
+    }
+
+    /// Whether it is display style or its cramped form.
+    pub fn is_display(self) -> bool
+        ensures { result ≡ is_display_style self }
+    {
+        matches!(self, Style::D | Style::Dc)
+    }
+
+    /// Whether it is a cramped form.
+    pub fn is_cramped(self) -> bool
+        ensures { result ≡ is_cramped_style self }
+    {
+        matches!(self, Style::Dc | Style::Tc | Style::Sc | Style::Ssc)
     }
 
     /// The size of its fonts.

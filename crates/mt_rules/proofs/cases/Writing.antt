@@ -8,13 +8,14 @@ use Rattle.mt_box.specs.declared.extents.Extents.{Extents}
 use Rattle.mt_box.specs.Layout.{Layout}
 use Rattle.mt_box.specs.Rows.{PieceKern}
 use Rattle.mt_rules.specs.declared.kind.Kind.{Kind}
+use Rattle.mt_rules.specs.declared.shifts.Shifts.{Shifts}
 use Rattle.mt_rules.specs.declared.kind.Limits.{Limits}
 use Rattle.mt_rules.specs.declared.symbol.Symbol.{Symbol}
 use Rattle.mt_rules.specs.declared.symbol.Delim.{Delim}
 use Rattle.mt_rules.specs.Setting.{Setting, ◌>>=◌}
 use Rattle.mt_rules.specs.Candidates.{candidates}
 use Rattle.mt_rules.specs.Delimiters.{delimiter, delimiter_variant}
-use Rattle.mt_rules.specs.Scripts.{ShiftsValue, script_shifts, row_with_scripts}
+use Rattle.mt_rules.specs.Scripts.{script_shifts, row_with_scripts}
 use Rattle.mt_rules.specs.Limits.{limits}
 use Rattle.mt_rules.specs.Fractions.{fraction_shifts, fraction}
 use Rattle.mt_rules.specs.Radicals.{radical}
@@ -57,7 +58,7 @@ extents width height depth = record { width = width; height = height; depth = de
 abbrev pub layout : ℤ → ℤ → ℤ → List Place → Layout
 layout width height depth places = record { extents = extents width height depth; places = places }
 
-abbrev pub shifts : ℤ → ℤ → ShiftsValue
+abbrev pub shifts : ℤ → ℤ → Shifts
 shifts up down = record { up = up; down = down }
 
 -- ---- atoms
