@@ -46,3 +46,9 @@ pub record SteadyState : Type 0 where
 abbrev pub bytes_unless_past : Bool → List ℕ → Option (List ℕ)
 bytes_unless_past true bytes = None
 bytes_unless_past false bytes = Some bytes
+
+-- a sink over a stream
+pub record StreamState : Type 0 where
+  -- what the stream holds, where that is known
+  pub contents : Option (List ℕ)
+  pub faults : ℕ

@@ -1,13 +1,13 @@
 //! A cabinet over the files of a system. What a file holds is not told.
-ghost use Rattle.std.specs.Prelude.{◌≡◌, ◌<◌, ◌≤◌, ◌^◌, vec_len, length, IfOk, IfSome, None};
+ghost use Rattle.std.specs.Prelude.{◌≡◌, ◌<◌, ◌≤◌, ◌^◌, vec_len, length, IfOk, IfSome, MatchResult, Ok, Err, None};
 ghost use Rattle.mt_outside.specs.Counts.{FetchLeaves, next_count};
 ghost use Rattle.mt_outside.specs.Files.{content};
 
+use crate::reading::read_within;
 use crate::{Cabinet, FetchError};
 use mt_scaled::{Bytes, Name};
 use std::alloc::Global;
 use std::fs;
-use std::io::Read;
 use std::marker::Model;
 use std::rt::Files;
 
@@ -38,38 +38,34 @@ impl<'a, R: Files> FileCabinet<'a, R> {
             lost: None,
         }
     }
+
+    // The answer to a read. One that failed is counted, and its name is kept.
+    fn answer(&mut self, name: Name, read: Result<Vec<u8>, FetchError>) -> Result<Bytes, FetchError>
+        ensures is { MatchResult read (λ bytes. result ≡ Ok bytes.items) (λ error. result ≡ Err error) }
+        ensures leaves { FetchLeaves self.old.faults self.new.faults self.old.lost self.new.lost name result }
+        ensures raises { result ≡ Err FetchError.Failed → self.new.faults ≡ next_count self.old.faults }
+    {
+        match read {
+            Ok(bytes) => Ok(Bytes::from_vec(bytes)),
+            Err(FetchError::Failed) => {
+                self.faults = self.faults.saturating_add(1);
+                self.lost = Some(name);
+                Err(FetchError::Failed)
+            }
+            Err(error) => Err(error),
+        }
+    }
 }
 
-// Reads a file to its end, if it has no more than `limit` bytes.
-fn read_within<R: Files>(
-    rt: &R,
-    alloc: Global,
-    name: &str,
-    limit: u64,
-) -> Result<Vec<u8>, FetchError>
+// The bytes of a file, if it can be opened and has no more than `limit`.
+fn read_file<R: Files>(rt: &R, alloc: Global, name: &str, limit: u64) -> Result<Vec<u8>, FetchError>
     requires { limit < 2 ^ 40 }
     ensures { IfOk result (λ bytes. vec_len bytes ≤ limit) }
 {
-    let mut file = match fs::open(rt, name) {
-        Ok(file) => file,
-        Err(_) => return Err(FetchError::Failed),
-    };
-    let mut bytes = Vec::new(alloc);
-    let mut buffer = [0u8; 4096];
-    for _ in 0..=limit {
-        let count = match file.read(&mut buffer) {
-            Ok(count) => count,
-            Err(_) => return Err(FetchError::Failed),
-        };
-        if count == 0 {
-            return Ok(bytes);
-        }
-        bytes.extend_from_slice(&buffer[..count])?;
-        if bytes.len() as u64 > limit {
-            return Err(FetchError::TooLong);
-        }
+    match fs::open(rt, name) {
+        Ok(mut file) => read_within(&mut file, alloc, limit),
+        Err(_) => Err(FetchError::Failed),
     }
-    Err(FetchError::TooLong)
 }
 
 impl<R: Files> Cabinet for FileCabinet<'_, R> {
@@ -87,14 +83,7 @@ impl<R: Files> Cabinet for FileCabinet<'_, R> {
         ensures raises { result ≡ Err FetchError.Failed → self.new.faults ≡ next_count self.old.faults }
     {
         let lost = Name::from_slice(alloc, name.as_bytes())?;
-        match read_within(self.rt, alloc, name, limit) {
-            Ok(bytes) => Ok(Bytes::from_vec(bytes)),
-            Err(FetchError::Failed) => {
-                self.faults = self.faults.saturating_add(1);
-                self.lost = Some(lost);
-                Err(FetchError::Failed)
-            }
-            Err(error) => Err(error),
-        }
+        let read = read_file(self.rt, alloc, name, limit);
+        self.answer(lost, read)
     }
 }

@@ -1,7 +1,7 @@
 //! Where files come from and where bytes go: cabinets and sinks, in memory and over the system.
 //!
 //! What a cabinet holds and what a sink has taken are told where they can be known, so that contracts can speak of
-//! them. A real file or stream tells nothing. Each failure is counted, so that none can be passed over.
+//! them. A real file or stream tells nothing. Each failure is counted, and none is taken for an end or for a success.
 #![tactic(auto)]
 
 mod cabinet;
@@ -10,6 +10,7 @@ mod file_cabinet;
 mod files;
 mod memory_cabinet;
 mod memory_sink;
+mod reading;
 mod sink;
 mod steady_cabinet;
 mod steady_sink;

@@ -1,12 +1,16 @@
-//! A sink over a stream. What the stream has taken is not told.
+//! A sink over a stream. It tells no bytes; its own clauses say what the stream got.
 ghost use Rattle.std.specs.Prelude.{◌≡◌, ◌<◌, ◌≤◌, IfOk, OnErr, None, length};
+ghost use Rattle.std.specs.Io.KnownBytes.{WriteAppends};
 ghost use Rattle.mt_outside.specs.Counts.{WriteLeaves, next_count};
 
 use crate::{PutError, Sink};
 use std::io::Write;
 use std::marker::Model;
 
-/// A stream that bytes are written to. Contracts see it as its count of faults.
+/// A stream that bytes are written to. Contracts see what the stream holds, where that is known, and the count of faults.
+///
+/// It never flushes, so it asks for a stream that puts out what its `write` takes, as standard output does. Who lends
+/// one that keeps bytes back, as a `BufWriter`, flushes it, and sees to it where that fails: it is not counted here.
 #[derive(Drop)]
 pub struct StreamSink<W: Write + Drop> {
     stream: W,
@@ -14,17 +18,17 @@ pub struct StreamSink<W: Write + Drop> {
 }
 
 impl<W: Write + Drop> Model for StreamSink<W> {
-    ghost use Rattle.std.specs.Prelude.{ℕ};
+    ghost use Rattle.mt_outside.specs.Memory.{StreamState};
 
-    ghost Value = { ℕ };
+    ghost Value = { StreamState };
 
-    ghost view = { λ s. s.faults };
+    ghost view = { λ s. record { contents = W.contents s.stream; faults = s.faults } };
 }
 
 impl<W: Write + Drop> StreamSink<W> {
     /// A sink over this stream. Takes no memory.
     pub fn new(stream: W) -> Self
-        ensures { result ≡ 0 }
+        ensures { result ≡ record { contents = W.contents stream; faults = 0 } }
     {
         StreamSink { stream, faults: 0 }
     }
@@ -33,13 +37,14 @@ impl<W: Write + Drop> StreamSink<W> {
 impl<W: Write + Drop> Sink for StreamSink<W> {
     ghost written = { λ s. None };
 
-    ghost faults = { λ s. s };
+    ghost faults = { λ s. s.faults };
 
     fn put(&mut self, bytes: &[u8]) -> Result<usize, PutError>
         ensures within { IfOk result (λ count. count ≤ length bytes.now) }
         ensures progress { IfOk result (λ count. 0 < length bytes.now → 0 < count) }
-        ensures leaves { WriteLeaves self.old self.new result }
-        ensures raises { OnErr result (self.new ≡ next_count self.old) }
+        ensures passed { WriteAppends self.old.contents self.new.contents result bytes.now }
+        ensures leaves { WriteLeaves self.old.faults self.new.faults result }
+        ensures raises { OnErr result (self.new.faults ≡ next_count self.old.faults) }
     {
         match self.stream.write(bytes) {
             Ok(0) if !bytes.is_empty() => {}

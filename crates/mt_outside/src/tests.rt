@@ -1,3 +1,4 @@
+use crate::reading::read_within;
 use crate::{
     Cabinet, CallList, FetchError, FileCabinet, FileList, Held, MemoryCabinet, MemorySink,
     PutError, Sink, SteadyCabinet, SteadySink, StreamSink, write_all,
@@ -5,17 +6,21 @@ use crate::{
 use mt_scaled::{Bytes, Name};
 use std::alloc::{AllocError, Global};
 use std::fs;
-use std::io::{self, Write};
+use std::io::{self, Read, Write};
 use std::test::Fail;
 
-/// A stream that takes at most two bytes at a call, until it has no more room.
+/// A stream that takes at most two bytes at a call, until it has no more room. Then it takes none, or breaks.
 #[derive(Drop)]
-struct Narrow {
+struct ShortWrites {
     room: usize,
+    breaks: bool,
 }
 
-impl Write for Narrow {
+impl Write for ShortWrites {
     fn write(&mut self, bytes: &[u8]) -> io::Result<usize> {
+        if self.breaks && self.room == 0 {
+            return Err(io::ErrorKind::BrokenPipe.into());
+        }
         let count = bytes.len().min(2).min(self.room);
         self.room -= count;
         Ok(count)
@@ -23,6 +28,24 @@ impl Write for Narrow {
 
     fn flush(&mut self) -> io::Result<()> {
         Ok(())
+    }
+}
+
+/// A reader that gives at most two bytes at a call, until none is left. Then it is at its end, or breaks.
+#[derive(Drop)]
+struct ShortReads {
+    left: usize,
+    breaks: bool,
+}
+
+impl Read for ShortReads {
+    fn read(&mut self, buffer: &mut [u8]) -> io::Result<usize> {
+        if self.breaks && self.left == 0 {
+            return Err(io::ErrorKind::TimedOut.into());
+        }
+        let count = buffer.len().min(2).min(self.left);
+        self.left -= count;
+        Ok(count)
     }
 }
 
@@ -112,7 +135,23 @@ fn real_files_are_read_whole_or_refused(rt: HostRuntime) -> Result<(), Fail> {
     assert!(rt; matches!(&cabinet.fetch(alloc, path, 9), Err(FetchError::TooLong)));
     fs::remove_file(&rt, path)?;
     assert!(rt; matches!(&cabinet.fetch(alloc, path, 10), Err(FetchError::Failed)));
+    // A folder can be opened, and cannot be read.
+    assert!(rt; matches!(&cabinet.fetch(alloc, ".", 10), Err(FetchError::Failed)));
     Ok(())
+}
+
+#[test]
+fn a_reader_is_read_whole_or_refused(rt: HostRuntime) {
+    let cases: [(u32, bool, Result<usize, FetchError>); 3] = [
+        (5, false, Ok(5)),
+        (4, false, Err(FetchError::TooLong)),
+        (9, true, Err(FetchError::Failed)),
+    ];
+    for (limit, breaks, want) in cases {
+        let mut reader = ShortReads { left: 5, breaks };
+        let read = read_within(&mut reader, rt.alloc(), u64::from(limit));
+        assert_eq!(rt; read.map(|bytes| bytes.len()), want);
+    }
 }
 
 #[test]
@@ -122,10 +161,11 @@ fn a_stream_takes_bytes(rt: HostRuntime) {
 }
 
 #[test]
-fn a_stream_that_takes_no_more_is_a_fault(rt: HostRuntime) {
-    let mut sink = StreamSink::new(Narrow { room: 5 });
-    assert_eq!(rt; write_all(&mut sink, b"four"), Ok(()));
-    assert_eq!(rt; write_all(&mut sink, b"more"), Err(1));
-    assert_eq!(rt; sink.put(b""), Ok(0));
-    assert_eq!(rt; sink.put(b"x"), Err(PutError::Failed));
+fn a_stream_that_takes_no_more_or_breaks_is_a_fault(rt: HostRuntime) {
+    for breaks in [false, true] {
+        let mut sink = StreamSink::new(ShortWrites { room: 5, breaks });
+        assert_eq!(rt; write_all(&mut sink, b"four"), Ok(()));
+        assert_eq!(rt; write_all(&mut sink, b"more"), Err(1));
+        assert_eq!(rt; sink.put(b"x"), Err(PutError::Failed));
+    }
 }
