@@ -1,15 +1,15 @@
--- What leads after the pages.
+-- The definitions after post (`defined_again`).
 use Rattle.std.proofs.Common.{◌≡◌, ℕ, zero, suc, ◌+◌, ◌<◌, ◌≤◌, List, [], ◌∷◌, ◌++◌, length, take, get_or, refl, sym, ap, subst, arith}
 use Rattle.std.specs.Prelude.{ℤ, true, false, Bool, map, Some, if◌then◌else◌, ◌==◌, nat_eq, ◌||◌}
 use Rattle.std.specs.Str.{bytes_eq}
 use Rattle.std.proofs.lemmas.Bool.Decides.{nat_tests}
 use Rattle.std.proofs.lemmas.List.{take_more, map-append}
 use Rattle.mt_dvi.specs.Codes.{Define, Definition, Postamble}
-use Rattle.mt_dvi.specs.Emits.{Emits}
+use Rattle.mt_dvi.specs.writer.Emits.{Emits}
 use Rattle.mt_dvi.specs.File.{Continues, Page, agrees, file_step}
 use Rattle.mt_dvi.specs.Fonts.{first_definition, definition_of}
-use Rattle.mt_dvi.specs.LeadsTo.{LeadsTo, is_among}
-use Rattle.mt_dvi.specs.Pages.{after_post}
+use Rattle.mt_dvi.specs.writer.LeadsTo.{LeadsTo, is_among}
+use Rattle.mt_dvi.specs.writer.Pages.{after_post}
 use Rattle.mt_family.specs.SetValue.{SetValue}
 use Rattle.mt_dvi.proofs.Prefix.{leads_next}
 

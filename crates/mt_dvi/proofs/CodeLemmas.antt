@@ -1,11 +1,11 @@
--- Bytes that are one operation.
+-- Bytes that are one operation (`code_right` and the others), and bytes appended in pieces (`emits_1`, `emits_2`).
 use Rattle.std.proofs.Common.{◌^◌, ◌≡◌, ℕ, ◌+◌, ◌*◌, ◌/◌, ◌%◌, ◌<◌, ◌≤◌, List, [], ◌∷◌, ◌++◌, refl, ◌∙◌, ap, arith, length, append_assoc, length-append}
 use Rattle.std.specs.Prelude.{ℤ, true, false, Bool}
 use Rattle.std.proofs.lemmas.Bool.Decides.{nat_tests}
 use Rattle.std.specs.Prelude.{if◌then◌else◌}
 use Rattle.std.specs.Int.{to_be_bytes, w32}
 use Rattle.mt_dvi.specs.Codes.{Bop, Char, Define, Down, Eop, Operation, Post, PostPost, Pre, Right, Rule, Select, operand_size, operation, signed_of, unsigned}
-use Rattle.mt_dvi.specs.Emits.{Emits, IsCode, four_bytes, own_postamble, own_preamble}
+use Rattle.mt_dvi.specs.writer.Emits.{Emits, IsCode, four_bytes, own_postamble, own_preamble}
 use Rattle.mt_dvi.specs.WrittenPlaces.{page_counts}
 
 -- the four bytes are the number

@@ -1,11 +1,11 @@
--- At most 48 fonts are defined.
+-- At most 48 fonts are defined (`distinct_all`).
 use Rattle.std.proofs.Common.{◌≡◌, ℕ, zero, suc, ◌+◌, ◌<◌, ◌≤◌, List, [], ◌∷◌, ◌++◌, length, refl, sym, ◌∙◌, ap, arith, length-append}
 use Rattle.std.specs.Prelude.{true, false, Bool, ◌==◌, ◌||◌, if◌then◌else◌, All, IsSomeAnd, slice_get}
 use Rattle.std.proofs.lemmas.Bool.Decides.{nat_tests}
 use Rattle.mt_tfm.specs.Font.{Metrics}
-use Rattle.mt_dvi.specs.Distinct.{AreDistinct, free}
-use Rattle.mt_dvi.specs.LeadsTo.{is_among, fonts_after, fonts_after_all, with_number}
-use Rattle.mt_dvi.specs.WrittenPlaces.{HasGlyph, IsWritable}
+use Rattle.mt_dvi.specs.writer.Distinct.{AreDistinct, free}
+use Rattle.mt_dvi.specs.writer.LeadsTo.{is_among, fonts_after, fonts_after_all, with_number}
+use Rattle.mt_dvi.specs.Writable.{HasGlyph, IsWritable}
 use Rattle.mt_family.specs.SetValue.{SetValue}
 use Rattle.mt_box.specs.declared.place.Place.{Place}
 use Rattle.mt_box.specs.declared.place.Place.TheVariants.{Glyph, Rule}

@@ -1,4 +1,4 @@
--- Fonts that are defined, and selected.
+-- Fonts that are defined (`introduced`) and selected (`chosen`).
 use Rattle.std.proofs.Common.{◌≡◌, ℕ, ◌<◌, ◌≤◌, List, [], ◌∷◌, ◌++◌, zero, suc, length, refl, ◌∙◌, ap, subst, arith}
 use Rattle.std.specs.Prelude.{pos, nat_abs, true, false, Bool, Some, None, slice_get, map, ◌==◌, if◌then◌else◌, All, IsTrue, ◌||◌}
 use Rattle.std.proofs.lemmas.Bool.Decides.{nat_tests}
@@ -6,10 +6,10 @@ use Rattle.std.proofs.lemmas.Int.{ints}
 use Rattle.mt_tfm.specs.Font.{Metrics}
 use Rattle.std.proofs.lemmas.List.{map-append, append-nil}
 use Rattle.mt_dvi.specs.Codes.{Define, Definition, Select}
-use Rattle.mt_dvi.specs.Emits.{Emits}
+use Rattle.mt_dvi.specs.writer.Emits.{Emits}
 use Rattle.mt_dvi.specs.File.{Continues, File, file_step}
 use Rattle.mt_dvi.specs.Fonts.{metrics_at, first_definition, definition_of}
-use Rattle.mt_dvi.specs.LeadsTo.{LeadsTo, in_page, is_among, with_definitions, with_number}
+use Rattle.mt_dvi.specs.writer.LeadsTo.{LeadsTo, in_page, is_among, with_definitions, with_number}
 use Rattle.mt_dvi.specs.Machine.{is_far}
 use Rattle.mt_family.specs.Fields.{is_name}
 use Rattle.mt_family.specs.ListFacts.{IsFontLine}

@@ -1,20 +1,21 @@
--- What one operation does in a page.
+-- Moves to the right and down (`moved_right`, `moved_down`).
 use Rattle.std.proofs.Common.{◌≡◌, ℕ, ◌<◌, ◌≤◌, List, length, refl, ◌∙◌, ap, subst, arith}
 use Rattle.std.specs.Prelude.{ℤ, ◌+ℤ◌, nat_abs, false}
 use Rattle.std.proofs.lemmas.Bool.Decides.{nat_tests}
 use Rattle.std.proofs.lemmas.Int.{ints}
+use Rattle.mt_scaled.specs.Number.{max_dimen}
 use Rattle.mt_dvi.specs.Codes.{Down, Right}
-use Rattle.mt_dvi.specs.Emits.{Emits}
+use Rattle.mt_dvi.specs.writer.Emits.{Emits}
 use Rattle.mt_dvi.specs.File.{Continues, File, file_step}
-use Rattle.mt_dvi.specs.LeadsTo.{LeadsTo, in_page}
-use Rattle.mt_dvi.specs.WrittenPlaces.{InRange}
+use Rattle.mt_dvi.specs.writer.LeadsTo.{LeadsTo, in_page}
+use Rattle.mt_dvi.specs.Writable.{InRange}
 use Rattle.mt_dvi.specs.Machine.{is_far}
 use Rattle.mt_family.specs.SetValue.{SetValue}
 use Rattle.mt_dvi.specs.declared.page.Cursor.{Cursor}
 use Rattle.mt_dvi.proofs.Prefix.{leads_next}
 
 -- a number in range, as the proofs use it
-pub half : (z : ℤ) → InRange z → nat_abs z ≤ 1073741823
+pub half : (z : ℤ) → InRange z → nat_abs z ≤ max_dimen
 half z in_range = omega (arith, ints, in_range.low, in_range.high)
 
 pub small : (z : ℤ) → InRange z → nat_abs z < 2147483648

@@ -1,4 +1,4 @@
--- A page as a whole.
+-- A page (`page_written`), and the pages so far (`pages_next`).
 use Rattle.std.proofs.Common.{◌≡◌, ℕ, zero, suc, ◌+◌, ◌*◌, ◌<◌, ◌≤◌, List, [], ◌∷◌, ◌++◌, length, take, get_or, refl, sym, ◌∙◌, ap, subst, arith, append_assoc, length-append}
 use Rattle.std.specs.Prelude.{ℤ, pos, negsuc, true, All, min, ◌^◌, ◌-◌}
 use Rattle.std.specs.Ordering.{int_eq}
@@ -6,12 +6,12 @@ use Rattle.std.proofs.lemmas.Bool.Decides.{nat_tests}
 use Rattle.std.proofs.lemmas.List.{append-nil, take_more}
 use Rattle.mt_dvi.specs.Limits.{max_pages, max_places}
 use Rattle.mt_dvi.specs.Codes.{Bop, Eop}
-use Rattle.mt_dvi.specs.Emits.{FitsFourBytes, Emits}
-use Rattle.mt_dvi.specs.File.{BetweenPages, Continues, File, Page, at_start, file_step}
-use Rattle.mt_dvi.specs.LeadsTo.{LeadsTo, at_origin, in_page, fonts_after, fonts_after_all, with_definitions, with_places}
+use Rattle.mt_dvi.specs.writer.Emits.{FitsFourBytes, Emits}
+use Rattle.mt_dvi.specs.File.{BetweenPages, Continues, File, Page, at_start, empty_page, file_step}
+use Rattle.mt_dvi.specs.writer.LeadsTo.{LeadsTo, at_origin, in_page, fonts_after, fonts_after_all, with_definitions, with_places}
 use Rattle.mt_dvi.specs.Machine.{WrittenPlace}
 use Rattle.mt_dvi.specs.WrittenPlaces.{all_places, written_places, numbered_pages, page_counts, numbered_page}
-use Rattle.mt_dvi.specs.Pages.{PagesWritten, between_pages}
+use Rattle.mt_dvi.specs.writer.Pages.{PagesWritten, between_pages}
 use Rattle.mt_family.specs.SetValue.{SetValue}
 use Rattle.mt_box.specs.declared.place.Place.{Place}
 use Rattle.mt_dvi.specs.declared.page.Cursor.{Cursor}
@@ -24,7 +24,7 @@ same_int (negsuc n) = grind (arith, nat_tests)
 
 -- the file in a page without places, where last is the offset of its bop
 abbrev open_file : List Page → ℤ → ℕ → List ℕ → File
-open_file pages last place_count counts = record at_start { phase = BetweenPages; mag = pos 1000; pages = pages; last = last; place_count = place_count; page = record { counts = counts; places = [] } }
+open_file pages last place_count counts = record at_start { phase = BetweenPages; mag = pos 1000; pages = pages; last = last; place_count = place_count; page = empty_page counts }
 
 step_bop : (fonts : SetValue) (numbers : List ℕ) (pages : List Page) (last : ℤ) (place_count at : ℕ) (counts : List ℕ) (rest : List ℕ)
     → file_step fonts (record (between_pages fonts numbers pages last place_count) { at = at }) (Bop counts last) rest ≡ Continues (record (in_page (with_definitions fonts (open_file pages (pos at) place_count counts) numbers) at_origin) { at = at })
@@ -32,7 +32,7 @@ step_bop fonts numbers pages last place_count at counts rest = rw (same_int last
 
 step_eop : (fonts : SetValue) (numbers : List ℕ) (pages : List Page) (last : ℤ) (place_count at : ℕ) (counts : List ℕ) (places : List WrittenPlace) (cursor : Cursor) (rest : List ℕ)
     → file_step fonts (record (in_page (with_definitions fonts (with_places (open_file pages last place_count counts) places) numbers) cursor) { at = at }) Eop rest
-    ≡ Continues (record (between_pages fonts numbers (pages ++ record { counts = counts; places = places } ∷ []) last (place_count + length places)) { at = at })
+    ≡ Continues (record (between_pages fonts numbers (pages ++ record { counts = counts; places = places; specials = [] } ∷ []) last (place_count + length places)) { at = at })
 step_eop fonts numbers pages last place_count at counts places cursor rest = refl
 
 pub page_written : (fonts : SetValue) (o0 o1 o2 o3 : List ℕ) (old_defined new_defined : List ℕ) (number : ℕ) (last : ℤ) (page : List Place)

@@ -1,16 +1,19 @@
--- The places of a page so far.
+-- The places of a page so far (`places_next`).
 use Rattle.std.proofs.Common.{◌≡◌, ℕ, ◌+◌, ◌<◌, ◌≤◌, List, [], ◌∷◌, ◌++◌, suc, get_or, length, take, drop, ◌-◌, refl, sym, ◌∙◌, ap, subst, arith, append_assoc, length-append}
 use Rattle.std.specs.Prelude.{ℤ, ◌-ℤ◌, nat_abs, true, false, Bool, All, if◌then◌else◌}
 use Rattle.std.proofs.lemmas.Bool.Decides.{nat_tests}
 use Rattle.std.proofs.lemmas.Int.{ints}
 use Rattle.std.proofs.lemmas.List.{append-nil}
+use Rattle.mt_scaled.specs.Number.{max_dimen}
 use Rattle.mt_box.specs.Places.{h_of, v_of}
 use Rattle.mt_dvi.specs.Limits.{max_places}
-use Rattle.mt_dvi.specs.Emits.{FitsFourBytes}
+use Rattle.mt_dvi.specs.writer.Emits.{FitsFourBytes}
 use Rattle.mt_dvi.specs.File.{File}
-use Rattle.mt_dvi.specs.LeadsTo.{IsReachable, LeadsTo, at_origin, cursor_after, in_page, fonts_after, fonts_after_all, with_definitions, with_place, with_places}
+use Rattle.mt_dvi.specs.writer.LeadsTo.{IsReachable, LeadsTo, at_origin, cursor_after, in_page, fonts_after, fonts_after_all, with_definitions, with_place, with_places}
 use Rattle.mt_dvi.specs.Machine.{WrittenPlace, is_far}
-use Rattle.mt_dvi.specs.WrittenPlaces.{InRange, IsWritable, first_of, written_places, must_put, right_edge}
+use Rattle.mt_dvi.specs.Edges.{right_edge}
+use Rattle.mt_dvi.specs.Writable.{InRange, IsWritable}
+use Rattle.mt_dvi.specs.WrittenPlaces.{first_of, written_places, must_put}
 use Rattle.mt_family.specs.SetValue.{SetValue}
 use Rattle.mt_dvi.proofs.Moves.{half}
 use Rattle.mt_box.specs.declared.place.Place.{Place}
@@ -56,7 +59,7 @@ can_h fonts (Rule h v height width) can = can.h_in_range
 not_far : (z : ℤ) → is_far z ≡ false → nat_abs z < 2147483648
 not_far z e = grind (arith, nat_tests)
 
-reach_from : (h edge next : ℤ) (far : Bool) → is_far (next -ℤ edge) ≡ far → nat_abs h ≤ 1073741823 → nat_abs next ≤ 1073741823 → FitsFourBytes (next -ℤ (if far then h else edge))
+reach_from : (h edge next : ℤ) (far : Bool) → is_far (next -ℤ edge) ≡ far → nat_abs h ≤ max_dimen → nat_abs next ≤ max_dimen → FitsFourBytes (next -ℤ (if far then h else edge))
 reach_from h edge next true is lt lt' = omega (arith, ints)
 reach_from h edge next false is lt lt' = not_far (next -ℤ edge) is
 

@@ -1,17 +1,18 @@
--- A place is written in a page.
+-- A glyph or a rule is written in a page (`glyph_written`, `rule_written`).
 use Rattle.std.proofs.Common.{◌≡◌, ℕ, ◌<◌, ◌≤◌, List, length, refl, subst, arith}
 use Rattle.std.specs.Prelude.{ℤ, pos, negsuc, ◌+ℤ◌, ◌<ℤ◌, nat_abs, nat_le, true, false, Bool, Option, Some, None, IsSomeAnd, if◌then◌else◌}
 use Rattle.std.proofs.lemmas.Bool.Decides.{nat_tests}
 use Rattle.std.proofs.lemmas.Int.{ints}
+use Rattle.mt_scaled.specs.Number.{max_dimen}
 use Rattle.mt_tfm.specs.Font.{Metrics, exists, width_of}
 use Rattle.mt_dvi.specs.Limits.{max_places}
 use Rattle.mt_dvi.specs.Codes.{Char, Rule}
-use Rattle.mt_dvi.specs.Emits.{Emits}
+use Rattle.mt_dvi.specs.writer.Emits.{Emits}
 use Rattle.mt_dvi.specs.File.{Continues, File, file_step}
 use Rattle.mt_dvi.specs.Fonts.{metrics_at}
-use Rattle.mt_dvi.specs.LeadsTo.{LeadsTo, cursor_after, in_page, with_definitions, with_place}
+use Rattle.mt_dvi.specs.writer.LeadsTo.{LeadsTo, cursor_after, in_page, with_definitions, with_place}
 use Rattle.mt_dvi.specs.Machine.{is_far, is_positive}
-use Rattle.mt_dvi.specs.WrittenPlaces.{InRange, HasGlyph, IsWritable}
+use Rattle.mt_dvi.specs.Writable.{InRange, HasGlyph, IsWritable}
 use Rattle.mt_family.specs.SetValue.{SetValue}
 use Rattle.mt_box.specs.declared.place.Place.TheVariants as places
 use Rattle.mt_dvi.specs.declared.page.Cursor.{Cursor}
@@ -25,7 +26,7 @@ positive : (z : ℤ) → pos 0 <ℤ z → is_positive z ≡ true
 positive (pos n) lt = grind (arith, nat_tests)
 positive (negsuc n) lt = absurd (omega (arith, ints, lt))
 
-sum_near : (a b : ℤ) → nat_abs a ≤ 1073741823 → nat_abs b ≤ 1073741823 → is_far (a +ℤ b) ≡ false
+sum_near : (a b : ℤ) → nat_abs a ≤ max_dimen → nat_abs b ≤ max_dimen → is_far (a +ℤ b) ≡ false
 sum_near a b la lb = near (a +ℤ b) (omega (arith, ints))
 
 step_char : (fonts : SetValue) (file : File) (c : Cursor) (n code : ℕ) (put : Bool) (metrics : Metrics) (rest : List ℕ) → metrics_at fonts n ≡ Some metrics → exists metrics code ≡ true

@@ -1,11 +1,11 @@
--- Where the machine leads after some bytes of a file.
+-- One operation more leads to the next state (`leads_next`).
 use Rattle.std.proofs.Common.{◌≡◌, ℕ, ◌+◌, ◌≤◌, List, [], ◌∷◌, ◌++◌, length, take, drop, refl, ◌∙◌, ap, arith, append_assoc, length-append}
 use Rattle.std.specs.Prelude.{nat_lt, false, Ok}
 use Rattle.std.proofs.lemmas.Bool.Decides.{nat_tests}
 use Rattle.mt_dvi.specs.Codes.{Operation, operand_size, operation}
-use Rattle.mt_dvi.specs.Emits.{Emits, IsCode}
+use Rattle.mt_dvi.specs.writer.Emits.{Emits, IsCode}
 use Rattle.mt_dvi.specs.File.{Continues, Ends, Fails, File, Reading, Continuation, advance, after_step, read, reading, file_step}
-use Rattle.mt_dvi.specs.LeadsTo.{LeadsTo}
+use Rattle.mt_dvi.specs.writer.LeadsTo.{LeadsTo}
 use Rattle.mt_family.specs.SetValue.{SetValue}
 
 -- operands are passed over

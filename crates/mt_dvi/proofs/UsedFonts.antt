@@ -1,4 +1,4 @@
--- The fonts that are defined are those that are used, each once.
+-- The fonts that are defined are those that are used, each once (`once_each`).
 use Rattle.std.proofs.Common.{◌≡◌, ℕ, zero, suc, ◌+◌, ◌<◌, List, [], ◌∷◌, ◌++◌, length, refl, sym, ◌∙◌, ap, arith}
 use Rattle.std.specs.Prelude.{true, false, Bool, map, ◌==◌, ◌||◌, if◌then◌else◌, All, count_by, cond}
 use Rattle.std.proofs.lemmas.List.Recursion.{is_count_by}
@@ -7,8 +7,8 @@ use Rattle.mt_tfm.specs.Font.{Metrics}
 use Rattle.std.proofs.lemmas.Bool.Decides.{nat_tests}
 use Rattle.mt_dvi.specs.Codes.{Definition}
 use Rattle.mt_dvi.specs.Fonts.{definition_of}
-use Rattle.mt_dvi.specs.LeadsTo.{is_among, fonts_after_all, with_number}
-use Rattle.mt_dvi.specs.WrittenPlaces.{HasGlyph, IsWritable}
+use Rattle.mt_dvi.specs.writer.LeadsTo.{is_among, fonts_after_all, with_number}
+use Rattle.mt_dvi.specs.Writable.{HasGlyph, IsWritable}
 use Rattle.mt_dvi.specs.Written.{DefinesEachOnce, IsOfSet, is_of}
 use Rattle.mt_family.specs.SetValue.{SetValue}
 use Rattle.mt_dvi.proofs.PagePlaces.{all_head, all_tail}

@@ -1,16 +1,17 @@
--- The whole file.
+-- A file from its first byte to its last (`file_written`), and what is read back from it (`reads_back`).
 use Rattle.std.proofs.Common.{◌≡◌, ℕ, ◌+◌, ◌*◌, ◌≤◌, ◌%◌, List, [], ◌∷◌, ◌++◌, length, refl, sym, ◌∙◌, ap, subst, arith, append_assoc, length-append}
 use Rattle.std.specs.Prelude.{ℤ, negsuc, true, false, map, ◌==◌, nat_lt, Ok}
 use Rattle.std.proofs.lemmas.Bool.Decides.{nat_tests}
 use Rattle.mt_dvi.specs.Limits.{max_pages, max_places}
 use Rattle.mt_dvi.specs.Codes.{Post, PostPost, Postamble, Pre}
-use Rattle.mt_dvi.specs.Emits.{Emits, own_postamble, own_preamble}
+use Rattle.mt_dvi.specs.writer.Emits.{Emits, own_postamble, own_preamble}
 use Rattle.mt_dvi.specs.File.{pages_of, pages_of_reading, Continues, Ends, File, Page, at_start, read, file_step}
 use Rattle.mt_dvi.specs.Fonts.{definition_of}
-use Rattle.mt_dvi.specs.LeadsTo.{LeadsTo}
+use Rattle.mt_dvi.specs.writer.LeadsTo.{LeadsTo}
 use Rattle.mt_dvi.specs.Machine.{WrittenPlace}
-use Rattle.mt_dvi.specs.WrittenPlaces.{written_places, all_places, greatest_edge, lower_edge, numbered_pages, right_edge}
-use Rattle.mt_dvi.specs.Pages.{IsTail, PagesWritten, after_post, between_pages}
+use Rattle.mt_dvi.specs.Edges.{greatest_edge, lower_edge, right_edge}
+use Rattle.mt_dvi.specs.WrittenPlaces.{written_places, all_places, numbered_pages}
+use Rattle.mt_dvi.specs.writer.Pages.{IsTail, PagesWritten, after_post, between_pages}
 use Rattle.mt_dvi.specs.Written.{DefinesEachOnce, Written}
 use Rattle.mt_family.specs.SetValue.{SetValue}
 use Rattle.mt_box.specs.declared.place.Place.{Place}

@@ -1,11 +1,12 @@
--- The machine over a whole file (tex.web, sections 585 to 594).
+-- The machine over a whole file (`read`), and the pages of a file or its first fault (`Dvi`, `DviFault`; tex.web,
+-- sections 585 to 594).
 use Rattle.std.specs.Prelude.{◌≡◌, ℕ, zero, suc, ◌+◌, ℤ, pos, negsuc, List, [], ◌∷◌, ◌++◌, length, take, drop, map, max, Option, Some, None, Result, Ok, Err, Bool, true, nat_lt, nat_le, int_lt, ◌==◌, ◌&&◌, if◌then◌else◌}
 use Rattle.std.specs.Ordering.{int_eq}
 use Rattle.std.specs.Str.{bytes_eq}
 use Rattle.std.specs.List.{list_all}
 use Rattle.mt_family.specs.SetValue.{SetValue}
 use Rattle.mt_dvi.specs.Limits.{max_places}
-use Rattle.mt_dvi.specs.Codes.{Definition, Preamble, Postamble, Operation, Nop, Bop, Eop, Define, Pre, Post, PostPost, operand_size, operation}
+use Rattle.mt_dvi.specs.Codes.{Definition, Preamble, Postamble, Operation, Nop, Bop, Eop, Special, Define, Pre, Post, PostPost, operand_size, operation}
 use Rattle.mt_dvi.specs.Fonts.{first_definition}
 use Rattle.mt_dvi.specs.Machine.{Cause, Truncated, BadOpcode, BadPreamble, BadPointer, BadPost, UnknownFont, TooMany, OutOfRange, Machine, at_bop, WrittenPlace, Effects, perform, is_outside}
 use Rattle.mt_box.specs.declared.place.Place.{Place}
@@ -18,13 +19,22 @@ pub data Phase : Type 0 where
   InPage : Phase
   AfterPost : Phase
 
--- a page: the ten counts of its bop, and its places in order
+-- a special: its bytes, where it is on the page, and how many places of the page come before it
+pub record PageSpecial : Type 0 where
+  pub bytes : List ℕ
+  pub h : ℤ
+  pub v : ℤ
+  pub before : ℕ
+
+-- a page: the ten counts of its bop, its places in order, and its specials in order
 pub record Page : Type 0 where
   pub counts : List ℕ
   pub places : List WrittenPlace
+  pub specials : List PageSpecial
 
-abbrev pub no_page : Page
-no_page = record { counts = []; places = [] }
+-- a page as bop begins it
+abbrev pub empty_page : List ℕ → Page
+empty_page counts = record { counts = counts; places = []; specials = [] }
 
 abbrev pub no_post : Postamble
 no_post = record { last = pos 0; num = 0; den = 0; mag = pos 0; tallest = 0; widest = 0; depth = 0; pages = 0 }
@@ -63,7 +73,7 @@ at_start = record {
   fonts = [];
   again = [];
   pages = [];
-  page = no_page;
+  page = empty_page [];
   machine = at_bop;
   last = negsuc 0;
   deepest = 0;
@@ -84,7 +94,9 @@ abbrev pub is_preamble : Preamble → Bool
 is_preamble p = p.version == 2 && p.num == 25400000 && p.den == 473628672 && int_lt (pos 0) p.mag
 
 abbrev pub before_pre_step : File → Operation → Continuation
-before_pre_step file (Pre p) = if is_preamble p then Continues (record file { phase = BetweenPages; mag = p.mag; comment = p.comment }) else Fails BadPreamble
+before_pre_step file (Pre p) =
+    if is_preamble p then Continues (record file { phase = BetweenPages; mag = p.mag; comment = p.comment })
+    else Fails BadPreamble
 before_pre_step file op = Fails BadPreamble
 
 -- a font's definition; a second one of its number has the same name and size
@@ -92,17 +104,24 @@ abbrev pub agrees : Definition → Option Definition → Bool
 agrees d None = true
 agrees d (Some before) = bytes_eq d.name before.name && d.size == before.size
 
+abbrev pub can_define : File → Definition → Bool
+can_define file d = agrees d (first_definition (file.fonts ++ file.again) d.number)
+
 abbrev pub define_step : File → Definition → Continuation
-define_step file d = if agrees d (first_definition (file.fonts ++ file.again) d.number) then Continues (record file { fonts = file.fonts ++ d ∷ [] }) else Fails UnknownFont
+define_step file d =
+    if can_define file d then Continues (record file { fonts = file.fonts ++ d ∷ [] })
+    else Fails UnknownFont
 
 abbrev pub define_again_step : File → Definition → Continuation
-define_again_step file d = if agrees d (first_definition (file.fonts ++ file.again) d.number) then Continues (record file { again = file.again ++ d ∷ [] }) else Fails UnknownFont
+define_again_step file d =
+    if can_define file d then Continues (record file { again = file.again ++ d ∷ [] })
+    else Fails UnknownFont
 
 -- bop, with the pointer to the bop before
 abbrev pub bop_step : File → List ℕ → ℤ → Continuation
 bop_step file counts pointer =
     if int_eq pointer file.last then
-    Continues (record file { phase = InPage; page = record { counts = counts; places = [] }; machine = at_bop; last = pos file.at })
+    Continues (record file { phase = InPage; page = empty_page counts; machine = at_bop; last = pos file.at })
     else Fails BadPointer
 
 -- post; tallest and widest are not tested
@@ -113,10 +132,15 @@ is_postamble file p =
 
 abbrev pub between_pages_step : File → Operation → Continuation
 between_pages_step file (Bop counts pointer) = bop_step file counts pointer
-between_pages_step file (Post p) = if is_postamble file p then Continues (record file { phase = AfterPost; post = p; post_at = file.at }) else Fails BadPost
+between_pages_step file (Post p) =
+    if is_postamble file p then Continues (record file { phase = AfterPost; post = p; post_at = file.at })
+    else Fails BadPost
 between_pages_step file (Define d) = define_step file d
 between_pages_step file Nop = Continues file
 between_pages_step file op = Fails BadOpcode
+
+abbrev pub special_at : Machine → Page → List ℕ → PageSpecial
+special_at m page bytes = record { bytes = bytes; h = m.now.h; v = m.now.v; before = length page.places }
 
 -- in a page the range is tested first, and then the number of places
 abbrev pub place_step : File → Machine → Option WrittenPlace → Continuation
@@ -132,22 +156,38 @@ place_step file m (Some place) =
 
 abbrev pub effect_step : File → Effects → Continuation
 effect_step file (Err cause) = Fails cause
-effect_step file (Ok effect) = if is_outside effect.machine then Fails OutOfRange else place_step file effect.machine effect.place
+effect_step file (Ok effect) =
+    if is_outside effect.machine then Fails OutOfRange
+    else place_step file effect.machine effect.place
+
+-- xxx moves nothing
+abbrev pub special_step : File → List ℕ → Continuation
+special_step file bytes = Continues (record file {
+  page = record (file.page) { specials = file.page.specials ++ special_at file.machine file.page bytes ∷ [] };
+})
 
 -- eop, with an empty stack
 abbrev pub eop_step : File → Continuation
 eop_step file =
-    if length file.machine.saved == 0 then Continues (record file { phase = BetweenPages; pages = file.pages ++ file.page ∷ []; page = no_page; machine = at_bop })
+    if length file.machine.saved == 0 then
+    Continues (record file {
+      phase = BetweenPages;
+      pages = file.pages ++ file.page ∷ [];
+      page = empty_page [];
+      machine = at_bop;
+    })
     else Fails BadOpcode
 
 abbrev pub in_page_step : SetValue → File → Operation → Continuation
 in_page_step fonts file Eop = eop_step file
 in_page_step fonts file (Define d) = define_step file d
+in_page_step fonts file (Special bytes) = special_step file bytes
 in_page_step fonts file op = effect_step file (perform fonts file.fonts file.machine op)
 
 -- post_post, with the bytes after it: at least four, and all of them 223
 abbrev pub is_end : File → ℕ → ℕ → List ℕ → Bool
-is_end file post version after = post == file.post_at && version == 2 && list_all (λ (b : ℕ). b == 223) after
+is_end file post version after =
+    post == file.post_at && version == 2 && list_all (λ (b : ℕ). b == 223) after
 
 abbrev pub post_post_step : File → ℕ → ℕ → List ℕ → Continuation
 post_post_step file post version after =
@@ -195,7 +235,8 @@ reading fonts file (suc operands) [] = Err (record { cause = Truncated; at = fil
 reading fonts file zero [] = Err (record { cause = Truncated; at = file.at })
 reading fonts file zero (code ∷ bytes) =
     if nat_lt (length bytes) (operand_size code bytes) then Err (record { cause = Truncated; at = file.at })
-    else after_step file (operand_size code bytes + 1) (file_step fonts file (operation code (take (operand_size code bytes) bytes)) (drop (operand_size code bytes) bytes))
+    else after_step file (operand_size code bytes + 1)
+    (file_step fonts file (operation code (take (operand_size code bytes) bytes)) (drop (operand_size code bytes) bytes))
     (λ (next : File). reading fonts next (operand_size code bytes) bytes)
 
 -- the whole file

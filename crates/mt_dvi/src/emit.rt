@@ -1,7 +1,7 @@
 //! The bytes of each operation that the writer uses.
 ghost use Rattle.std.specs.Prelude.{◌≡◌, ◌<◌, ◌++◌, [], length, OnOk, if◌then◌else◌};
 ghost use Rattle.mt_dvi.specs.Codes.{Char, Rule, Right, Down, Select, Bop, Eop, Define, Pre, Post, PostPost, signed_of};
-ghost use Rattle.mt_dvi.specs.Emits.{four_bytes, Emits, AppendsSigned, FitsFourBytes, own_preamble, own_postamble};
+ghost use Rattle.mt_dvi.specs.writer.Emits.{four_bytes, Emits, AppendsSigned, FitsFourBytes, own_preamble, own_postamble};
 ghost use Rattle.mt_dvi.specs.WrittenPlaces.{page_counts};
 
 use crate::opcode::{

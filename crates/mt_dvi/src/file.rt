@@ -3,12 +3,13 @@ ghost use Rattle.std.specs.Prelude.{◌≡◌, ◌<◌, ◌≤◌, ◌+◌, ◌-
 ghost use Rattle.mt_family.specs.SetValue.{IsSet};
 ghost use Rattle.mt_dvi.specs.File.{Dvi};
 ghost use Rattle.mt_dvi.specs.Limits.{max_pages, max_places};
-ghost use Rattle.mt_dvi.specs.Emits.{FitsFourBytes};
-ghost use Rattle.mt_dvi.specs.WrittenPlaces.{IsWritable, all_places};
+ghost use Rattle.mt_dvi.specs.writer.Emits.{FitsFourBytes};
+ghost use Rattle.mt_dvi.specs.Writable.{IsWritable};
+ghost use Rattle.mt_dvi.specs.WrittenPlaces.{all_places};
 ghost use Rattle.mt_dvi.specs.Written.{Written};
 ghost use Rattle.mt_dvi.specs.Refusal.{refusal_of, refusal_in};
-ghost use Rattle.mt_dvi.specs.LeadsTo.{GrowsBy, GrowsWith, fonts_after_all};
-ghost use Rattle.mt_dvi.specs.Pages.{DefinesAgain, IsTail, PagesWritten, WritesPage};
+ghost use Rattle.mt_dvi.specs.writer.LeadsTo.{GrowsBy, GrowsWith, fonts_after_all};
+ghost use Rattle.mt_dvi.specs.writer.Pages.{DefinesAgain, IsTail, PagesWritten, WritesPage};
 
 use crate::edges::{tallest, widest};
 use crate::emit;

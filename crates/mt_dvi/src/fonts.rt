@@ -1,10 +1,10 @@
 //! The fonts of a set: their extents, and their definitions in a file.
 ghost use Rattle.std.specs.Prelude.{◌≡◌, ◌≤◌, ◌<◌, ◌*◌, length, OnOk, IsSomeAnd, Some};
 ghost use Rattle.mt_dvi.specs.Codes.{Define};
-ghost use Rattle.mt_dvi.specs.Emits.{Emits};
+ghost use Rattle.mt_dvi.specs.writer.Emits.{Emits};
 ghost use Rattle.mt_dvi.specs.Fonts.{metrics_at, width_in, depth_in, definition_of};
-ghost use Rattle.mt_dvi.specs.WrittenPlaces.{HasGlyph, InRange};
-ghost use Rattle.mt_dvi.specs.LeadsTo.{is_among};
+ghost use Rattle.mt_dvi.specs.Writable.{HasGlyph, InRange};
+ghost use Rattle.mt_dvi.specs.writer.LeadsTo.{is_among};
 ghost use Rattle.mt_family.specs.SetValue.{IsSet, name_in};
 
 use crate::emit;

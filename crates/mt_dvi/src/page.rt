@@ -5,9 +5,11 @@ ghost use Rattle.mt_family.specs.SetValue.{IsSet, SetValue};
 ghost use Rattle.mt_dvi.specs.Fonts.{metrics_at};
 ghost use Rattle.mt_dvi.specs.Machine.{is_far};
 ghost use Rattle.mt_dvi.specs.File.{File};
-ghost use Rattle.mt_dvi.specs.Emits.{FitsFourBytes};
-ghost use Rattle.mt_dvi.specs.WrittenPlaces.{HasGlyph, InRange, IsWritable, first_of, lower_edge, must_put, right_edge};
-ghost use Rattle.mt_dvi.specs.LeadsTo.{Advances, GrowsBy, GrowsWith, Introduces, Selects, WritesPlace, WritesPlaces, cursor_after, in_page, fonts_after, fonts_after_all, with_number};
+ghost use Rattle.mt_dvi.specs.writer.Emits.{FitsFourBytes};
+ghost use Rattle.mt_dvi.specs.Edges.{lower_edge, right_edge};
+ghost use Rattle.mt_dvi.specs.Writable.{HasGlyph, InRange, IsWritable};
+ghost use Rattle.mt_dvi.specs.WrittenPlaces.{first_of, must_put};
+ghost use Rattle.mt_dvi.specs.writer.LeadsTo.{Advances, GrowsBy, GrowsWith, Introduces, Selects, WritesPlace, WritesPlaces, cursor_after, in_page, fonts_after, fonts_after_all, with_number};
 
 use crate::emit;
 use crate::fonts::{define, depth, is_defined, width};

@@ -3,7 +3,7 @@ ghost use Rattle.std.specs.Prelude.{All, IfOk, IsSomeAnd, IsTrue};
 ghost use Rattle.mt_family.specs.ListFacts.{IsFontLine};
 ghost use Rattle.mt_family.specs.SetValue.{AreLoaded};
 ghost use Rattle.mt_dvi.specs.Fonts.{metrics_at};
-ghost use Rattle.mt_dvi.specs.WrittenPlaces.{HasGlyph, IsWritable, IsWritableRule};
+ghost use Rattle.mt_dvi.specs.Writable.{HasGlyph, IsWritable, IsWritableRule};
 
 use crate::{DviBytes, DviWriteError, write_dvi};
 use mt_box::{PageList, Place, PlaceList};

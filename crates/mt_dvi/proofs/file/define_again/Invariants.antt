@@ -2,8 +2,8 @@ use Rattle.std.proofs.Common.{ℕ, ◌+◌, ◌*◌, ◌≤◌, List, length, ta
 use Rattle.std.specs.Prelude.{ℤ}
 use Rattle.mt_dvi.specs.Codes.{Postamble}
 use Rattle.mt_dvi.specs.File.{Page}
-use Rattle.mt_dvi.specs.LeadsTo.{LeadsTo}
-use Rattle.mt_dvi.specs.Pages.{after_post}
+use Rattle.mt_dvi.specs.writer.LeadsTo.{LeadsTo}
+use Rattle.mt_dvi.specs.writer.Pages.{after_post}
 use Rattle.mt_dvi.proofs.file.define_again.Given as goal
 
 abbrev pub invariant-loop-n : goal.invariant-loop-n

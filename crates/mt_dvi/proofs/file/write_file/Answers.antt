@@ -1,6 +1,6 @@
 use Rattle.std.proofs.Common.{◌≡◌, ℕ, length, refl, subst, arith, to_z, of_z, w64}
 use Rattle.std.proofs.lemmas.Int.{ints}
-use Rattle.mt_dvi.specs.Pages.{IsTail}
+use Rattle.mt_dvi.specs.writer.Pages.{IsTail}
 use Rattle.mt_dvi.proofs.WholeFile.{file_written}
 use Rattle.mt_dvi.proofs.file.write_file.Goals as goal
 

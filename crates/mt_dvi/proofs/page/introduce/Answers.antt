@@ -1,5 +1,5 @@
 use Rattle.std.proofs.Common.{◌≡◌, ◌∙◌, ◌++◌, ◌∷◌, [], false}
-use Rattle.mt_dvi.specs.LeadsTo.{is_among}
+use Rattle.mt_dvi.specs.writer.LeadsTo.{is_among}
 use Rattle.mt_dvi.proofs.FontLemmas.{introduced, added_new}
 use Rattle.mt_dvi.proofs.page.introduce.Goals as goal
 

@@ -1,6 +1,6 @@
 use Rattle.std.proofs.Common.{◌≡◌, arith, to_z, of_z, w64}
 use Rattle.std.proofs.lemmas.Int.{ints}
-use Rattle.mt_dvi.specs.LeadsTo.{with_definitions}
+use Rattle.mt_dvi.specs.writer.LeadsTo.{with_definitions}
 use Rattle.mt_dvi.proofs.Moves.{half}
 use Rattle.mt_dvi.proofs.page.write_place.Goals as goal
 

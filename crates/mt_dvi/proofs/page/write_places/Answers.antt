@@ -1,5 +1,5 @@
 use Rattle.std.proofs.Common.{arith}
-use Rattle.mt_dvi.specs.WrittenPlaces.{IsWritable}
+use Rattle.mt_dvi.specs.Writable.{IsWritable}
 use Rattle.mt_dvi.proofs.PagePlaces.{places_start, places_next, all_later, later_length}
 use Rattle.mt_dvi.proofs.page.write_places.Goals as goal
 

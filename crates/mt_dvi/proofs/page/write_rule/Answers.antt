@@ -1,5 +1,5 @@
 use Rattle.std.proofs.Math.Facts.{to_z-of_z}
-use Rattle.mt_dvi.specs.LeadsTo.{with_definitions}
+use Rattle.mt_dvi.specs.writer.LeadsTo.{with_definitions}
 use Rattle.mt_dvi.proofs.PlaceLemmas.{rule_written}
 use Rattle.mt_dvi.proofs.page.write_rule.Goals as goal
 

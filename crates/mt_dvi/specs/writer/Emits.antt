@@ -1,4 +1,4 @@
--- The bytes by which a writer states an operation.
+-- The bytes by which the writer states an operation (`Emits`).
 use Rattle.std.specs.Prelude.{◌≡◌, ℕ, ◌/◌, ◌%◌, ◌<◌, ◌≤◌, ℤ, pos, nat_abs, List, [], ◌∷◌, ◌++◌, length}
 use Rattle.mt_dvi.specs.Codes.{Operation, Preamble, Postamble, operand_size, operation, signed_of}
 
@@ -31,9 +31,18 @@ pub record Emits (most : ℕ) (old new : List ℕ) (op : Operation) : Type 0 whe
   pub code : IsCode bytes op
   pub long : length bytes ≤ most
 
--- the pre and the post that a writer states
+-- the pre and the post that the writer states
 abbrev pub own_preamble : Preamble
 own_preamble = record { version = 2; num = 25400000; den = 473628672; mag = pos 1000; comment = [] }
 
 abbrev pub own_postamble : ℤ → ℕ → ℕ → ℕ → Postamble
-own_postamble last tallest widest pages = record { last = last; num = 25400000; den = 473628672; mag = pos 1000; tallest = tallest; widest = widest; depth = 0; pages = pages }
+own_postamble last tallest widest pages = record {
+  last = last;
+  num = 25400000;
+  den = 473628672;
+  mag = pos 1000;
+  tallest = tallest;
+  widest = widest;
+  depth = 0;
+  pages = pages;
+}

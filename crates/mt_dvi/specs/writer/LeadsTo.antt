@@ -1,4 +1,4 @@
--- Where the machine stands after the first bytes of a file, as a writer needs it.
+-- Where the machine is after the first bytes of a file (`LeadsTo`), and what a part of the writer adds to them.
 use Rattle.std.specs.Prelude.{◌≡◌, ◌<◌, ◌≤◌, ℕ, ◌+◌, ◌*◌, pos, true, ◌-ℤ◌, List, [], ◌∷◌, ◌++◌, length, map, Option, Some, None, Bool, ◌==◌, if◌then◌else◌, ⊤}
 use Rattle.std.specs.List.{list_any}
 use Rattle.mt_family.specs.SetValue.{SetValue}
@@ -7,15 +7,17 @@ use Rattle.mt_box.specs.declared.place.Place.{Place}
 use Rattle.mt_box.specs.declared.place.Place.TheVariants.{Glyph, Rule}
 use Rattle.mt_dvi.specs.Limits.{max_places}
 use Rattle.mt_dvi.specs.Fonts.{definition_of}
-use Rattle.mt_dvi.specs.Machine.{Machine, WrittenPlace}
+use Rattle.mt_dvi.specs.Machine.{Machine, WrittenPlace, zeros}
 use Rattle.mt_dvi.specs.File.{File, InPage, read, reading}
-use Rattle.mt_dvi.specs.Emits.{FitsFourBytes}
-use Rattle.mt_dvi.specs.WrittenPlaces.{written_places, right_edge}
+use Rattle.mt_dvi.specs.writer.Emits.{FitsFourBytes}
+use Rattle.mt_dvi.specs.Edges.{right_edge}
+use Rattle.mt_dvi.specs.WrittenPlaces.{written_places}
 use Rattle.mt_dvi.specs.declared.page.Cursor.{Cursor}
 
 -- whatever follows these bytes is read from this state on
 abbrev pub LeadsTo : SetValue → List ℕ → File → Type 0
-LeadsTo fonts out file = (rest : List ℕ) → read fonts (out ++ rest) ≡ reading fonts (record file { at = length out }) 0 rest
+LeadsTo fonts out file = (rest : List ℕ)
+    → read fonts (out ++ rest) ≡ reading fonts (record file { at = length out }) 0 rest
 
 -- from the first bytes on to more of them: where those lead to one state, these lead to the next
 abbrev pub Advances : SetValue → List ℕ → List ℕ → File → File → Type 0
@@ -27,10 +29,11 @@ GrowsBy most old new = length new ≤ length old + most
 
 -- at most so many bytes more, and 271 for each font that is defined anew
 abbrev pub GrowsWith : ℕ → List ℕ → List ℕ → List ℕ → List ℕ → Type 0
-GrowsWith most old new old_defined new_defined = length new + 271 * length old_defined ≤ length old + 271 * length new_defined + most
+GrowsWith most old new old_defined new_defined =
+    length new + 271 * length old_defined ≤ length old + 271 * length new_defined + most
 
 abbrev pub machine_at : Cursor → Machine
-machine_at c = record { now = record { h = c.h; v = c.v; w = pos 0; x = pos 0; y = pos 0; z = pos 0 }; saved = []; font = c.font }
+machine_at c = record { now = record zeros { h = c.h; v = c.v }; saved = []; font = c.font }
 
 -- in a page, at a cursor, where nothing was ever pushed
 abbrev pub in_page : File → Cursor → File
@@ -58,21 +61,31 @@ abbrev pub fonts_after_all : List ℕ → List Place → List ℕ
 fonts_after_all numbers [] = numbers
 fonts_after_all numbers (place ∷ places) = fonts_after_all (fonts_after numbers place) places
 
--- more places
+-- more places on the page
 abbrev pub with_places : File → List WrittenPlace → File
-with_places file places = record file { place_count = file.place_count + length places; page = record (file.page) { places = file.page.places ++ places } }
+with_places file places = record file {
+  place_count = file.place_count + length places;
+  page = record (file.page) { places = file.page.places ++ places };
+}
 
--- one place more
+-- one place more on the page
 abbrev pub with_place : File → Place → Bool → File
-with_place file place put = record file { place_count = file.place_count + 1; page = record (file.page) { places = file.page.places ++ record { place = place; put = put } ∷ [] } }
+with_place file place put = record file {
+  place_count = file.place_count + 1;
+  page = record (file.page) { places = file.page.places ++ record { place = place; put = put } ∷ [] };
+}
 
 abbrev pub font_after : Place → Option ℕ → Option ℕ
 font_after (Glyph n code h v) font = Some n
 font_after (Rule h v height width) font = font
 
--- where the machine stands after a place
+-- where the machine is after a place
 abbrev pub cursor_after : SetValue → Place → Bool → Cursor → Cursor
-cursor_after fonts place put c = record { h = if put then h_of place else right_edge fonts place; v = v_of place; font = font_after place c.font }
+cursor_after fonts place put c = record {
+  h = if put then h_of place else right_edge fonts place;
+  v = v_of place;
+  font = font_after place c.font;
+}
 
 -- one move to the right leads to the next place
 abbrev pub IsReachable : Cursor → Option Place → Type 0
@@ -86,20 +99,29 @@ at_cursor fonts file numbers cursor = in_page (with_definitions fonts file numbe
 -- a font is selected that is defined
 abbrev pub Selects : SetValue → List ℕ → List ℕ → Cursor → ℕ → Type 0
 Selects fonts old new cursor n = (file : File) → (numbers : List ℕ) → is_among numbers n ≡ true
-    → Advances fonts old new (at_cursor fonts file numbers cursor) (at_cursor fonts file numbers (record cursor { font = Some n }))
+    → Advances fonts old new
+    (at_cursor fonts file numbers cursor)
+    (at_cursor fonts file numbers (record cursor { font = Some n }))
 
 -- fonts are defined that were not, and nothing else changes
 abbrev pub Introduces : SetValue → List ℕ → List ℕ → List ℕ → List ℕ → Type 0
 Introduces fonts old new old_defined new_defined = (file : File) → (cursor : Cursor)
-    → Advances fonts old new (at_cursor fonts file old_defined cursor) (at_cursor fonts file new_defined cursor)
+    → Advances fonts old new
+    (at_cursor fonts file old_defined cursor)
+    (at_cursor fonts file new_defined cursor)
 
 -- a place is written, from a cursor on
 abbrev pub WritesPlace : SetValue → List ℕ → List ℕ → List ℕ → List ℕ → Cursor → Place → Bool → Type 0
-WritesPlace fonts old new old_defined new_defined cursor place put = (file : File) → file.place_count < max_places
-    → Advances fonts old new (at_cursor fonts file old_defined cursor) (at_cursor fonts (with_place file place put) new_defined (cursor_after fonts place put cursor))
+WritesPlace fonts old new old_defined new_defined cursor place put = (file : File)
+    → file.place_count < max_places
+    → Advances fonts old new
+    (at_cursor fonts file old_defined cursor)
+    (at_cursor fonts (with_place file place put) new_defined (cursor_after fonts place put cursor))
 
 -- the places of a page are written, from its origin on
 abbrev pub WritesPlaces : SetValue → List ℕ → List ℕ → List ℕ → List ℕ → List Place → Type 0
-WritesPlaces fonts old new old_defined new_defined page = (file : File) → file.place_count + length page ≤ max_places
+WritesPlaces fonts old new old_defined new_defined page = (file : File)
+    → file.place_count + length page ≤ max_places
     → LeadsTo fonts old (at_cursor fonts file old_defined at_origin)
-    → (end : Cursor) × LeadsTo fonts new (at_cursor fonts (with_places file (written_places fonts page)) new_defined end)
+    → (end : Cursor)
+    × LeadsTo fonts new (at_cursor fonts (with_places file (written_places fonts page)) new_defined end)
