@@ -1,3 +1,4 @@
+mod Capping
 mod Short
 mod Bounds
 mod ItemBounds

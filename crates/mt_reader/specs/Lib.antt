@@ -1,6 +1,7 @@
 pub mod Role
 pub mod Parts
 pub mod Numbers
+pub mod Meets
 pub mod Dimensions
 pub mod Symbols
 pub mod Delimiters
