@@ -14,7 +14,8 @@ use Rattle.mt_reader.specs.declared.role.Role.TheVariants.{DelimiterWord}
 use Rattle.mt_reader.specs.Role.{role_of}
 use Rattle.mt_reader.specs.Parts.{Read, Got, Fault, then_read, after_spaces, after_one_space, after_blanks, opening}
 use Rattle.mt_reader.specs.Numbers.{Signs, signs, at_sign, turns_sign, sign_after, with_sign, Whole, digits, at_digit, digit_of, digits_in, first_digit, quoted_code, quoted_value, quoted_kind, unsigned_number, in_bound, whole_number, at_most, number_to, delimiter_number}
-use Rattle.mt_reader.specs.Dimensions.{measures, measure_of, begins_measure, letter, second_letter, after_first_letter, measure, Digits, at_decimal, before_digits, decimals, Factor, with_decimals, is_point, after_whole, factor, length_of, dimension_in_range, dimension_from, dimension, after_letters, amount_after, amount, glue}
+use Rattle.mt_reader.specs.declared.decimals.Decimal.{Decimal}
+use Rattle.mt_reader.specs.Dimensions.{measures, measure_of, begins_measure, letter, second_letter, after_first_letter, measure, Digits, at_decimal, before_digits, decimals, with_decimals, is_point, after_whole, factor, length_of, dimension_in_range, dimension_of, dimension_from, dimension, after_letters, amount_after, amount, glue}
 use Rattle.mt_reader.specs.Delimiters.{code_of_kind, delimiter_by_code, delimiter_at, delimiter_here, delimiter}
 use Rattle.mt_reader.specs.Lists.{bar_thickness, with_bar, fraction_head}
 use Rattle.mt_reader.specs.Symbols.{null_delim, delim_of}
@@ -156,17 +157,17 @@ module _ (units : Units) where
   pub dimension_short : (mu negative : Bool) (ts : List Token) → Shortens ts (dimension_from units mu negative ts)
   dimension_short mu negative ts =
       within_next none none (4 * length (signs false ts).rest) (4 * length ts) (factor (signs false ts).rest)
-      (λ (f : Factor) (after : List Token). then_read (measure mu (after_spaces after)) (λ (m : Measure) (rest : List Token). dimension_in_range negative (length ts) f.whole (with_sign (signs false ts).minus (length_of units m f)) rest))
+      (λ (f : Decimal) (after : List Token). then_read (measure mu (after_spaces after)) (dimension_of units negative (length ts) (signs false ts).minus f))
       (factor_short (signs false ts).rest)
       (λ f after w. within_next none none (4 * length (after_spaces after)) (4 * length ts) (measure mu (after_spaces after))
-      (λ (m : Measure) (rest : List Token). dimension_in_range negative (length ts) f.whole (with_sign (signs false ts).minus (length_of units m f)) rest)
+      (dimension_of units negative (length ts) (signs false ts).minus f)
       (measure_short mu (after_spaces after))
       (λ m rest v. in_range_short negative (length ts) f.whole (with_sign (signs false ts).minus (length_of units m f)) rest (4 * length ts) (omega (arith, v, w, spaces_short after, signs_short false ts))))
     where
       in_range_short : (negative : Bool) (first whole : ℕ) (value : ℤ) (rest : List Token) (b : ℕ) → 4 * length rest ≤ b → Within none b (dimension_in_range negative first whole value rest)
       in_range_short negative first whole value rest b h = grind (arith, h)
 
-  pub letters_short : (word : List ℕ) (ts rest : List Token) → after_letters units word ts ≡ Some rest → length rest ≤ length ts
+  pub letters_short : (word : List ℕ) (ts rest : List Token) → after_letters word ts ≡ Some rest → length rest ≤ length ts
   letters_short [] ts rest e = grind (arith, e)
   letters_short (c ∷ cs) [] rest e = grind (arith, e)
   letters_short (c ∷ cs) (t ∷ ts) rest e = grind (arith, e, letters_short cs ts rest)
@@ -176,7 +177,7 @@ module _ (units : Units) where
   amount_after_short (Some rest) mu ts h = within_more none (4 * length rest) (4 * length ts) (dimension_from units mu false rest) (omega (arith, h rest refl)) (dimension_short mu false rest)
 
   pub amount_short : (word : List ℕ) (mu : Bool) (ts : List Token) → Shortens ts (amount units word mu ts)
-  amount_short word mu ts = amount_after_short (after_letters units word (after_spaces ts)) mu ts (λ rest e. omega (arith, letters_short word (after_spaces ts) rest e, spaces_short ts))
+  amount_short word mu ts = amount_after_short (after_letters word (after_spaces ts)) mu ts (λ rest e. omega (arith, letters_short word (after_spaces ts) rest e, spaces_short ts))
 
   pub glue_short : (mu : Bool) (ts : List Token) → Shortens ts (glue units mu ts)
   glue_short mu ts =
@@ -192,14 +193,14 @@ module _ (units : Units) where
       (λ shrink rest u. omega (arith, u, v, w))))
 
 -- delimiters
-pub by_code_short : (code : Option ℕ) (rest : List Token) (b : ℕ) → 4 * length rest ≤ b → (tables : CodeTables) → Within none b (delimiter_by_code tables code rest)
-by_code_short None rest b h tables = tt
-by_code_short (Some code) rest b h tables = omega (arith, h)
+pub by_code_short : (code : Option ℕ) (rest : List Token) (b : ℕ) → 4 * length rest ≤ b → Within none b (delimiter_by_code code rest)
+by_code_short None rest b h = tt
+by_code_short (Some code) rest b h = omega (arith, h)
 
 module _ (tables : CodeTables) where
   pub delimiter_at_short : (t : Token) (rest : List Token) (s : Role) → Within none (4 * length rest + 4) (delimiter_at tables t rest s)
   delimiter_at_short t rest DelimiterWord = within_next none none (4 * length rest) (4 * length rest + 4) (delimiter_number rest) (λ (code : ℕ) (after : List Token). Got (delim_of code) after) (number_to_short 134217727 rest) (λ code after w. omega (arith, w))
-  delimiter_at_short t rest _ = by_code_short (code_of_kind tables t.kind) rest (4 * length rest + 4) (omega arith) tables
+  delimiter_at_short t rest _ = by_code_short (code_of_kind tables t.kind) rest (4 * length rest + 4) (omega arith)
 
   pub delimiter_here_short : (ts : List Token) → Shortens ts (delimiter_here tables ts)
   delimiter_here_short [] = tt

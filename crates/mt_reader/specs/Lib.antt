@@ -3,6 +3,7 @@ pub mod Parts
 pub mod Numbers
 pub mod Meets
 pub mod Dimensions
+pub mod CappedDecimals
 pub mod Symbols
 pub mod Delimiters
 pub mod Atoms

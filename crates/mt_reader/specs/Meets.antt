@@ -1,5 +1,6 @@
 -- What readers of parts answer.
-use Rattle.std.specs.Prelude.{◌≡◌, ℕ, min, List, [], ◌∷◌, Result, Ok, Err}
+use Rattle.std.specs.Prelude.{◌≡◌, ℕ, min, List, [], ◌∷◌, Option, Some, None, Result, Ok, Err}
+use Rattle.std.specs.Borrow.{Bor}
 use Rattle.mt_token.specs.declared.token.Token.{Token}
 use Rattle.mt_reader.specs.declared.part.Cause.{Cause}
 use Rattle.mt_reader.specs.declared.part.Cause.TheVariants.{UnknownName, DoubleScript, TwoFractions, BadDelimiter, Unbalanced, MisplacedLimits, MissingField, BadNumber, BadDimension, MisplacedNumber, TooDeep}
@@ -36,3 +37,8 @@ capped (Fault cause left) = Fault cause left
 abbrev pub capped_digits : ℕ → ℕ → List Token → Whole
 capped_digits base size [] = record { value = size; rest = [] }
 capped_digits base size (t ∷ rest) = at_digit (digit_of base t) base size (t ∷ rest) (λ (v : ℕ). capped_digits base (min v 2147483648) rest)
+
+-- the tokens that are lent, if there are any
+abbrev pub IsAfter : Option (Bor (List Token)) → Option (List Token) → Type 0
+IsAfter None after = after ≡ None
+IsAfter (Some rest) after = after ≡ Some rest.now
