@@ -5,7 +5,7 @@ use Rattle.mathset.specs.declared.log_part.LogPart.{LogPart}
 use Rattle.std.proofs.lemmas.List.{append-nil, drop_all}
 use Rattle.mt_outside.specs.Appends.{Appends}
 use Rattle.mt_outside.proofs.Appended.{appends_none, appends_more}
-use Rattle.mathset.specs.LogParts.{parts_bytes, part_bytes}
+use Rattle.mathset.specs.inner.LogParts.{parts_bytes, part_bytes}
 
 -- the parts below an index were written
 pub record UpTo (before now : Option (List ℕ)) (parts : List LogPart) (i : ℕ) : Type 0 where

@@ -2,7 +2,7 @@
 ghost use Rattle.mt_outside.specs.Counts.{WriteLeaves};
 ghost use Rattle.mt_outside.specs.Appends.{Appends, write_prefix};
 ghost use Rattle.mathset.specs.Log.{Gets};
-ghost use Rattle.mathset.specs.LogParts.{parts_bytes, part_bytes};
+ghost use Rattle.mathset.specs.inner.LogParts.{parts_bytes, part_bytes};
 
 use itoa::Buffer;
 use mt_family::Size;
@@ -26,7 +26,8 @@ pub enum LogPart<'a> {
 }
 
 fn write_part<S: Sink>(sink: &mut S, part: LogPart<'_>) -> Result<(), u64>
-    ensures appended { Appends (S.written sink.old) (S.written sink.new) (write_prefix result (part_bytes part.entry)) }
+    ensures appended { Appends (S.written sink.old) (S.written sink.new)
+        (write_prefix result (part_bytes part.entry)) }
     ensures leaves { WriteLeaves (S.faults sink.old) (S.faults sink.new) result }
 {
     let mut buffer = Buffer::new();
@@ -42,7 +43,7 @@ fn write_part<S: Sink>(sink: &mut S, part: LogPart<'_>) -> Result<(), u64>
 
 /// Writes parts one after another, up to the first fault of the sink.
 pub fn write_parts<S: Sink>(sink: &mut S, parts: &[LogPart<'_>])
-    ensures { Gets (S.written sink.old) (S.written sink.new) (S.faults sink.old) (S.faults sink.new) (parts_bytes parts.entry.now) }
+    ensures { Gets S.written S.faults sink.old sink.new (parts_bytes parts.entry.now) }
 {
     for part in parts {
         match write_part(sink, *part) {

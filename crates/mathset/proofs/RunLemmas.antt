@@ -1,0 +1,183 @@
+-- How a run ends: its steps, then its product or its refusal.
+use Rattle.std.proofs.Common.{◌≡◌, ℕ, ◌<◌, List, refl, sym, ◌∙◌, ap, subst, arith, inl, inr}
+use Rattle.std.specs.Prelude.{Option, Some, None, Result, Ok, Err, Contains, ◌⊎◌}
+use Rattle.mt_outside.specs.Counts.{IsSteady, Rose}
+use Rattle.mt_outside.specs.declared.files.Held.{Held}
+use Rattle.mathset.specs.Answer.{steps, steps_by}
+use Rattle.mathset.specs.Outcome.{Outcome}
+use Rattle.mathset.specs.Words.{SetWords, set_words}
+use Rattle.mathset.specs.Ends.{EndsAs, GotPart, IsQuiet, IsToldRefusal}
+use Rattle.mathset.specs.inner.Runs.{EndLeaves, IsRun, LeavesOutput}
+use Rattle.mathset.specs.inner.Steps.{IsStep}
+use Rattle.mathset.specs.declared.product.Product.{Product}
+use Rattle.mathset.specs.declared.status.Status.{Status}
+use Rattle.mathset.specs.declared.status.Status.TheVariants.{Done, BadWords, ReadFault, TooLong, WriteFault, FontList, BadTfm, BadFamily, BadSource, BadFormula, Budget, MissingFamily, MissingChar, SmartLigature, Overflow, TooTall, TooDeep, TooMuch, BadDvi, OutOfMemory, NotBuilt}
+
+-- a status is Done, a fault, want of memory, or a refusal that the words and the files give
+by_status : (P : Status → Type 0) → P Done → ((name : List ℕ) → P (ReadFault name)) → ((count : ℕ) → P (WriteFault count)) → P OutOfMemory
+    → ((status : Status) → IsToldRefusal status → IsQuiet status → P status) → (status : Status) → P status
+by_status P done lost cut memory told Done = done
+by_status P done lost cut memory told BadWords = told BadWords tt tt
+by_status P done lost cut memory told (ReadFault name) = lost name
+by_status P done lost cut memory told (TooLong name) = told (TooLong name) tt tt
+by_status P done lost cut memory told (WriteFault count) = cut count
+by_status P done lost cut memory told (FontList line cause) = told (FontList line cause) tt tt
+by_status P done lost cut memory told (BadTfm font cause) = told (BadTfm font cause) tt tt
+by_status P done lost cut memory told (BadFamily fam size cause) = told (BadFamily fam size cause) tt tt
+by_status P done lost cut memory told (BadSource offset cause) = told (BadSource offset cause) tt tt
+by_status P done lost cut memory told (BadFormula n token cause) = told (BadFormula n token cause) tt tt
+by_status P done lost cut memory told (Budget n) = told (Budget n) tt tt
+by_status P done lost cut memory told (MissingFamily n fam size) = told (MissingFamily n fam size) tt tt
+by_status P done lost cut memory told (MissingChar n fam size code) = told (MissingChar n fam size code) tt tt
+by_status P done lost cut memory told (SmartLigature n fam size first second) = told (SmartLigature n fam size first second) tt tt
+by_status P done lost cut memory told (Overflow n value) = told (Overflow n value) tt tt
+by_status P done lost cut memory told (TooTall n count) = told (TooTall n count) tt tt
+by_status P done lost cut memory told (TooDeep n token) = told (TooDeep n token) tt tt
+by_status P done lost cut memory told (TooMuch kind count) = told (TooMuch kind count) tt tt
+by_status P done lost cut memory told (BadDvi offset cause) = told (BadDvi offset cause) tt tt
+by_status P done lost cut memory told OutOfMemory = memory
+by_status P done lost cut memory told (NotBuilt n) = told (NotBuilt n) tt tt
+
+not_below : (before now : ℕ) → now ≡ before → before < now → ⊥
+not_below before now same below = omega (arith, same, below)
+
+-- the product is to be written
+ok_run : {C K : Type 0} (holds : C → Option (List Held)) (reads : C → ℕ) (last : C → Option (List ℕ)) (written : K → Option (List ℕ)) (writes : K → ℕ) (steps : List Held → Outcome Product)
+    (cabinet cabinet' : C) (out out' : K) (product : Product) (status : Status) → IsStep holds reads last cabinet cabinet' steps (Ok product)
+    → LeavesOutput written writes product out out' status → IsRun holds reads last written writes steps cabinet cabinet' out out' status
+ok_run holds reads last written writes steps cabinet cabinet' out out' product Done step end = record {
+  refused = λ files told no. absurd no;
+  done = λ is. record { gives = record { product = product; is = step.origin.1 }; got = end.1 };
+  cut = λ count is. absurd (cc);
+  lost = λ name is. absurd (cc);
+  asked = λ name files is told. absurd (cc);
+  reads_counted = λ grew. absurd (omega (arith, grew, step.origin.0));
+  writes_counted = λ grew. absurd (omega (arith, grew, end.0));
+  quiet = λ no. absurd no;
+  kept = step.kept;
+}
+ok_run holds reads last written writes steps cabinet cabinet' out out' product (WriteFault count) step end = record {
+  refused = λ files told no. absurd no;
+  done = λ is. absurd (cc);
+  cut = λ n is.
+      let same : count ≡ n = cc in
+      (end.0, record { gives = record { product = product; is = step.origin.1 }; got = subst (λ (k : ℕ). GotPart product k (written out) (written out')) same end.1 });
+  lost = λ name is. absurd (cc);
+  asked = λ name files is told. absurd (cc);
+  reads_counted = λ grew. absurd (omega (arith, grew, step.origin.0));
+  writes_counted = λ grew. tt;
+  quiet = λ no. absurd no;
+  kept = step.kept;
+}
+ok_run holds reads last written writes steps cabinet cabinet' out out' product OutOfMemory step end = record {
+  refused = λ files told no. absurd no;
+  done = λ is. absurd (cc);
+  cut = λ count is. absurd (cc);
+  lost = λ name is. absurd (cc);
+  asked = λ name files is told. absurd (cc);
+  reads_counted = λ grew. tt;
+  writes_counted = λ grew. absurd (not_below (writes out) (writes out') (ap writes end) grew);
+  quiet = λ quiet. end;
+  kept = step.kept;
+}
+ok_run holds reads last written writes steps cabinet cabinet' out out' product status step end = absurd end
+
+-- the refusal is the status
+err_run : {C K : Type 0} (holds : C → Option (List Held)) (reads : C → ℕ) (last : C → Option (List ℕ)) (written : K → Option (List ℕ)) (writes : K → ℕ) (steps : List Held → Outcome Product)
+    (cabinet cabinet' : C) (out out' : K) (status : Status) → IsStep {T = Product} holds reads last cabinet cabinet' steps (Err status)
+    → out' ≡ out → IsRun holds reads last written writes steps cabinet cabinet' out out' status
+err_run holds reads last written writes steps cabinet cabinet' out out' Done step same = absurd step.origin
+err_run holds reads last written writes steps cabinet cabinet' out out' BadWords step same = absurd step.origin
+err_run holds reads last written writes steps cabinet cabinet' out out' (WriteFault count) step same = absurd step.origin
+err_run holds reads last written writes steps cabinet cabinet' out out' (ReadFault name) step same = record {
+  refused = λ files told no. absurd no;
+  done = λ is. absurd (cc);
+  cut = λ count is. absurd (cc);
+  lost = λ n is.
+      let word : name ≡ n = cc in
+      (step.origin.0, step.origin.1 ∙ ap (λ (w : List ℕ). Some w) word);
+  asked = λ n files is told.
+      let word : name ≡ n = cc in
+      subst (λ (w : List ℕ). Contains (steps files).asked w) word (step.origin.2 files told);
+  reads_counted = λ grew. tt;
+  writes_counted = λ grew. absurd (not_below (writes out) (writes out') (ap writes same) grew);
+  quiet = λ quiet. same;
+  kept = step.kept;
+}
+err_run holds reads last written writes steps cabinet cabinet' out out' OutOfMemory step same = record {
+  refused = λ files told no. absurd no;
+  done = λ is. absurd (cc);
+  cut = λ count is. absurd (cc);
+  lost = λ name is. absurd (cc);
+  asked = λ name files is told. absurd (cc);
+  reads_counted = λ grew. tt;
+  writes_counted = λ grew. absurd (not_below (writes out) (writes out') (ap writes same) grew);
+  quiet = λ quiet. same;
+  kept = step.kept;
+}
+err_run holds reads last written writes steps cabinet cabinet' out out' status step same = record {
+  refused = λ files told refusal. step.origin.1 files told;
+  done = λ is. absurd (cc);
+  cut = λ count is. absurd (cc);
+  lost = λ name is. absurd (cc);
+  asked = λ name files is told. absurd (cc);
+  reads_counted = λ grew. absurd (omega (arith, grew, step.origin.0));
+  writes_counted = λ grew. absurd (not_below (writes out) (writes out') (ap writes same) grew);
+  quiet = λ quiet. same;
+  kept = step.kept;
+}
+
+-- steps, and the end that their answer comes to
+pub is_run : {C K : Type 0} (holds : C → Option (List Held)) (reads : C → ℕ) (last : C → Option (List ℕ)) (written : K → Option (List ℕ)) (writes : K → ℕ) (steps : List Held → Outcome Product)
+    (cabinet cabinet' : C) (out out' : K) (made : Result Product Status) (status : Status) → IsStep holds reads last cabinet cabinet' steps made
+    → EndLeaves written writes made out out' status → IsRun holds reads last written writes steps cabinet cabinet' out out' status
+is_run holds reads last written writes steps cabinet cabinet' out out' (Ok product) status step end =
+    ok_run holds reads last written writes steps cabinet cabinet' out out' product status step end
+is_run holds reads last written writes steps cabinet cabinet' out out' (Err refusal) status step end =
+    subst (λ (s : Status). IsRun holds reads last written writes steps cabinet cabinet' out out' s) (sym end.0)
+    (err_run holds reads last written writes steps cabinet cabinet' out out' refusal step end.1)
+
+-- steps refuse no words
+pub not_words : {C K : Type 0} (holds : C → Option (List Held)) (reads : C → ℕ) (last : C → Option (List ℕ)) (written : K → Option (List ℕ)) (writes : K → ℕ) (steps : List Held → Outcome Product)
+    (cabinet cabinet' : C) (out out' : K) (made : Result Product Status) (status : Status) → IsStep holds reads last cabinet cabinet' steps made
+    → EndLeaves written writes made out out' status → status ≡ BadWords → ⊥
+not_words holds reads last written writes steps cabinet cabinet' out out' (Ok product) status step end is =
+    subst (λ (s : Status). LeavesOutput written writes product out out' s) is end
+not_words holds reads last written writes steps cabinet cabinet' out out' (Err refusal) status step end is =
+    (subst (λ (s : Status). IsStep {T = Product} holds reads last cabinet cabinet' steps (Err s)) (sym end.0 ∙ is) step).origin
+
+-- words that are none of the commands
+pub bad_words_run : {C K : Type 0} (holds : C → Option (List Held)) (reads : C → ℕ) (last : C → Option (List ℕ)) (written : K → Option (List ℕ)) (writes : K → ℕ) (words : List (List ℕ))
+    (cabinet : C) (out : K) → set_words words ≡ None → IsRun holds reads last written writes (steps words) cabinet cabinet out out BadWords
+bad_words_run holds reads last written writes words cabinet out none = record {
+  refused = λ files told refusal. ap (λ (w : Option SetWords). (steps_by w files).result) none;
+  done = λ is. absurd (cc);
+  cut = λ count is. absurd (cc);
+  lost = λ name is. absurd (cc);
+  asked = λ name files is told. absurd (cc);
+  reads_counted = λ grew. absurd (omega (arith, grew));
+  writes_counted = λ grew. absurd (omega (arith, grew));
+  quiet = λ quiet. refl;
+  kept = refl;
+}
+
+not_both : (before now : ℕ) → IsSteady before now → Rose before now → ⊥
+not_both before now steady rose = omega (arith, steady, rose.1)
+
+-- a run over a cabinet that tells its files, in which no call failed
+pub ends : {C K : Type 0} (holds : C → Option (List Held)) (reads : C → ℕ) (last : C → Option (List ℕ)) (written : K → Option (List ℕ)) (writes : K → ℕ) (steps : List Held → Outcome Product)
+    (cabinet cabinet' : C) (out out' : K) (status : Status) → IsRun holds reads last written writes steps cabinet cabinet' out out' status
+    → (files : List Held) → holds cabinet ≡ Some files → IsSteady (reads cabinet) (reads cabinet') → IsSteady (writes out) (writes out')
+    → (status ≡ OutOfMemory) ⊎ EndsAs (steps files).result (written out) (written out') status
+ends holds reads last written writes steps cabinet cabinet' out out' status run files told read wrote =
+    by_status
+    (λ s. IsRun holds reads last written writes steps cabinet cabinet' out out' s → (s ≡ OutOfMemory) ⊎ EndsAs (steps files).result (written out) (written out') s)
+    (λ run.
+    let whole = run.done refl in
+    inr (subst (λ (r : Result Product Status). EndsAs r (written out) (written out') Done) (sym (whole.gives.is files told)) (refl, whole.got)))
+    (λ name run. absurd (not_both (reads cabinet) (reads cabinet') read (run.lost name refl).0))
+    (λ count run. absurd (not_both (writes out) (writes out') wrote (run.cut count refl).0))
+    (λ run. inl refl)
+    (λ s refusal quiet run.
+    inr (subst (λ (r : Result Product Status). EndsAs r (written out) (written out') s) (sym (run.refused files told refusal)) (refl, ap written (run.quiet quiet))))
+    status run
