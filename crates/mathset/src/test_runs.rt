@@ -20,7 +20,7 @@ pub fn bytes_of(alloc: Global, text: &[u8]) -> Result<Bytes, AllocError> {
 
 fn held(alloc: Global, name: &[u8], bytes: Bytes) -> Result<Held, AllocError> {
     Ok(Held {
-        name: Name::from_vec(name.to_vec(alloc)?),
+        name: Name::from_slice(alloc, name)?,
         bytes,
     })
 }

@@ -54,12 +54,6 @@ fn number_or_dash(high: u64, field: &[u8]) -> Option<Option<u64>>
     number_between(0, high, field).map(Some)
 }
 
-fn copy_of(alloc: Global, name: &[u8]) -> Result<Name, AllocError>
-    ensures { IfOk result (λ copy. copy ≡ name.now) }
-{
-    Ok(Name::from_vec(Vec::from_slice(alloc, name)?))
-}
-
 fn font_fields(
     alloc: Global,
     name: &[u8],
@@ -76,7 +70,7 @@ fn font_fields(
         number_or_dash(255, skew),
     ) {
         (Some(at), Some(skew)) => {
-            let name = copy_of(alloc, name)?;
+            let name = Name::from_slice(alloc, name)?;
             Ok(Some(Line::Font(FontLine {
                 name,
                 at: at as i64,

@@ -14,14 +14,6 @@ use mt_scaled::Name;
 use mt_token::{TokenError, TokenList, tokens};
 use std::alloc::{AllocError, Global};
 
-fn name_from(alloc: Global, bytes: &[u8]) -> Result<Name, AllocError>
-    ensures { IfOk result (λ name. name ≡ bytes.now) }
-{
-    let mut name = Vec::new(alloc);
-    name.extend_from_slice(bytes)?;
-    Ok(Name::from_vec(name))
-}
-
 // The body with a text.
 fn body_from(alloc: Global, text: &[u8]) -> Result<TokenList, CodeError>
     requires { IsBodyText text.now }
@@ -41,7 +33,7 @@ fn preload(alloc: Global, macros: &mut Macros, name: &[u8], text: &[u8]) -> Resu
     requires { IsBodyText text.now }
     ensures { OnOk result (PutsIn macros.old macros.new ((name.now, text.now) ∷ [])) }
 {
-    let name = name_from(alloc, name)?;
+    let name = Name::from_slice(alloc, name)?;
     let body = body_from(alloc, text)?;
     match macros.preload(&name, 0, body.as_slice()) {
         Ok(()) => Ok(()),
