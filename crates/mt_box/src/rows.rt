@@ -1,5 +1,5 @@
 //! Rows: measured and packed (tex.web §649 to §656).
-ghost use Rattle.std.specs.Prelude.{◌≡◌, ◌<◌, ◌≤◌, ◌^◌, ◌+◌, ◌++◌, ◌+ℤ◌, length, max, ℕ, IfOk, IfSome, OnOk};
+ghost use Rattle.std.specs.Prelude.{◌≡◌, ◌<◌, ◌≤◌, ◌^◌, ◌+◌, ◌++◌, ◌+ℤ◌, ◌-ℤ◌, length, max, ℕ, IfOk, IfSome, OnOk};
 ghost use Rattle.std.specs.Int.{int_max};
 ghost use Rattle.mt_scaled.specs.Number.{Within};
 ghost use Rattle.mt_box.specs.tree.Nodes.{AllFit, places_of_nodes, FitsIn, places_of_option};
@@ -169,19 +169,31 @@ fn measure(piece: &Piece) -> Extents
 {
     match piece {
         Piece::Glyph { extents, .. } => *extents,
-        Piece::Boxed { raise, body } => {
-            let inner = body.extents();
-            Extents {
-                width: inner.width,
-                height: inner.height + *raise,
-                depth: inner.depth - *raise,
-            }
-        }
+        Piece::Boxed { raise, body } => raised(body.extents(), *raise),
         Piece::Kern(width) | Piece::Space { width, .. } => Extents {
             width: *width,
             height: 0,
             depth: 0,
         },
+    }
+}
+
+// How far a box reaches from the baseline above which it is raised.
+#[tactic(auto, using(std::proofs::lemmas::Int::ints))]
+fn raised(inner: Extents, raise: i64) -> Extents
+    requires inner { ExtentsInRange inner }
+    requires raise { Within (2 ^ 40) raise }
+    ensures width { result.width ≡ inner.width }
+    ensures height { result.height ≡ inner.height +ℤ raise }
+    ensures depth { result.depth ≡ inner.depth -ℤ raise }
+    ensures wide { Within (2 ^ 40) result.width }
+    ensures high { Within (2 ^ 41) result.height }
+    ensures deep { Within (2 ^ 41) result.depth }
+{
+    Extents {
+        width: inner.width,
+        height: inner.height + raise,
+        depth: inner.depth - raise,
     }
 }
 
