@@ -2,7 +2,8 @@
 ghost use Rattle.std.specs.Prelude.{◌≡◌, ◌<◌, ◌≤◌, ◌+◌, ◌^◌, ◌++◌, ◌∷◌, [], IfOk, IfSome, OnOk, length, All};
 ghost use Rattle.std.specs.Option.{option_map};
 ghost use Rattle.mt_macro.specs.Braces.{group};
-ghost use Rattle.mt_macro.specs.Arguments.{is_space, argument, arguments, tokens_behind, Takes, TakesAll, token_lists_behind, IsShortArgument};
+ghost use Rattle.mt_macro.specs.Arguments.{is_space, argument, arguments, Takes, TakesAll, IsShortArgument};
+ghost use Rattle.mt_macro.specs.Arguments.{tokens_behind, token_lists_behind};
 
 use crate::braces::{closes_none, is_close, is_open, level_after};
 use crate::inputs::Inputs;
@@ -23,7 +24,8 @@ pub fn is_space(token: &Token) -> bool
 
 /// Puts a token at the end.
 pub fn push_token<'a>(list: &mut Vec<&'a Token>, token: &'a Token) -> Result<(), AllocError>
-    ensures { OnOk result (tokens_behind list.new.items ≡ tokens_behind list.old.items ++ token.now ∷ []) }
+    ensures { OnOk result (tokens_behind list.new.items
+        ≡ tokens_behind list.old.items ++ token.now ∷ []) }
 {
     list.push(token)?;
     Ok(())
@@ -36,7 +38,8 @@ fn take_group<'a>(
 ) -> Result<Option<Argument<'a>>, AllocError>
     requires { length rest.old < 2 ^ 31 }
     ensures short { IfOk result (λ taken. IfSome taken (λ a. length a ≤ length rest.old)) }
-    ensures takes { IfOk result (λ taken. Takes (option_map (λ v. tokens_behind v) taken) (group 0 rest.old) rest.new) }
+    ensures takes { IfOk result (λ taken. Takes (option_map (λ v. tokens_behind v) taken)
+        (group 0 rest.old) rest.new) }
     ensures falls { length rest.new ≤ length rest.old }
 {
     let mut inside = spare.take();
@@ -58,7 +61,8 @@ fn take_argument<'a>(
 ) -> Result<Option<Argument<'a>>, AllocError>
     requires { length rest.old < 2 ^ 31 }
     ensures short { IfOk result (λ taken. IfSome taken (λ a. length a ≤ length rest.old)) }
-    ensures takes { IfOk result (λ taken. Takes (option_map (λ v. tokens_behind v) taken) (argument rest.old) rest.new) }
+    ensures takes { IfOk result (λ taken. Takes (option_map (λ v. tokens_behind v) taken)
+        (argument rest.old) rest.new) }
     ensures falls { length rest.new ≤ length rest.old }
 {
     while let Some(token) = rest.pop() {
@@ -86,7 +90,8 @@ pub fn take_arguments<'a>(
 ) -> Result<Option<Vec<Argument<'a>>>, AllocError>
     requires { length rest.old < 2 ^ 31 }
     ensures short { IfOk result (λ taken. IfSome taken (λ all. All IsShortArgument all.items)) }
-    ensures takes { IfOk result (λ taken. TakesAll (option_map (λ v. token_lists_behind v.items) taken) (arguments params rest.old) rest.new) }
+    ensures takes { IfOk result (λ taken. TakesAll
+        (option_map (λ v. token_lists_behind v.items) taken) (arguments params rest.old) rest.new) }
     ensures falls { length rest.new ≤ length rest.old }
 {
     let mut taken = Vec::new(alloc);
@@ -102,8 +107,10 @@ pub fn take_arguments<'a>(
 }
 
 fn push_argument<'a>(list: &mut Vec<Argument<'a>>, argument: Argument<'a>) -> Result<(), AllocError>
-    ensures short { All IsShortArgument list.old.items → IsShortArgument argument.entry → OnOk result (All IsShortArgument list.new.items) }
-    ensures is { OnOk result (token_lists_behind list.new.items ≡ token_lists_behind list.old.items ++ tokens_behind argument.entry ∷ []) }
+    ensures short { All IsShortArgument list.old.items → IsShortArgument argument.entry
+        → OnOk result (All IsShortArgument list.new.items) }
+    ensures is { OnOk result (token_lists_behind list.new.items
+        ≡ token_lists_behind list.old.items ++ tokens_behind argument.entry ∷ []) }
 {
     list.push(argument)?;
     Ok(())

@@ -21,7 +21,8 @@ const MAX_OWN_NAMES: usize = 1_000;
 /// Why a macro was not taken.
 #[derive(Clone, Copy, Debug, PartialEq, Eq, Error)]
 pub enum MacroError {
-    /// There are more than 9 parameters, or a `#` in the body is not followed by a digit from 1 to their number.
+    /// There are more than 9 parameters, or a `#` in the body is not followed by a digit from 1 to
+    /// their number.
     #[error("a parameter is out of order")]
     BadParameters,
     /// A brace in the body has no partner.
@@ -56,15 +57,18 @@ fn body_fault(params: u8, body: &[Token]) -> Option<MacroError>
 }
 
 impl Macros {
-    /// Defines a macro of the user's, by its name, its number of parameters and its body. A macro that the name had is replaced.
+    /// Defines a macro of the user's, by its name, its number of parameters and its body. A macro
+    /// that the name had is replaced.
     ///
     /// # Errors
     ///
-    /// The first of these: `BadParameters`, `Unbalanced`, `TooMany`. `OutOfMemory` where memory ran out. After an error the macros are as before.
+    /// The first of these: `BadParameters`, `Unbalanced`, `TooMany`. `OutOfMemory` where memory ran
+    /// out. After an error the macros are as before.
     pub fn define(&mut self, name: &Name, params: u8, body: &[Token]) -> Result<(), MacroError>
         requires { length body.now ≤ 2 ^ 32 }
         ensures is { Answers result self.new (define self.old name.now params body.now) }
-        ensures put { OnOk result (HasMacroAt self.old self.new name.now (record { own = true; params = params; body = body.now })) }
+        ensures put { OnOk result (HasMacroAt self.old self.new name.now
+            (record { own = true; params = params; body = body.now })) }
         ensures err { OnErr result (self.new ≡ self.old) }
     {
         if let Some(fault) = body_fault(params, body) {
@@ -77,15 +81,18 @@ impl Macros {
         Ok(())
     }
 
-    /// Defines a macro as [`Macros::define`] does, but makes no name the user's own: a name that is the user's own stays so, and another does not become so.
+    /// Defines a macro as [`Macros::define`] does, but makes no name the user's own: a name that is
+    /// the user's own stays so, and another does not become so.
     ///
     /// # Errors
     ///
-    /// The first of these: `BadParameters`, `Unbalanced`. `OutOfMemory` where memory ran out. After an error the macros are as before.
+    /// The first of these: `BadParameters`, `Unbalanced`. `OutOfMemory` where memory ran out. After
+    /// an error the macros are as before.
     pub fn preload(&mut self, name: &Name, params: u8, body: &[Token]) -> Result<(), MacroError>
         requires { length body.now ≤ 2 ^ 32 }
         ensures is { Answers result self.new (preload self.old name.now params body.now) }
-        ensures put { OnOk result (HasMacroAt self.old self.new name.now (record { own = is_own (macro_of self.old name.now); params = params; body = body.now })) }
+        ensures put { OnOk result (HasMacroAt self.old self.new name.now
+            (record { own = is_own (macro_of self.old name.now); params = params; body = body.now })) }
         ensures err { OnErr result (self.new ≡ self.old) }
     {
         if let Some(fault) = body_fault(params, body) {

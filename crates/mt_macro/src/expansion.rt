@@ -20,7 +20,8 @@ use thiserror::Error;
 /// Why a list was not expanded.
 #[derive(Clone, Copy, Debug, PartialEq, Eq, Error)]
 pub enum ExpandError {
-    /// After this many steps the list has more than 50,000 tokens, or 20,000 steps have left a macro. The length is that of the list then.
+    /// After this many steps the list has more than 50,000 tokens, or 20,000 steps have left a
+    /// macro. The length is that of the list then.
     #[error("{length} tokens after {steps} steps")]
     Budget {
         /// The number of steps.
@@ -28,7 +29,8 @@ pub enum ExpandError {
         /// The number of tokens after them.
         length: u64,
     },
-    /// A macro lacks an argument. The index is the macro's in the list of that step, counted from 0.
+    /// A macro lacks an argument. The index is the macro's in the list of that step, counted
+    /// from 0.
     #[error("the macro at {0} lacks an argument")]
     MissingArgument(u32),
     /// The first brace of the list given that has no partner, by its index, counted from 0.
@@ -56,14 +58,19 @@ const MAX_TOKENS: usize = 50_000;
 /// The greatest number of steps.
 const MAX_STEPS: u32 = 20_000;
 
-/// The list in which no macro is left. Each step replaces the leftmost macro, with its arguments, by its body (The TeXbook, chapter 20).
+/// The list in which no macro is left. Each step replaces the leftmost macro, with its arguments,
+/// by its body (The TeXbook, chapter 20).
 ///
 /// # Errors
 ///
-/// `TooLong`, then `Unbalanced`, of the list given. Then, by the steps, `Budget` and `MissingArgument`: at a list of more than 50,000 tokens, and where a macro is left after 20,000 steps, with or without its arguments, it is `Budget`. `OutOfMemory` where memory ran out, and neither `TooLong` nor `Unbalanced` applies.
+/// `TooLong`, then `Unbalanced`, of the list given. Then, by the steps, `Budget` and
+/// `MissingArgument`: at a list of more than 50,000 tokens, and where a macro is left after 20,000
+/// steps, with or without its arguments, it is `Budget`. `OutOfMemory` where memory ran out, and
+/// neither `TooLong` nor `Unbalanced` applies.
 pub fn expand(alloc: Global, macros: &Macros, list: &[Token]) -> Result<TokenList, ExpandError>
     ensures is { Expands result (expansion macros.now list.now) }
-    ensures memory { result ≡ Err OutOfMemory → (length list.now ≤ max_tokens) × (first_unmatched 0 list.now ≡ None) }
+    ensures memory { result ≡ Err OutOfMemory
+        → (length list.now ≤ max_tokens) × (first_unmatched 0 list.now ≡ None) }
 {
     if list.len() > MAX_TOKENS {
         return Err(ExpandError::TooLong);
@@ -93,7 +100,8 @@ enum Replacement {
     Done,
 }
 
-// Puts the macro's body, with its arguments, before the rest, if there is room beside what is passed.
+// Puts the macro's body, with its arguments, before the rest, if there is room beside what is
+// passed.
 fn replace<'a>(
     alloc: Global,
     found: &'a Macro,
@@ -103,7 +111,8 @@ fn replace<'a>(
 ) -> Result<Replacement, AllocError>
     requires rest { passed + length rest.old ≤ max_tokens }
     requires body { HasShortBody found.now }
-    ensures { IfOk result (λ r. Replaces passed r (replacement found.now (arguments found.now.params rest.old)) rest.new) }
+    ensures { IfOk result (λ r. Replaces passed r
+        (replacement found.now (arguments found.now.params rest.old)) rest.new) }
 {
     let Some(arguments) = take_arguments(alloc, spare, rest, found.params)? else {
         return Ok(Replacement::NoArgument);

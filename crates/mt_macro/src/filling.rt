@@ -20,7 +20,8 @@ fn index_of(digit: &Token) -> usize
 // How many tokens a parameter's argument has, 0 where there is none.
 fn argument_len(arguments: &[Argument], digit: &Token) -> usize
     requires { All IsShortArgument arguments.now }
-    ensures is { result ≡ length (get_or (token_lists_behind arguments.now) (character_code digit.now.kind - 49) []) }
+    ensures is { result ≡ length (get_or (token_lists_behind arguments.now)
+        (character_code digit.now.kind - 49) []) }
     ensures short { result < 2 ^ 31 }
 {
     match arguments.get(index_of(digit)) {
@@ -59,7 +60,8 @@ pub fn fill<'a>(
     body: &'a [Token],
     arguments: &[Argument<'a>],
 ) -> Result<Vec<&'a Token>, AllocError>
-    ensures { IfOk result (λ tokens. tokens_behind tokens.items ≡ fill (token_lists_behind arguments.now) body.now) }
+    ensures { IfOk result (λ tokens. tokens_behind tokens.items
+        ≡ fill (token_lists_behind arguments.now) body.now) }
 {
     let mut tokens = spare.take();
     let mut rest = body;
@@ -84,7 +86,8 @@ fn push_argument<'a>(
     arguments: &[Argument<'a>],
     digit: &Token,
 ) -> Result<(), AllocError>
-    ensures { OnOk result (tokens_behind tokens.new.items ≡ tokens_behind tokens.old.items ++ get_or (token_lists_behind arguments.now) (character_code digit.now.kind - 49) []) }
+    ensures { OnOk result (tokens_behind tokens.new.items ≡ tokens_behind tokens.old.items
+        ++ get_or (token_lists_behind arguments.now) (character_code digit.now.kind - 49) []) }
 {
     match arguments.get(index_of(digit)) {
         Some(argument) => push_slice(tokens, argument.as_slice()),
@@ -93,7 +96,8 @@ fn push_argument<'a>(
 }
 
 fn push_slice<'a>(tokens: &mut Vec<&'a Token>, more: &[&'a Token]) -> Result<(), AllocError>
-    ensures { OnOk result (tokens_behind tokens.new.items ≡ tokens_behind tokens.old.items ++ tokens_behind more.now) }
+    ensures { OnOk result (tokens_behind tokens.new.items
+        ≡ tokens_behind tokens.old.items ++ tokens_behind more.now) }
 {
     tokens.extend_from_slice(more)?;
     Ok(())

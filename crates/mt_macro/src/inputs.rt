@@ -45,7 +45,8 @@ impl<'a> Inputs<'a> {
 
     /// Takes the next token.
     pub fn pop(&mut self) -> Option<&'a Token>
-        ensures { MatchOption result ((self.old ≡ []) × (self.new ≡ [])) (λ t. self.old ≡ t.now ∷ self.new) }
+        ensures { MatchOption result ((self.old ≡ []) × (self.new ≡ []))
+            (λ t. self.old ≡ t.now ∷ self.new) }
     {
         self.items.pop()
     }

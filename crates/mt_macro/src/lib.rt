@@ -1,4 +1,5 @@
-//! Macros and their expansion, as TeX does it for macros with undelimited parameters (The TeXbook, chapter 20; tex.web part 25).
+//! Macros and their expansion, as TeX does it for macros with undelimited parameters (The TeXbook,
+//! chapter 20; tex.web part 25).
 #![tactic(auto)]
 
 mod arguments;

@@ -1,5 +1,6 @@
 //! The macros by their names.
-ghost use Rattle.std.specs.Prelude.{◌≡◌, ◌≤◌, ◌^◌, ◌<◌, ◌+◌, ◌||◌, ◌&&◌, not, if◌then◌else◌, [], true, false, length, IfOk, IfSome, OnOk, OnErr};
+ghost use Rattle.std.specs.Prelude.{◌≡◌, ◌≤◌, ◌^◌, ◌<◌, ◌+◌, ◌||◌, ◌&&◌, not, [], true, false, length};
+ghost use Rattle.std.specs.Prelude.{if◌then◌else◌, IfOk, IfSome, OnOk, OnErr};
 ghost use Rattle.std.specs.Option.{option_copied};
 ghost use Rattle.mt_macro.specs.Limits.{max_own_names};
 ghost use Rattle.mt_macro.specs.Table.{macro_of, macro_at, is_own, own_count, with_macro, HasShortBody};
@@ -21,7 +22,8 @@ pub struct Macro {
     pub body: TokenList,
 }
 
-/// Macros: a finite map from names to their numbers of parameters and bodies, with whether each name is the user's own.
+/// Macros: a finite map from names to their numbers of parameters and bodies, with whether each
+/// name is the user's own.
 ///
 /// A name is the user's own from its first [`Macros::define`] on.
 #[derive(Debug, Drop)]
@@ -91,7 +93,8 @@ impl Macros {
         self.own_names
     }
 
-    /// Puts a macro under a name, in place of an older one. The name is the user's own where this makes it so, or where it was so before.
+    /// Puts a macro under a name, in place of an older one. The name is the user's own where this
+    /// makes it so, or where it was so before.
     pub(crate) fn put(
         &mut self,
         name: &Name,
@@ -100,8 +103,14 @@ impl Macros {
         body: &[Token],
     ) -> Result<(), AllocError>
         requires short { length body.now ≤ 2 ^ 32 }
-        requires room { makes_own ≡ true → is_own (macro_of self.old name.now) ≡ false → own_count self.old < max_own_names }
-        ensures ok { OnOk result (self.new ≡ with_macro self.old name.now (record { own = makes_own || is_own (macro_of self.old name.now); params = params; body = body.now })) }
+        requires room { makes_own ≡ true → is_own (macro_of self.old name.now) ≡ false
+            → own_count self.old < max_own_names }
+        ensures ok { OnOk result (self.new ≡ with_macro self.old name.now
+            (record {
+              own = makes_own || is_own (macro_of self.old name.now);
+              params = params;
+              body = body.now;
+            })) }
         ensures err { OnErr result (self.new ≡ self.old) }
     {
         let was_own = self.is_own(name.as_slice());

@@ -42,17 +42,22 @@ pub trait Cabinet {
     /// The name of the last call that failed, if there was one.
     ghost lost: { Self → Option (List ℕ) };
 
-    /// The whole file of that name, of at most `limit` bytes. A name that is not held counts as an empty file.
+    /// The whole file of that name, of at most `limit` bytes. A name that is not held counts as an
+    /// empty file.
     ///
     /// # Errors
     ///
-    /// [`FetchError::Failed`] raises the count of faults and keeps the name; every other answer leaves both.
-    /// [`FetchError::TooLong`] comes where the file is longer than `limit`. [`FetchError::OutOfMemory`] may come always.
+    /// [`FetchError::Failed`] raises the count of faults and keeps the name; every other answer
+    /// leaves both. [`FetchError::TooLong`] comes where the file is longer than `limit`.
+    /// [`FetchError::OutOfMemory`] may come always.
     fn fetch(&mut self, alloc: Global, name: &str, limit: u64) -> Result<Bytes, FetchError>
         requires { limit < 2 ^ 40 }
         ensures within { IfOk result (λ bytes. length bytes ≤ limit) }
-        ensures bytes { IfOk result (λ bytes. IfSome (holds self.old) (λ files. bytes ≡ content files name.now)) }
-        ensures too_long { result ≡ Err FetchError.TooLong → IfSome (holds self.old) (λ files. limit < length (content files name.now)) }
+        ensures bytes { IfOk result (λ bytes. IfSome (holds self.old)
+            (λ files. bytes ≡ content files name.now)) }
+        ensures too_long { result ≡ Err FetchError.TooLong
+            → IfSome (holds self.old) (λ files. limit < length (content files name.now)) }
         ensures holds { holds self.new ≡ holds self.old }
-        ensures leaves { FetchLeaves (faults self.old) (faults self.new) (lost self.old) (lost self.new) name.now result };
+        ensures leaves { FetchLeaves (faults self.old) (faults self.new) (lost self.old)
+            (lost self.new) name.now result };
 }

@@ -11,7 +11,8 @@ use std::fs;
 use std::marker::Model;
 use std::rt::Files;
 
-/// The files of a system, by their paths. Contracts see its count of faults and the name of the last one.
+/// The files of a system, by their paths. Contracts see its count of faults and the name of the
+/// last one.
 #[derive(Drop)]
 pub struct FileCabinet<'a, R: Files> {
     rt: &'a R,
@@ -41,9 +42,12 @@ impl<'a, R: Files> FileCabinet<'a, R> {
 
     // The answer to a read. One that failed is counted, and its name is kept.
     fn answer(&mut self, name: Name, read: Result<Vec<u8>, FetchError>) -> Result<Bytes, FetchError>
-        ensures is { MatchResult read (λ bytes. result ≡ Ok bytes.items) (λ error. result ≡ Err error) }
-        ensures leaves { FetchLeaves self.old.faults self.new.faults self.old.lost self.new.lost name result }
-        ensures raises { result ≡ Err FetchError.Failed → self.new.faults ≡ next_count self.old.faults }
+        ensures is { MatchResult read (λ bytes. result ≡ Ok bytes.items)
+            (λ error. result ≡ Err error) }
+        ensures leaves { FetchLeaves self.old.faults self.new.faults self.old.lost self.new.lost
+            name result }
+        ensures raises { result ≡ Err FetchError.Failed
+            → self.new.faults ≡ next_count self.old.faults }
     {
         match read {
             Ok(bytes) => Ok(Bytes::from_vec(bytes)),
@@ -79,8 +83,10 @@ impl<R: Files> Cabinet for FileCabinet<'_, R> {
         requires { limit < 2 ^ 40 }
         ensures within { IfOk result (λ bytes. length bytes ≤ limit) }
         ensures bytes { IfOk result (λ bytes. IfSome None (λ files. bytes ≡ content files name.now)) }
-        ensures leaves { FetchLeaves self.old.faults self.new.faults self.old.lost self.new.lost name.now result }
-        ensures raises { result ≡ Err FetchError.Failed → self.new.faults ≡ next_count self.old.faults }
+        ensures leaves { FetchLeaves self.old.faults self.new.faults self.old.lost self.new.lost
+            name.now result }
+        ensures raises { result ≡ Err FetchError.Failed
+            → self.new.faults ≡ next_count self.old.faults }
     {
         let lost = Name::from_slice(alloc, name.as_bytes())?;
         let read = read_file(self.rt, alloc, name, limit);

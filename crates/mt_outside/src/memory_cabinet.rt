@@ -10,7 +10,8 @@ use mt_scaled::{Bytes, Name};
 use std::alloc::Global;
 use std::marker::Model;
 
-/// Files in memory. The calls of the numbers that it is given fail, and so does a call for a name that it does not hold.
+/// Files in memory. The calls of the numbers that it is given fail, and so does a call for a name
+/// that it does not hold.
 #[derive(Debug, Drop)]
 pub struct MemoryCabinet {
     files: FileList,
@@ -25,11 +26,18 @@ impl Model for MemoryCabinet {
 
     ghost Value = { CabinetState };
 
-    ghost view = { λ c. record { files = c.files; fail = c.fail; calls = c.calls; faults = c.faults; lost = c.lost } };
+    ghost view = { λ c. record {
+      files = c.files;
+      fail = c.fail;
+      calls = c.calls;
+      faults = c.faults;
+      lost = c.lost;
+    } };
 }
 
 impl MemoryCabinet {
-    /// A cabinet of these files whose calls of the numbers `fail`, counted from 1, will fail. Takes no memory.
+    /// A cabinet of these files whose calls of the numbers `fail`, counted from 1, will fail. Takes
+    /// no memory.
     pub fn new(files: FileList, fail: CallList) -> Self
         ensures { result ≡ record { files = files; fail = fail; calls = 0; faults = 0; lost = None } }
     {
@@ -46,7 +54,8 @@ impl MemoryCabinet {
     fn file_of_call(&self, name: &[u8]) -> Option<&Held>
         ensures some { IfSome result (λ file. find_file self.now.files name.now ≡ Some file.now) }
         ensures allowed { IfSome result (λ _. Contains self.now.fail self.now.calls → ⊥) }
-        ensures none { IfNone result (Contains self.now.fail self.now.calls ⊎ (find_file self.now.files name.now ≡ None)) }
+        ensures none { IfNone result (Contains self.now.fail self.now.calls
+            ⊎ (find_file self.now.files name.now ≡ None)) }
     {
         if self.fail.as_slice().contains(&self.calls) {
             None
@@ -67,14 +76,18 @@ impl Cabinet for MemoryCabinet {
         requires { limit < 2 ^ 40 }
         ensures within { IfOk result (λ bytes. length bytes ≤ limit) }
         ensures bytes { IfOk result (λ bytes. bytes ≡ content self.old.files name.now) }
-        ensures too_long { result ≡ Err FetchError.TooLong → limit < length (content self.old.files name.now) }
-        ensures leaves { FetchLeaves self.old.faults self.new.faults self.old.lost self.new.lost name.now result }
-        ensures raises { result ≡ Err FetchError.Failed → self.new.faults ≡ next_count self.old.faults }
+        ensures too_long { result ≡ Err FetchError.TooLong
+            → limit < length (content self.old.files name.now) }
+        ensures leaves { FetchLeaves self.old.faults self.new.faults self.old.lost self.new.lost
+            name.now result }
+        ensures raises { result ≡ Err FetchError.Failed
+            → self.new.faults ≡ next_count self.old.faults }
         ensures files { self.new.files ≡ self.old.files }
         ensures fail { self.new.fail ≡ self.old.fail }
         ensures calls { self.new.calls ≡ next_count self.old.calls }
         ensures failed { result ≡ Err FetchError.Failed → Fails self.old name.now }
-        ensures fails { Fails self.old name.now → (result ≡ Err FetchError.Failed) ⊎ (result ≡ Err FetchError.OutOfMemory) }
+        ensures fails { Fails self.old name.now
+            → (result ≡ Err FetchError.Failed) ⊎ (result ≡ Err FetchError.OutOfMemory) }
     {
         // A call without memory for the name is counted too, so it gives up only behind the count.
         let lost = Name::from_slice(alloc, name.as_bytes());

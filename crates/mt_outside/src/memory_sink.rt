@@ -7,7 +7,8 @@ use crate::{CallList, PutError, Sink};
 use std::alloc::{AllocError, Global};
 use std::marker::Model;
 
-/// Bytes in memory. The puts of the numbers that it is given fail, and so does a put of more bytes than the room left.
+/// Bytes in memory. The puts of the numbers that it is given fail, and so does a put of more bytes
+/// than the room left.
 #[derive(Debug, Drop)]
 pub struct MemorySink {
     bytes: Vec<u8>,
@@ -24,19 +25,27 @@ impl Model for MemorySink {
 
     ghost Value = { SinkState };
 
-    ghost view = { λ s. record { bytes = s.bytes.items; room = s.room - vec_len s.bytes; fail = s.fail; calls = s.calls; faults = s.faults } };
+    ghost view = { λ s. record {
+      bytes = s.bytes.items;
+      room = s.room - vec_len s.bytes;
+      fail = s.fail;
+      calls = s.calls;
+      faults = s.faults;
+    } };
 
     ghost invariant = { λ s. (s.room ≤ vec_capacity s.bytes) × (vec_len s.bytes ≤ s.room) };
 }
 
 impl MemorySink {
-    /// An empty sink with room for `room` bytes, whose puts of the numbers `fail`, counted from 1, will fail.
+    /// An empty sink with room for `room` bytes, whose puts of the numbers `fail`, counted from 1,
+    /// will fail.
     ///
     /// # Errors
     ///
     /// [`AllocError`] where the room cannot be had. No later put takes memory.
     pub fn new(alloc: Global, room: usize, fail: CallList) -> Result<Self, AllocError>
-        ensures { IfOk result (λ sink. sink ≡ record { bytes = []; room = room; fail = fail; calls = 0; faults = 0 }) }
+        ensures { IfOk result (λ sink. sink
+            ≡ record { bytes = []; room = room; fail = fail; calls = 0; faults = 0 }) }
     {
         Ok(MemorySink {
             bytes: Vec::with_capacity(alloc, room)?,
@@ -64,7 +73,8 @@ impl Sink for MemorySink {
         ensures whole { IfOk result (λ count. count ≡ length bytes.now) }
         ensures appended { OnOk result (self.new.bytes ≡ self.old.bytes ++ bytes.now) }
         ensures room { OnOk result (self.new.room + length bytes.now ≡ self.old.room) }
-        ensures same { OnErr result ((self.new.bytes ≡ self.old.bytes) × (self.new.room ≡ self.old.room)) }
+        ensures same { OnErr result ((self.new.bytes ≡ self.old.bytes)
+            × (self.new.room ≡ self.old.room)) }
         ensures leaves { WriteLeaves self.old.faults self.new.faults result }
         ensures raises { OnErr result (self.new.faults ≡ next_count self.old.faults) }
         ensures fail { self.new.fail ≡ self.old.fail }

@@ -13,8 +13,10 @@ pub(crate) fn read_within<F: Read>(
 ) -> Result<Vec<u8>, FetchError>
     requires { limit < 2 ^ 40 }
     ensures within { IfOk result (λ bytes. vec_len bytes ≤ limit) }
-    ensures all { IfOk result (λ bytes. IfSome (F.remaining file.old) (λ left. bytes.items ≡ left)) }
-    ensures too_long { result ≡ Err FetchError.TooLong → IfSome (F.remaining file.old) (λ left. limit < length left) }
+    ensures all { IfOk result (λ bytes. IfSome (F.remaining file.old)
+        (λ left. bytes.items ≡ left)) }
+    ensures too_long { result ≡ Err FetchError.TooLong
+        → IfSome (F.remaining file.old) (λ left. limit < length left) }
 {
     let mut bytes = Vec::new(alloc);
     let mut buffer = [0u8; 4096];

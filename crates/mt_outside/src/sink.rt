@@ -15,13 +15,15 @@ pub enum PutError {
 
 /// Takes bytes.
 pub trait Sink {
-    /// The bytes that it has taken, where it tells them. A sink that tells after a call told before it.
+    /// The bytes that it has taken, where it tells them. A sink that tells after a call told before
+    /// it.
     ghost written: { Self → Option (List ℕ) };
 
     /// How often a call failed, up to 2^64 - 1. It never falls.
     ghost faults: { Self → ℕ };
 
-    /// Takes the first bytes of a piece, and says how many: at least one of a piece that is not empty.
+    /// Takes the first bytes of a piece, and says how many: at least one of a piece that is not
+    /// empty.
     ///
     /// # Errors
     ///
@@ -29,7 +31,8 @@ pub trait Sink {
     fn put(&mut self, bytes: &[u8]) -> Result<usize, PutError>
         ensures within { IfOk result (λ count. count ≤ length bytes.now) }
         ensures progress { IfOk result (λ count. 0 < length bytes.now → 0 < count) }
-        ensures appended { Appends (written self.old) (written self.new) (put_prefix result bytes.now) }
+        ensures appended { Appends (written self.old) (written self.new)
+            (put_prefix result bytes.now) }
         ensures leaves { WriteLeaves (faults self.old) (faults self.new) result };
 }
 
@@ -37,10 +40,12 @@ pub trait Sink {
 ///
 /// # Errors
 ///
-/// Where a put fails, the number of bytes that were taken before: exactly those, the first ones, are written.
+/// Where a put fails, the number of bytes that were taken before: exactly those, the first ones,
+/// are written.
 pub fn write_all<S: Sink>(sink: &mut S, bytes: &[u8]) -> Result<(), u64>
     ensures within { IfErr result (λ count. count ≤ length bytes.now) }
-    ensures appended { Appends (S.written sink.old) (S.written sink.new) (write_prefix result bytes.now) }
+    ensures appended { Appends (S.written sink.old) (S.written sink.new)
+        (write_prefix result bytes.now) }
     ensures leaves { WriteLeaves (S.faults sink.old) (S.faults sink.new) result }
 {
     let mut done: usize = 0;

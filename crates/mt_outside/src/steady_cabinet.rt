@@ -7,7 +7,8 @@ use mt_scaled::Bytes;
 use std::alloc::Global;
 use std::marker::Model;
 
-/// Files in memory that are always given. A name that it does not hold is an empty file. Contracts see it as its files.
+/// Files in memory that are always given. A name that it does not hold is an empty file. Contracts
+/// see it as its files.
 #[derive(Debug, Drop)]
 pub struct SteadyCabinet {
     files: FileList,

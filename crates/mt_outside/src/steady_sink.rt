@@ -22,7 +22,10 @@ impl Model for SteadySink {
 
     ghost Value = { SteadyState };
 
-    ghost view = { λ s. record { bytes = bytes_unless_past s.is_past s.bytes.items; room = s.room - vec_len s.bytes } };
+    ghost view = { λ s. record {
+      bytes = bytes_unless_past s.is_past s.bytes.items;
+      room = s.room - vec_len s.bytes;
+    } };
 
     ghost invariant = { λ s. (s.room ≤ vec_capacity s.bytes) × (vec_len s.bytes ≤ s.room) };
 }
@@ -63,9 +66,11 @@ impl Sink for SteadySink {
     fn put(&mut self, bytes: &[u8]) -> Result<usize, PutError>
         ensures whole { result ≡ Ok (length bytes.now) }
         ensures appended { Appends self.old.bytes self.new.bytes bytes.now }
-        ensures fits { length bytes.now ≤ self.old.room → self.new.bytes ≡ option_map (λ before. before ++ bytes.now) self.old.bytes }
+        ensures fits { length bytes.now ≤ self.old.room
+            → self.new.bytes ≡ option_map (λ before. before ++ bytes.now) self.old.bytes }
         ensures past { self.old.room < length bytes.now → self.new.bytes ≡ None }
-        ensures room { IfSome self.new.bytes (λ _. self.new.room + length bytes.now ≡ self.old.room) }
+        ensures room { IfSome self.new.bytes
+            (λ _. self.new.room + length bytes.now ≡ self.old.room) }
     {
         if self.is_past {
             return Ok(bytes.len());

@@ -7,10 +7,12 @@ use crate::{PutError, Sink};
 use std::io::Write;
 use std::marker::Model;
 
-/// A stream that bytes are written to. Contracts see what the stream holds, where that is known, and the count of faults.
+/// A stream that bytes are written to. Contracts see what the stream holds, where that is known,
+/// and the count of faults.
 ///
-/// It never flushes, so it asks for a stream that puts out what its `write` takes, as standard output does. Who lends
-/// one that keeps bytes back, as a `BufWriter`, flushes it, and sees to it where that fails: it is not counted here.
+/// It never flushes, so it asks for a stream that puts out what its `write` takes, as standard
+/// output does. Who lends one that keeps bytes back, as a `BufWriter`, flushes it, and sees to it
+/// where that fails: it is not counted here.
 #[derive(Drop)]
 pub struct StreamSink<W: Write + Drop> {
     stream: W,

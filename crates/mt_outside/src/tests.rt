@@ -9,7 +9,8 @@ use std::fs;
 use std::io::{self, Read, Write};
 use std::test::Fail;
 
-/// A stream that takes at most two bytes at a call, until it has no more room. Then it takes none, or breaks.
+/// A stream that takes at most two bytes at a call, until it has no more room. Then it takes none,
+/// or breaks.
 #[derive(Drop)]
 struct ShortWrites {
     room: usize,
@@ -31,7 +32,8 @@ impl Write for ShortWrites {
     }
 }
 
-/// A reader that gives at most two bytes at a call, until none is left. Then it is at its end, or breaks.
+/// A reader that gives at most two bytes at a call, until none is left. Then it is at its end, or
+/// breaks.
 #[derive(Drop)]
 struct ShortReads {
     left: usize,

@@ -1,6 +1,7 @@
 //! The lexeme of a source that stands in front: bytes without a token, a token, or a fault.
 ghost use Rattle.std.specs.Prelude.{◌≡◌, ◌<◌, ◌≤◌, ◌+◌, ◌==◌, IfOk, length};
-ghost use Rattle.mt_token.specs.Lexemes.{is_letter, is_visible, line_end, letters, comment, lexeme, lexeme_after_escape, Fits};
+ghost use Rattle.mt_token.specs.Lexemes.{is_letter, is_visible, line_end, letters, comment};
+ghost use Rattle.mt_token.specs.Lexemes.{lexeme, lexeme_after_escape, Fits};
 
 use crate::token::TokenKind;
 use mt_scaled::Name;
@@ -9,7 +10,8 @@ use std::alloc::{AllocError, Global};
 /// The state in which a line is read (The TeXbook, chapter 8).
 #[derive(Clone, Copy, Debug, PartialEq, Eq)]
 pub enum State {
-    /// State N: at the beginning of a line, where blanks are skipped and the line's end is a `\par`.
+    /// State N: at the beginning of a line, where blanks are skipped and the line's end is a
+    /// `\par`.
     New,
     /// State M: in the middle of a line.
     Middle,

@@ -1,6 +1,7 @@
 //! The tokens of a source, which is bytes.
 //!
-//! The rules are those of The TeXbook, chapter 8, and of tex.web part 24 (§§343 to 356), with plain TeX's category codes. What this crate refuses is listed in docs/RULES.md.
+//! The rules are those of The TeXbook, chapter 8, and of tex.web part 24 (§§343 to 356), with plain
+//! TeX's category codes. What this crate refuses is listed in docs/RULES.md.
 #![tactic(auto)]
 
 mod lexeme;

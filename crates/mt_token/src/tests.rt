@@ -21,7 +21,8 @@ fn are_tokens(list: &TokenList, want: &[Short]) -> bool {
 #[test]
 fn reads_tokens(rt: HostRuntime) -> Result<(), Fail> {
     let alloc = rt.alloc();
-    // Blanks after a control word are skipped; a line that ends in the middle gives a Space, an empty one \par.
+    // Blanks after a control word are skipped; a line that ends in the middle gives a Space, an
+    // empty one \par.
     let list = tokens(alloc, b" \\alpha  x\\, \t y\r\n\n% all\n$a^b$%z")?;
     let want: [Short; 12] = [
         (b"alpha", 1, 7),
