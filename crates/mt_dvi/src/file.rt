@@ -125,7 +125,7 @@ fn write_file(alloc: Global, fonts: &FontSet, pages: &[PlaceList]) -> Result<Vec
     ensures { IfOk result (λ bytes. Written fonts.now bytes.items pages.now) }
 {
     let mut out = Vec::new(alloc);
-    let mut defined = Vec::with_capacity(alloc, fonts.len())?;
+    let mut defined = Vec::with_capacity(alloc, fonts.font_count())?;
     emit::pre(&mut out)?;
     let last = write_pages(&mut out, &mut defined, fonts, pages)?;
     let start = out.len() as u32;

@@ -1,5 +1,7 @@
 //! The fonts of a list, by number and by family and size.
-ghost use Rattle.std.specs.Prelude.{◌≡◌, ◌≤◌, ◌<◌, ◌^◌, ◌⊎◌, ◌↔◌, IsTrue, ℕ, length, map, slice_get, IfOk, IfErr, OnOk, Some, None, true, IfSome, find, position};
+ghost use Rattle.std.specs.Prelude.{◌≡◌, ◌≤◌, ◌<◌, ◌^◌, ◌⊎◌, ◌↔◌, IsTrue, ℕ, length, map};
+ghost use Rattle.std.specs.Prelude.{slice_get, IfOk, IfErr, OnOk, Some, None, true, IfSome, find};
+ghost use Rattle.std.specs.Prelude.{position};
 ghost use Rattle.std.specs.List.{zip};
 ghost use Rattle.std.specs.Option.{option_copied};
 ghost use Rattle.std.specs.Result.{result_err};
@@ -7,8 +9,11 @@ ghost use Rattle.mt_family.specs.declared.error.SetError.TheVariants.{OutOfMemor
 ghost use Rattle.mt_family.specs.declared.list.FamilyLine.{FamilyLine};
 ghost use Rattle.mt_scaled.specs.Number.{Within};
 ghost use Rattle.mt_family.specs.ListFacts.{is_family};
-ghost use Rattle.mt_family.specs.SetValue.{number_in, number_by, numbers_of, table_of, font_at, font_of, name_in, has_name_and_size, number_named, NamesLeadBack, has_params, HasParams, AreLoaded, IsSet};
-ghost use Rattle.mt_family.specs.Sets.{size_fault, family_fault, set_fault, param_in, units_of, sy as sy_of, ex as ex_of};
+ghost use Rattle.mt_family.specs.SetValue.{number_in, number_by, numbers_of, table_of, font_at};
+ghost use Rattle.mt_family.specs.SetValue.{font_of, name_in, has_name_and_size, number_named};
+ghost use Rattle.mt_family.specs.SetValue.{NamesLeadBack, has_params, HasParams, AreLoaded, IsSet};
+ghost use Rattle.mt_family.specs.Sets.{size_fault, family_fault, set_fault, param_in, units_of};
+ghost use Rattle.mt_family.specs.Sets.{sy as sy_of, ex as ex_of};
 
 use crate::error::SetError;
 use crate::list::{FamilyLine, FontLine, FontList};
@@ -22,7 +27,7 @@ use std::marker::Model;
 pub type Fonts = Items<Font>;
 
 /// The fonts of a list, by number and by family and size. Families 2 and 3 have a font at each size,
-/// with at least 22 and 13 parameters.
+/// with at least 22 and 13 parameters, and no two fonts have one name and one size.
 #[derive(Drop)]
 pub struct FontSet {
     lines: Vec<FontLine>,
@@ -38,9 +43,17 @@ impl Model for FontSet {
 
     ghost Value = { SetValue };
 
-    ghost view = { λ s. record { lines = s.lines.items; families = s.families.items; fonts = s.fonts.items } };
+    ghost view = { λ s. record {
+      lines = s.lines.items;
+      families = s.families.items;
+      fonts = s.fonts.items;
+    } };
 
-    ghost invariant = { λ s. IsSet (record { lines = s.lines.items; families = s.families.items; fonts = s.fonts.items }) × (s.table.items ≡ table_of s.families.items 16) };
+    ghost invariant = { λ s. IsSet (record {
+      lines = s.lines.items;
+      families = s.families.items;
+      fonts = s.fonts.items;
+    }) × (s.table.items ≡ table_of s.families.items 16) };
 }
 
 fn family_line(families: &[FamilyLine], fam: u8) -> Option<&FamilyLine>
@@ -122,7 +135,8 @@ fn check_size(
     least: u16,
 ) -> Result<(), SetError>
     ensures fault { result_err result ≡ size_fault families.now fonts.now fam size least }
-    ensures has { OnOk result (has_params least (font_of families.now fonts.now fam size) ≡ true) }
+    ensures has { OnOk result
+        (has_params least (font_of families.now fonts.now fam size) ≡ true) }
 {
     match font_of(families, fonts, fam, size) {
         None => Err(SetError::NoMathFamily { fam, size }),
@@ -166,13 +180,16 @@ impl FontSet {
     ///
     /// # Errors
     ///
-    /// The first family and size where the font or a parameter is wanting; [`SetError::OutOfMemory`] may come always.
+    /// The first family and size where the font or a parameter is wanting;
+    /// [`SetError::OutOfMemory`] may come always.
     pub fn build(alloc: Global, list: FontList, fonts: Fonts) -> Result<FontSet, SetError>
         requires { AreLoaded list.lines fonts }
-        ensures ok { IfOk result (λ set. set ≡ record { lines = list.lines; families = list.families; fonts = fonts }) }
+        ensures ok { IfOk result (λ set. set
+            ≡ record { lines = list.lines; families = list.families; fonts = fonts }) }
         ensures facts { IfOk result (λ set. IsSet set) }
         ensures passed { OnOk result (set_fault list.families fonts ≡ None) }
-        ensures err { IfErr result (λ e. (e ≡ OutOfMemory) ⊎ (set_fault list.families fonts ≡ Some e)) }
+        ensures err { IfErr result
+            (λ e. (e ≡ OutOfMemory) ⊎ (set_fault list.families fonts ≡ Some e)) }
     {
         let lines = list.lines.into_vec();
         let families = list.families.into_vec();
@@ -188,18 +205,11 @@ impl FontSet {
     }
 
     /// How many fonts there are: those with the numbers below this.
-    pub fn len(&self) -> usize
+    pub fn font_count(&self) -> usize
         ensures is { result ≡ length self.now.fonts }
         ensures facts { IsSet self.now }
     {
         self.fonts.len()
-    }
-
-    /// Whether there is no font. There always is one, since families 2 and 3 have theirs.
-    pub fn is_empty(&self) -> bool
-        ensures { IsTrue result ↔ (length self.now.fonts ≡ 0) }
-    {
-        self.fonts.is_empty()
     }
 
     /// The number of the font that a family has at a size.

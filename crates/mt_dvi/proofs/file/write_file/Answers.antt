@@ -8,7 +8,7 @@ pub returns : goal.returns
 returns c =
     let again = rw c.deref.ensures.value at c.in_ok-define_again.ensures in
     let start : c.len-start.result ≡ length c.write_pages.new.out.items = omega (arith, c.len-start.ensures) in
-    let long : c.len-2.result ≡ length c.post_post.new.out.items = omega (arith, c.len-2.ensures) in
+    let long : c.len.result ≡ length c.post_post.new.out.items = omega (arith, c.len.ensures) in
     let end : IsTail (length c.post_post.new.out.items) c.tail-end.result.now = subst (λ (n : ℕ). IsTail n c.tail-end.result.now) long c.tail-end.ensures in
     let fits = c.in_ok-last.ensures.last_fits in
     let same : to_z w64 (of_z w64 c.in_ok-last.last) ≡ c.in_ok-last.last = omega (arith, ints, fits) in
