@@ -8,10 +8,10 @@ use Rattle.mt_dvi.specs.Limits.{max_pages, max_places}
 use Rattle.mt_dvi.specs.Codes.{Bop, Eop}
 use Rattle.mt_dvi.specs.writer.Emits.{FitsFourBytes, Emits}
 use Rattle.mt_dvi.specs.File.{BetweenPages, Continues, File, Page, at_start, empty_page, file_step}
-use Rattle.mt_dvi.specs.writer.LeadsTo.{LeadsTo, at_origin, in_page, fonts_after, fonts_after_all, with_definitions, with_places}
+use Rattle.mt_dvi.specs.writer.LeadsTo.{Advances, LeadsTo, WritesPlaces, at_origin, in_page, numbers_after, numbers_after_all, with_definitions, with_places}
 use Rattle.mt_dvi.specs.Machine.{WrittenPlace}
 use Rattle.mt_dvi.specs.WrittenPlaces.{all_places, written_places, numbered_pages, page_counts, numbered_page}
-use Rattle.mt_dvi.specs.writer.Pages.{PagesWritten, between_pages}
+use Rattle.mt_dvi.specs.writer.Pages.{PagesWritten, WritesPage, between_pages}
 use Rattle.mt_family.specs.SetValue.{SetValue}
 use Rattle.mt_box.specs.declared.place.Place.{Place}
 use Rattle.mt_dvi.specs.declared.page.Cursor.{Cursor}
@@ -37,17 +37,16 @@ step_eop fonts numbers pages last place_count at counts places cursor rest = ref
 
 pub page_written : (fonts : SetValue) (o0 o1 o2 o3 : List ℕ) (old_defined new_defined : List ℕ) (number : ℕ) (last : ℤ) (page : List Place)
     → Emits 45 o0 o1 (Bop (page_counts number) last)
-    → ((file : File) → file.place_count + length page ≤ max_places → LeadsTo fonts o1 (in_page (with_definitions fonts file old_defined) at_origin) → (end : Cursor) × LeadsTo fonts o2 (in_page (with_definitions fonts (with_places file (written_places fonts page)) new_defined) end))
+    → WritesPlaces fonts o1 o2 old_defined new_defined page
     → Emits 1 o2 o3 Eop
-    → (pages : List Page) → (place_count : ℕ) → place_count + length page ≤ max_places → LeadsTo fonts o0 (between_pages fonts old_defined pages last place_count)
-    → LeadsTo fonts o3 (between_pages fonts new_defined (pages ++ numbered_page fonts number page ∷ []) (pos (length o0)) (place_count + length page))
-page_written fonts o0 o1 o2 o3 old_defined new_defined number last page bop marking eop pages place_count few leads =
+    → WritesPage fonts o0 o3 old_defined new_defined number last page
+page_written fonts o0 o1 o2 o3 old_defined new_defined number last page bop places eop = λ pages place_count few leads.
     let counts = page_counts number in
     let file = open_file pages (pos (length o0)) place_count counts in
     let s1 : LeadsTo fonts o1 (in_page (with_definitions fonts file old_defined) at_origin) =
     leads_next fonts o0 o1 (between_pages fonts old_defined pages last place_count) (in_page (with_definitions fonts file old_defined) at_origin) (Bop counts last) 45 leads bop
     (λ rest. step_bop fonts old_defined pages last place_count (length o0) counts rest) in
-    let s2 = marking file few s1 in
+    let s2 = places file few s1 in
     let s3 : LeadsTo fonts o3 (between_pages fonts new_defined (pages ++ numbered_page fonts number page ∷ []) (pos (length o0)) (place_count + length (written_places fonts page))) =
     leads_next fonts o2 o3 (in_page (with_definitions fonts (with_places file (written_places fonts page)) new_defined) s2.0) (between_pages fonts new_defined (pages ++ numbered_page fonts number page ∷ []) (pos (length o0)) (place_count + length (written_places fonts page))) Eop 1 s2.1 eop
     (λ rest. step_eop fonts new_defined pages (pos (length o0)) place_count (length o2) counts (written_places fonts page) s2.0 rest) in
@@ -63,14 +62,15 @@ numbered_more fonts n (p ∷ pages) page =
     let e : n + 1 + length pages ≡ n + length (p ∷ pages) = omega arith in
     ap (λ (l : List Page). numbered_page fonts n p ∷ l) (numbered_more fonts (n + 1) pages page ∙ ap (λ (k : ℕ). numbered_pages fonts (n + 1) pages ++ numbered_page fonts k page ∷ []) e)
 
-used_more : (numbers : List ℕ) (xs ys : List Place) → fonts_after_all numbers (xs ++ ys) ≡ fonts_after_all (fonts_after_all numbers xs) ys
+used_more : (numbers : List ℕ) (xs ys : List Place) → numbers_after_all numbers (xs ++ ys) ≡ numbers_after_all (numbers_after_all numbers xs) ys
 used_more numbers [] ys = refl
-used_more numbers (x ∷ xs) ys = used_more (fonts_after numbers x) xs ys
+used_more numbers (x ∷ xs) ys = used_more (numbers_after numbers x) xs ys
 
 -- the pages so far
 pub record PagesSoFar (fonts : SetValue) (old_out out defined : List ℕ) (last : ℤ) (pages : List (List Place)) : Type 0 where
-  pub used : defined ≡ fonts_after_all [] (all_places pages)
-  pub leads : LeadsTo fonts old_out (between_pages fonts [] [] (negsuc 0) 0) → LeadsTo fonts out (between_pages fonts defined (numbered_pages fonts 1 pages) last (length (all_places pages)))
+  pub used : defined ≡ numbers_after_all [] (all_places pages)
+  pub leads : Advances fonts old_out out (between_pages fonts [] [] (negsuc 0) 0)
+      (between_pages fonts defined (numbered_pages fonts 1 pages) last (length (all_places pages)))
   pub long : length out ≤ length old_out + 19 * length (all_places pages) + 46 * length pages + 271 * length defined
 
 pub pages_none : (fonts : SetValue) (out : List ℕ) → PagesSoFar fonts out out [] (negsuc 0) []
@@ -102,9 +102,8 @@ joined_take (x ∷ xs) (suc i) = omega (arith, joined_take xs i, length-append x
 pages_more : (fonts : SetValue) (old_out out new_out defined new_defined : List ℕ) (last : ℤ) (pages : List (List Place)) (page : List Place)
     → PagesSoFar fonts old_out out defined last pages
     → length (all_places (pages ++ page ∷ [])) ≤ max_places
-    → new_defined ≡ fonts_after_all defined page
-    → ((before : List Page) → (place_count : ℕ) → place_count + length page ≤ max_places → LeadsTo fonts out (between_pages fonts defined before last place_count)
-    → LeadsTo fonts new_out (between_pages fonts new_defined (before ++ numbered_page fonts (length pages + 1) page ∷ []) (pos (length out)) (place_count + length page)))
+    → new_defined ≡ numbers_after_all defined page
+    → WritesPage fonts out new_out defined new_defined (length pages + 1) last page
     → length new_out + 271 * length defined ≤ length out + 271 * length new_defined + (19 * length page + 46)
     → PagesSoFar fonts old_out new_out new_defined (pos (length out)) (pages ++ page ∷ [])
 pages_more fonts old_out out new_out defined new_defined last pages page so_far few used one long =
@@ -113,7 +112,7 @@ pages_more fonts old_out out new_out defined new_defined last pages page so_far 
     let number : 1 + length pages ≡ length pages + 1 = omega arith in
     let before = so_far.long in
     record {
-      used = used ∙ ap (λ (l : List ℕ). fonts_after_all l page) so_far.used ∙ sym (used_more [] (all_places pages) page) ∙ ap (λ (l : List Place). fonts_after_all [] l) (sym all);
+      used = used ∙ ap (λ (l : List ℕ). numbers_after_all l page) so_far.used ∙ sym (used_more [] (all_places pages) page) ∙ ap (λ (l : List Place). numbers_after_all [] l) (sym all);
       leads = λ leads.
           let s = one (numbered_pages fonts 1 pages) (length (all_places pages)) (omega (arith, few, count)) (so_far.leads leads) in
           rw (numbered_more fonts 1 pages page, number, count) s;
@@ -124,9 +123,8 @@ pub pages_next : (fonts : SetValue) (old_out out new_out defined new_defined : L
     → i < length all → number ≡ i + 1
     → length (all_places all) ≤ max_places
     → PagesSoFar fonts old_out out defined last (take i all)
-    → new_defined ≡ fonts_after_all defined (get_or all i d)
-    → ((before : List Page) → (place_count : ℕ) → place_count + length (get_or all i d) ≤ max_places → LeadsTo fonts out (between_pages fonts defined before last place_count)
-    → LeadsTo fonts new_out (between_pages fonts new_defined (before ++ numbered_page fonts number (get_or all i d) ∷ []) (pos (length out)) (place_count + length (get_or all i d))))
+    → new_defined ≡ numbers_after_all defined (get_or all i d)
+    → WritesPage fonts out new_out defined new_defined number last (get_or all i d)
     → length new_out + 271 * length defined ≤ length out + 271 * length new_defined + (19 * length (get_or all i d) + 46)
     → PagesSoFar fonts old_out new_out new_defined (pos (length out)) (take (i + 1) all)
 pages_next fonts old_out out new_out defined new_defined last all i d number lt is few so_far used one long =
@@ -135,8 +133,7 @@ pages_next fonts old_out out new_out defined new_defined last all i d number lt 
     let less : length (all_places (take (i + 1) all)) ≤ max_places = omega (arith, joined_take all (i + 1), few) in
     subst (λ (l : List (List Place)). PagesSoFar fonts old_out new_out new_defined (pos (length out)) l) (sym e)
     (pages_more fonts old_out out new_out defined new_defined last (take i all) (get_or all i d) so_far (subst (λ (l : List (List Place)). length (all_places l) ≤ max_places) e less) used
-    (subst (λ (k : ℕ). (before : List Page) → (place_count : ℕ) → place_count + length (get_or all i d) ≤ max_places → LeadsTo fonts out (between_pages fonts defined before last place_count)
-    → LeadsTo fonts new_out (between_pages fonts new_defined (before ++ numbered_page fonts k (get_or all i d) ∷ []) (pos (length out)) (place_count + length (get_or all i d)))) n one) long)
+    (subst (λ (k : ℕ). WritesPage fonts out new_out defined new_defined k last (get_or all i d)) n one) long)
 
 pub pages_size : (fonts : SetValue) (old_out out defined : List ℕ) (last : ℤ) (all : List (List Place)) (i : ℕ) → PagesSoFar fonts old_out out defined last (take i all)
     → length old_out ≤ 15 → length all ≤ max_pages → length (all_places all) ≤ max_places → length defined ≤ 48 → i ≤ length all → length out ≤ 41027633
@@ -147,5 +144,8 @@ pub count_more : (pages : List (List Place)) (i : ℕ) (d page : List Place) (co
     → next ≡ min (length (all_places (take (i + 1) pages))) (2 ^ 64 - 1)
 count_more pages i d page count next lt at is add =
     let e : take (i + 1) pages ≡ take i pages ++ get_or pages i d ∷ [] = take_more pages i d lt in
-    let l : length (all_places (take (i + 1) pages)) ≡ length (all_places (take i pages)) + length (get_or pages i d) = ap (λ (ps : List (List Place)). length (all_places ps)) e ∙ ap length (joined_more (take i pages) (get_or pages i d)) ∙ length-append (all_places (take i pages)) (get_or pages i d) in
+    let l : length (all_places (take (i + 1) pages)) ≡ length (all_places (take i pages)) + length (get_or pages i d) =
+    ap (λ (ps : List (List Place)). length (all_places ps)) e
+    ∙ ap length (joined_more (take i pages) (get_or pages i d))
+    ∙ length-append (all_places (take i pages)) (get_or pages i d) in
     omega (arith, l, ap length at, is, add)

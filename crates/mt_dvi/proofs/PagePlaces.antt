@@ -9,7 +9,7 @@ use Rattle.mt_box.specs.Places.{h_of, v_of}
 use Rattle.mt_dvi.specs.Limits.{max_places}
 use Rattle.mt_dvi.specs.writer.Emits.{FitsFourBytes}
 use Rattle.mt_dvi.specs.File.{File}
-use Rattle.mt_dvi.specs.writer.LeadsTo.{IsReachable, LeadsTo, at_origin, cursor_after, in_page, fonts_after, fonts_after_all, with_definitions, with_place, with_places}
+use Rattle.mt_dvi.specs.writer.LeadsTo.{Advances, IsReachable, LeadsTo, WritesPlace, WritesPlaces, at_cursor, at_origin, cursor_after, numbers_after, numbers_after_all, with_place, with_places}
 use Rattle.mt_dvi.specs.Machine.{WrittenPlace, is_far}
 use Rattle.mt_dvi.specs.Edges.{right_edge}
 use Rattle.mt_dvi.specs.Writable.{InRange, IsWritable}
@@ -24,10 +24,11 @@ pub record PlacesWritten (fonts : SetValue) (page : List Place) (old_out old_def
   pub can : All (IsWritable fonts) rest
   pub v : InRange cursor.v
   pub reach : IsReachable cursor (first_of rest)
-  pub used : fonts_after_all defined rest ≡ fonts_after_all old_defined page
+  pub used : numbers_after_all defined rest ≡ numbers_after_all old_defined page
   pub done : List WrittenPlace
   pub is : written_places fonts page ≡ done ++ written_places fonts rest
-  pub leads : (file : File) → file.place_count + length page ≤ max_places → LeadsTo fonts old_out (in_page (with_definitions fonts file old_defined) at_origin) → LeadsTo fonts out (in_page (with_definitions fonts (with_places file done) defined) cursor)
+  pub leads : (file : File) → file.place_count + length page ≤ max_places
+      → Advances fonts old_out out (at_cursor fonts file old_defined at_origin) (at_cursor fonts (with_places file done) defined cursor)
 
 pub all_head : (P : Place → Type 0) (x : Place) (xs : List Place) → All P (x ∷ xs) → P x
 all_head P x xs all = all 0 x (omega arith)
@@ -75,7 +76,7 @@ places_start fonts page out defined can = record {
   used = refl;
   done = [];
   is = refl;
-  leads = λ file few leads. subst (λ (f : File). LeadsTo fonts out (in_page (with_definitions fonts f defined) at_origin)) (sym (with_none file)) leads;
+  leads = λ file few leads. subst (λ (f : File). LeadsTo fonts out (at_cursor fonts f defined at_origin)) (sym (with_none file)) leads;
 } where
   reach_top : (page : List Place) → All (IsWritable fonts) page → IsReachable at_origin (first_of page)
   reach_top [] can = tt
@@ -83,9 +84,8 @@ places_start fonts page out defined can = record {
 
 pub places_more : (fonts : SetValue) (page : List Place) (old_out old_defined out defined new_out new_defined : List ℕ) (cursor : Cursor) (place : Place) (rest : List Place)
     → PlacesWritten fonts page old_out old_defined out defined cursor (place ∷ rest)
-    → new_defined ≡ fonts_after defined place
-    → ((file : File) → file.place_count < max_places → LeadsTo fonts out (in_page (with_definitions fonts file defined) cursor)
-    → LeadsTo fonts new_out (in_page (with_definitions fonts (with_place file place (must_put fonts place (first_of rest))) new_defined) (cursor_after fonts place (must_put fonts place (first_of rest)) cursor)))
+    → new_defined ≡ numbers_after defined place
+    → WritesPlace fonts out new_out defined new_defined cursor place (must_put fonts place (first_of rest))
     → PlacesWritten fonts page old_out old_defined new_out new_defined (cursor_after fonts place (must_put fonts place (first_of rest)) cursor) rest
 places_more fonts page old_out old_defined out defined new_out new_defined cursor place rest written used one =
     let put = must_put fonts place (first_of rest) in
@@ -96,12 +96,13 @@ places_more fonts page old_out old_defined out defined new_out new_defined curso
       can = there;
       v = can_v fonts place here;
       reach = reach_next fonts place cursor rest here there;
-      used = ap (λ (l : List ℕ). fonts_after_all l rest) used ∙ written.used;
+      used = ap (λ (l : List ℕ). numbers_after_all l rest) used ∙ written.used;
       done = written.done ++ m ∷ [];
       is = written.is ∙ sym (append_assoc written.done (m ∷ []) (written_places fonts rest));
       leads = λ file few leads.
-          let count : file.place_count + length written.done < max_places = omega (arith, long fonts page, ap length written.is, length-append written.done (written_places fonts (place ∷ rest)), long fonts rest) in
-          subst (λ (f : File). LeadsTo fonts new_out (in_page (with_definitions fonts f new_defined) (cursor_after fonts place put cursor))) (with_more file written.done place put)
+          let count : file.place_count + length written.done < max_places =
+          omega (arith, long fonts page, ap length written.is, length-append written.done (written_places fonts (place ∷ rest)), long fonts rest) in
+          subst (λ (f : File). LeadsTo fonts new_out (at_cursor fonts f new_defined (cursor_after fonts place put cursor))) (with_more file written.done place put)
           (one (with_places file written.done) count (written.leads file few leads));
     }
 
@@ -122,26 +123,25 @@ pub places_next : (fonts : SetValue) (page : List Place) (old_out old_defined ou
     → 1 ≤ length rest
     → PlacesWritten fonts page old_out old_defined out defined cursor rest
     → put ≡ must_put fonts (get_or rest 0 d) (first_of (later rest))
-    → new_defined ≡ fonts_after defined (get_or rest 0 d)
-    → ((file : File) → file.place_count < max_places → LeadsTo fonts out (in_page (with_definitions fonts file defined) cursor)
-    → LeadsTo fonts new_out (in_page (with_definitions fonts (with_place file (get_or rest 0 d) put) new_defined) (cursor_after fonts (get_or rest 0 d) put cursor)))
+    → new_defined ≡ numbers_after defined (get_or rest 0 d)
+    → WritesPlace fonts out new_out defined new_defined cursor (get_or rest 0 d) put
     → next ≡ cursor_after fonts (get_or rest 0 d) put cursor
     → PlacesWritten fonts page old_out old_defined new_out new_defined next (later rest)
 places_next fonts page old_out old_defined out defined new_out new_defined cursor next [] d put lt written is used one after = absurd (omega arith)
 places_next fonts page old_out old_defined out defined new_out new_defined cursor next (x ∷ xs) d put lt written is used one after =
     let e : put ≡ must_put fonts x (first_of xs) = is ∙ ap (λ (l : List Place). must_put fonts x (first_of l)) (later_is x xs) in
     let n : cursor_after fonts x (must_put fonts x (first_of xs)) cursor ≡ next = sym (after ∙ ap (λ (b : Bool). cursor_after fonts x b cursor) e) in
-    let one' = subst (λ (b : Bool). (file : File) → file.place_count < max_places → LeadsTo fonts out (in_page (with_definitions fonts file defined) cursor) → LeadsTo fonts new_out (in_page (with_definitions fonts (with_place file x b) new_defined) (cursor_after fonts x b cursor))) e one in
+    let one' = subst (λ (b : Bool). WritesPlace fonts out new_out defined new_defined cursor x b) e one in
     subst (λ (l : List Place). PlacesWritten fonts page old_out old_defined new_out new_defined next l) (sym (later_is x xs))
     (subst (λ (c : Cursor). PlacesWritten fonts page old_out old_defined new_out new_defined c xs) n
     (places_more fonts page old_out old_defined out defined new_out new_defined cursor x xs written used one'))
 
 -- no place is left
 pub places_end : (fonts : SetValue) (page : List Place) (old_out old_defined out defined : List ℕ) (cursor : Cursor) (rest : List Place) → length rest < 1 → PlacesWritten fonts page old_out old_defined out defined cursor rest
-    → (defined ≡ fonts_after_all old_defined page) × ((file : File) → file.place_count + length page ≤ max_places → LeadsTo fonts old_out (in_page (with_definitions fonts file old_defined) at_origin) → (end : Cursor) × LeadsTo fonts out (in_page (with_definitions fonts (with_places file (written_places fonts page)) defined) end))
+    → (defined ≡ numbers_after_all old_defined page) × WritesPlaces fonts old_out out old_defined defined page
 places_end fonts page old_out old_defined out defined cursor [] lt written =
     let e : written.done ≡ written_places fonts page = sym (written.is ∙ append-nil written.done) in
-    (written.used, λ file few leads. (cursor, subst (λ (ms : List WrittenPlace). LeadsTo fonts out (in_page (with_definitions fonts (with_places file ms) defined) cursor)) e (written.leads file few leads)))
+    (written.used, λ file few leads. (cursor, subst (λ (ms : List WrittenPlace). LeadsTo fonts out (at_cursor fonts (with_places file ms) defined cursor)) e (written.leads file few leads)))
 places_end fonts page old_out old_defined out defined cursor (x ∷ xs) lt written = absurd (omega arith)
 
 pub later_length : (xs : List Place) → 1 ≤ length xs → length (later xs) + 1 ≡ length xs

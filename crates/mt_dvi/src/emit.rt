@@ -140,7 +140,14 @@ pub fn define(
     name: &[u8],
 ) -> Result<(), AllocError>
     requires { length name.now < 256 }
-    ensures { OnOk result (Emits 271 out.old.items out.new.items (Define (record { number = number; checksum = checksum; size = size; design = design; area = []; name = name.now }))) }
+    ensures { OnOk result (Emits 271 out.old.items out.new.items (Define (record {
+      number = number;
+      checksum = checksum;
+      size = size;
+      design = design;
+      area = [];
+      name = name.now;
+    }))) }
 {
     out.extend_from_slice(&[FNT_DEF1, number])?;
     push4(out, checksum)?;
@@ -151,7 +158,8 @@ pub fn define(
     Ok(())
 }
 
-/// post: the offset of the last bop, num, den and mag as in pre, the greatest edges, the depth 0, the number of pages.
+/// post: the offset of the last bop, num, den and mag as in pre, the greatest edges, the depth 0, the
+/// number of pages.
 pub fn post(
     out: &mut Vec<u8>,
     last: i64,
@@ -160,7 +168,8 @@ pub fn post(
     pages: u16,
 ) -> Result<(), AllocError>
     requires { FitsFourBytes last }
-    ensures { OnOk result (Emits 29 out.old.items out.new.items (Post (own_postamble last tallest widest pages))) }
+    ensures { OnOk result (Emits 29 out.old.items out.new.items
+        (Post (own_postamble last tallest widest pages))) }
 {
     out.push(POST)?;
     push_signed(out, last)?;

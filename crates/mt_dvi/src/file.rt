@@ -8,7 +8,7 @@ ghost use Rattle.mt_dvi.specs.Writable.{IsWritable};
 ghost use Rattle.mt_dvi.specs.WrittenPlaces.{all_places};
 ghost use Rattle.mt_dvi.specs.Written.{Written};
 ghost use Rattle.mt_dvi.specs.Refusal.{refusal_of, refusal_in};
-ghost use Rattle.mt_dvi.specs.writer.LeadsTo.{GrowsBy, GrowsWith, fonts_after_all};
+ghost use Rattle.mt_dvi.specs.writer.LeadsTo.{GrowsBy, GrowsWith, numbers_after_all};
 ghost use Rattle.mt_dvi.specs.writer.Pages.{DefinesAgain, IsTail, PagesWritten, WritesPage};
 
 use crate::edges::{tallest, widest};
@@ -44,10 +44,11 @@ fn write_page(
     requires set { IsSet fonts.now }
     requires can { All (IsWritable fonts.now) page.now }
     requires last { FitsFourBytes last }
-    ensures defined { OnOk result (defined.new.items ≡ fonts_after_all defined.old.items page.now) }
-    ensures leads { OnOk result (WritesPage fonts.now out.old.items out.new.items defined.old.items defined.new.items
-        number last page.now) }
-    ensures long { OnOk result (GrowsWith (19 * length page.now + 46) out.old.items out.new.items defined.old.items defined.new.items) }
+    ensures defined { OnOk result (defined.new.items ≡ numbers_after_all defined.old.items page.now) }
+    ensures leads { OnOk result (WritesPage fonts.now
+        out.old.items out.new.items defined.old.items defined.new.items number last page.now) }
+    ensures long { OnOk result (GrowsWith (19 * length page.now + 46)
+        out.old.items out.new.items defined.old.items defined.new.items) }
 {
     emit::bop(out, number, last)?;
     write_places(out, defined, fonts, page)?;
@@ -68,7 +69,8 @@ fn write_pages(
     requires places { length (all_places pages.now) ≤ max_places }
     requires first { length out.old.items ≤ 15 }
     requires none { defined.old.items ≡ [] }
-    ensures { IfOk result (λ last. PagesWritten fonts.now out.old.items out.new.items defined.new.items last pages.now) }
+    ensures { IfOk result (λ last.
+        PagesWritten fonts.now out.old.items out.new.items defined.new.items last pages.now) }
 {
     let mut last = -1;
     let mut number: u32 = 0;
@@ -85,7 +87,8 @@ fn write_pages(
 fn define_again(out: &mut Vec<u8>, defined: &[u16], fonts: &FontSet) -> Result<(), AllocError>
     requires set { IsSet fonts.now }
     requires there { All (λ n. n < length fonts.now.fonts) defined.now }
-    ensures leads { OnOk result (DefinesAgain fonts.now out.old.items out.new.items defined.now defined.now) }
+    ensures leads { OnOk result (DefinesAgain fonts.now
+        out.old.items out.new.items defined.now defined.now) }
     ensures long { OnOk result (GrowsBy (271 * length defined.now) out.old.items out.new.items) }
 {
     for n in defined {
@@ -145,18 +148,19 @@ fn write_file(alloc: Global, fonts: &FontSet, pages: &[PlaceList]) -> Result<Vec
 
 /// The DVI file of pages (tex.web, part 31).
 ///
-/// It is a file of the format's identifier 2, in scaled points, with the magnification 1000. Its k-th page has k in
-/// count 0. The fonts that are used are defined before their first use and once more after the pages; a font's number
-/// is that in the set.
+/// It is a file of the format's identifier 2, in scaled points, with the magnification 1000. Its k-th
+/// page has k in count 0. The fonts that are used are defined before their first use and once more
+/// after the pages; a font's number is that in the set.
 ///
-/// The coordinates of the places, the widths and depths of their glyphs and the heights and widths of their rules are
-/// at most 2^30 - 1 scaled points in size, each glyph exists in its font, and each rule has a positive height and a
-/// positive width.
+/// The coordinates of the places, the widths and depths of their glyphs and the heights and widths of
+/// their rules are dimensions (at most 2^30 - 1 scaled points in size), each glyph exists in its font,
+/// and each rule has a positive height and a positive width.
 ///
 /// # Errors
 ///
-/// The first of these: `TooManyPages` above 65,535 pages, `TooManyPlaces` above 2,000,000 places on all pages
-/// together, with their number, which is given as 2^64 - 1 where it is greater. `OutOfMemory` where memory ran out.
+/// The first of these: `TooManyPages` above 65,535 pages, `TooManyPlaces` above `MAX_PLACES` places on
+/// all pages together, with their number, which is given as 2^64 - 1 where it is greater. `OutOfMemory`
+/// where memory ran out.
 pub fn write_dvi(
     alloc: Global,
     fonts: &FontSet,

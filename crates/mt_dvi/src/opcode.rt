@@ -1,6 +1,7 @@
-//! The opcodes that the writer uses, by their names (tex.web §586), and the numbers that stand in every file.
+//! The opcodes that the writer uses, by their names (tex.web §586), and numbers that every file has.
 
-/// Sets the character of the code in the next byte; smaller codes stand for their characters themselves.
+/// Sets the character of the code in the next byte; a smaller opcode sets the character of its own
+/// number.
 pub const SET1: u8 = 128;
 /// Sets a rule of a height and a width.
 pub const SET_RULE: u8 = 132;

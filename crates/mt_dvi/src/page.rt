@@ -9,7 +9,7 @@ ghost use Rattle.mt_dvi.specs.writer.Emits.{FitsFourBytes};
 ghost use Rattle.mt_dvi.specs.Edges.{lower_edge, right_edge};
 ghost use Rattle.mt_dvi.specs.Writable.{HasGlyph, InRange, IsWritable};
 ghost use Rattle.mt_dvi.specs.WrittenPlaces.{first_of, must_put};
-ghost use Rattle.mt_dvi.specs.writer.LeadsTo.{Advances, GrowsBy, GrowsWith, Introduces, Selects, WritesPlace, WritesPlaces, cursor_after, in_page, fonts_after, fonts_after_all, with_number};
+ghost use Rattle.mt_dvi.specs.writer.LeadsTo.{Advances, GrowsBy, GrowsWith, Introduces, Selects, WritesPlace, WritesPlaces, cursor_after, in_page, numbers_after, numbers_after_all, with_number};
 
 use crate::emit;
 use crate::fonts::{define, depth, is_defined, width};
@@ -17,7 +17,7 @@ use mt_box::Place;
 use mt_family::FontSet;
 use std::alloc::AllocError;
 
-/// Where the machine stands in a page, and the font that is selected.
+/// Where the machine is in a page, and the font that is selected.
 #[derive(Clone, Copy, Debug)]
 pub struct Cursor {
     /// In scaled points, to the right of the page's origin.
@@ -93,8 +93,10 @@ fn introduce(
     requires there { n < length fonts.now.fonts }
     requires set { IsSet fonts.now }
     ensures defined { OnOk result (defined.new.items ≡ with_number defined.old.items n) }
-    ensures leads { OnOk result (Introduces fonts.now out.old.items out.new.items defined.old.items defined.new.items) }
-    ensures long { OnOk result (GrowsWith 0 out.old.items out.new.items defined.old.items defined.new.items) }
+    ensures leads { OnOk result (Introduces fonts.now
+        out.old.items out.new.items defined.old.items defined.new.items) }
+    ensures long { OnOk result (GrowsWith 0
+        out.old.items out.new.items defined.old.items defined.new.items) }
 {
     if !is_defined(defined, n) {
         define(out, fonts, n)?;
@@ -170,7 +172,7 @@ fn is_far(amount: i64) -> bool
     amount > 2147483647 || amount < -2147483647
 }
 
-// Where the machine stands after a place.
+// Where the machine is after a place.
 fn cursor_after(fonts: &FontSet, place: Place, put: bool, cursor: Cursor) -> Cursor
     requires can { IsWritable fonts.now place }
     ensures { result ≡ cursor_after fonts.now place put cursor }
@@ -189,7 +191,7 @@ fn cursor_after(fonts: &FontSet, place: Place, put: bool, cursor: Cursor) -> Cur
     }
 }
 
-// Writes a glyph where the machine stands: the definition of its font, the selection, and the character.
+// Writes a glyph where the machine is: the definition of its font, the selection, the character.
 #[tactic(auto, using(crate::proofs::Prefix::longer))]
 fn write_glyph(
     out: &mut Vec<u8>,
@@ -205,9 +207,11 @@ fn write_glyph(
     requires h { InRange cursor.h }
     requires v { InRange cursor.v }
     ensures defined { OnOk result (defined.new.items ≡ with_number defined.old.items n) }
-    ensures leads { OnOk result (WritesPlace fonts.now out.old.items out.new.items defined.old.items defined.new.items
+    ensures leads { OnOk result (WritesPlace fonts.now
+        out.old.items out.new.items defined.old.items defined.new.items
         cursor (Place.Glyph n code cursor.h cursor.v) put) }
-    ensures long { OnOk result (GrowsWith 3 out.old.items out.new.items defined.old.items defined.new.items) }
+    ensures long { OnOk result (GrowsWith 3
+        out.old.items out.new.items defined.old.items defined.new.items) }
 {
     introduce(out, defined, fonts, n)?;
     select(out, fonts, cursor, n)?;
@@ -215,7 +219,7 @@ fn write_glyph(
     Ok(())
 }
 
-// Writes a rule where the machine stands.
+// Writes a rule where the machine is.
 #[tactic(auto, using(crate::proofs::Prefix::longer))]
 fn write_rule(
     out: &mut Vec<u8>,
@@ -226,7 +230,8 @@ fn write_rule(
     put: bool,
 ) -> Result<(), AllocError>
     requires can { IsWritable fonts.now (Place.Rule cursor.h cursor.v height width) }
-    ensures leads { OnOk result ((numbers : List ℕ) → WritesPlace fonts.now out.old.items out.new.items numbers numbers
+    ensures leads { OnOk result ((numbers : List ℕ) → WritesPlace fonts.now
+        out.old.items out.new.items numbers numbers
         cursor (Place.Rule cursor.h cursor.v height width) put) }
     ensures long { OnOk result (GrowsBy 9 out.old.items out.new.items) }
 {
@@ -258,10 +263,11 @@ fn write_place(
     requires can { IsWritable fonts.now place }
     requires reach { FitsFourBytes (h_of place -ℤ cursor.h) }
     requires v { InRange cursor.v }
-    ensures defined { OnOk result (defined.new.items ≡ fonts_after defined.old.items place) }
-    ensures leads { OnOk result (WritesPlace fonts.now out.old.items out.new.items defined.old.items defined.new.items
-        cursor place put) }
-    ensures long { OnOk result (GrowsWith 19 out.old.items out.new.items defined.old.items defined.new.items) }
+    ensures defined { OnOk result (defined.new.items ≡ numbers_after defined.old.items place) }
+    ensures leads { OnOk result (WritesPlace fonts.now
+        out.old.items out.new.items defined.old.items defined.new.items cursor place put) }
+    ensures long { OnOk result (GrowsWith 19
+        out.old.items out.new.items defined.old.items defined.new.items) }
 {
     move_to(out, cursor, place)?;
     let there = cursor_at(place, cursor.font);
@@ -286,9 +292,11 @@ pub fn write_places(
 ) -> Result<(), AllocError>
     requires set { IsSet fonts.now }
     requires can { All (IsWritable fonts.now) page.now }
-    ensures defined { OnOk result (defined.new.items ≡ fonts_after_all defined.old.items page.now) }
-    ensures leads { OnOk result (WritesPlaces fonts.now out.old.items out.new.items defined.old.items defined.new.items page.now) }
-    ensures long { OnOk result (GrowsWith (19 * length page.now) out.old.items out.new.items defined.old.items defined.new.items) }
+    ensures defined { OnOk result (defined.new.items ≡ numbers_after_all defined.old.items page.now) }
+    ensures leads { OnOk result (WritesPlaces fonts.now
+        out.old.items out.new.items defined.old.items defined.new.items page.now) }
+    ensures long { OnOk result (GrowsWith (19 * length page.now)
+        out.old.items out.new.items defined.old.items defined.new.items) }
 {
     let mut cursor = Cursor {
         h: 0,

@@ -24,7 +24,8 @@ family 2 0 0 0
 family 3 0 0 0
 ";
 
-// A font with one character, of code 97, half as wide and half as high as the font's size, and with 22 parameters.
+// A font with one character, of code 97, half as wide and half as high as the font's size, and with
+// 22 parameters.
 const FONT: [u8; 148] = [
     0, 37, 0, 2, 0, 97, 0, 97, 0, 2, 0, 2, 0, 1, 0, 1, 0, 0, 0, 0, 0, 0, 0, 22, 0, 0, 0, 0, 0, 160,
     0, 0, 1, 16, 0, 0, 0, 0, 0, 0, 0, 8, 0, 0, 0, 0, 0, 0, 0, 8, 0, 0, 0, 0, 0, 0, 0, 0, 0, 0, 0,
@@ -39,18 +40,8 @@ const NO_PAGE: [u8; 56] = [
     223, 223, 223, 223, 223,
 ];
 
-// One page with one glyph: it is moved to, its font is defined and selected, and it is set.
-const ONE_GLYPH: [u8; 148] = [
-    247, 2, 1, 131, 146, 192, 28, 59, 0, 0, 0, 0, 3, 232, 0, 139, 0, 0, 0, 1, 0, 0, 0, 0, 0, 0, 0,
-    0, 0, 0, 0, 0, 0, 0, 0, 0, 0, 0, 0, 0, 0, 0, 0, 0, 0, 0, 0, 0, 0, 0, 0, 0, 0, 0, 0, 0, 255,
-    255, 255, 255, 160, 0, 5, 0, 0, 243, 3, 0, 0, 0, 0, 0, 10, 0, 0, 0, 10, 0, 0, 0, 4, 116, 111,
-    121, 109, 174, 97, 140, 248, 0, 0, 0, 15, 1, 131, 146, 192, 28, 59, 0, 0, 0, 0, 3, 232, 0, 5,
-    0, 0, 0, 5, 0, 0, 0, 0, 0, 1, 243, 3, 0, 0, 0, 0, 0, 10, 0, 0, 0, 10, 0, 0, 0, 4, 116, 111,
-    121, 109, 249, 0, 0, 0, 88, 2, 223, 223, 223, 223, 223,
-];
-
-// Three pages: two glyphs, a rule that is put since the next one is too far away, and a rule; no place; a rule that is
-// put, and a glyph.
+// Three pages: two glyphs, a rule that goes by put since the next one is too far away, and a rule;
+// nothing; a rule that goes by put, and a glyph.
 const THREE_PAGES: [u8; 304] = [
     247, 2, 1, 131, 146, 192, 28, 59, 0, 0, 0, 0, 3, 232, 0, 139, 0, 0, 0, 1, 0, 0, 0, 0, 0, 0, 0,
     0, 0, 0, 0, 0, 0, 0, 0, 0, 0, 0, 0, 0, 0, 0, 0, 0, 0, 0, 0, 0, 0, 0, 0, 0, 0, 0, 0, 0, 255,
@@ -179,31 +170,7 @@ fn rule(h: i64, v: i64, height: i64, width: i64) -> Place {
     }
 }
 
-#[test]
-fn writes_no_page(rt: HostRuntime) -> Result<(), Fail> {
-    let alloc = rt.alloc();
-    let fonts = toy_fonts(&rt, alloc)?;
-    let pages = PageList::from_vec(Vec::new(alloc));
-    let bytes = written(&rt, alloc, &fonts, &pages)?;
-    assert_eq!(rt; bytes.as_slice(), NO_PAGE.as_slice());
-    Ok(())
-}
-
-#[test]
-fn writes_a_glyph(rt: HostRuntime) -> Result<(), Fail> {
-    let alloc = rt.alloc();
-    let fonts = toy_fonts(&rt, alloc)?;
-    let page = PlaceList::from_vec(vec![in alloc; glyph(0, 327680)]?);
-    let pages = PageList::from_vec(vec![in alloc; page]?);
-    let bytes = written(&rt, alloc, &fonts, &pages)?;
-    assert_eq!(rt; bytes.as_slice(), ONE_GLYPH.as_slice());
-    Ok(())
-}
-
-#[test]
-fn writes_rules_and_far_places(rt: HostRuntime) -> Result<(), Fail> {
-    let alloc = rt.alloc();
-    let fonts = toy_fonts(&rt, alloc)?;
+fn three_pages(alloc: Global) -> Result<PageList, AllocError> {
     let first = PlaceList::from_vec(vec![in alloc;
         glyph(0, 327680),
         glyph(327680, 327680),
@@ -215,9 +182,28 @@ fn writes_rules_and_far_places(rt: HostRuntime) -> Result<(), Fail> {
         rule(1073741823, 0, 1, 1073741823),
         glyph(-1073741823, 3),
     ]?);
-    let pages = PageList::from_vec(vec![in alloc; first, second, third]?);
-    let bytes = written(&rt, alloc, &fonts, &pages)?;
-    assert_eq!(rt; bytes.as_slice(), THREE_PAGES.as_slice());
+    Ok(PageList::from_vec(vec![in alloc; first, second, third]?))
+}
+
+fn gives(
+    rt: &impl Abort,
+    alloc: Global,
+    fonts: &FontSet,
+    pages: &PageList,
+    want: &[u8],
+) -> Result<bool, DviWriteError> {
+    let bytes = written(rt, alloc, fonts, pages)?;
+    Ok(bytes.as_slice() == want)
+}
+
+#[test]
+fn writes_pages(rt: HostRuntime) -> Result<(), Fail> {
+    let alloc = rt.alloc();
+    let fonts = toy_fonts(&rt, alloc)?;
+    let none = PageList::from_vec(Vec::new(alloc));
+    assert!(rt; gives(&rt, alloc, &fonts, &none, &NO_PAGE)?);
+    let three = three_pages(alloc)?;
+    assert!(rt; gives(&rt, alloc, &fonts, &three, &THREE_PAGES)?);
     Ok(())
 }
 

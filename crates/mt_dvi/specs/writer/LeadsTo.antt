@@ -53,13 +53,13 @@ abbrev pub with_number : List ℕ → ℕ → List ℕ
 with_number numbers n = if is_among numbers n then numbers else numbers ++ n ∷ []
 
 -- the fonts that are defined after a place
-abbrev pub fonts_after : List ℕ → Place → List ℕ
-fonts_after numbers (Glyph n code h v) = with_number numbers n
-fonts_after numbers (Rule h v height width) = numbers
+abbrev pub numbers_after : List ℕ → Place → List ℕ
+numbers_after numbers (Glyph n code h v) = with_number numbers n
+numbers_after numbers (Rule h v height width) = numbers
 
-abbrev pub fonts_after_all : List ℕ → List Place → List ℕ
-fonts_after_all numbers [] = numbers
-fonts_after_all numbers (place ∷ places) = fonts_after_all (fonts_after numbers place) places
+abbrev pub numbers_after_all : List ℕ → List Place → List ℕ
+numbers_after_all numbers [] = numbers
+numbers_after_all numbers (place ∷ places) = numbers_after_all (numbers_after numbers place) places
 
 -- more places on the page
 abbrev pub with_places : File → List WrittenPlace → File

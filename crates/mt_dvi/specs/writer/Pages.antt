@@ -9,7 +9,7 @@ use Rattle.mt_dvi.specs.Fonts.{definition_of}
 use Rattle.mt_dvi.specs.File.{File, BetweenPages, AfterPost, Page, at_start}
 use Rattle.mt_dvi.specs.writer.Emits.{FitsFourBytes}
 use Rattle.mt_dvi.specs.WrittenPlaces.{numbered_pages, all_places, numbered_page}
-use Rattle.mt_dvi.specs.writer.LeadsTo.{Advances, fonts_after_all}
+use Rattle.mt_dvi.specs.writer.LeadsTo.{Advances, numbers_after_all}
 
 -- between pages: these pages have ended, the last of them begins at last, so many places are written, and these fonts
 -- are defined
@@ -51,8 +51,9 @@ DefinesAgain fonts old new defined again = (pages : List Page) → (last : ℤ) 
     (after_post fonts defined again pages last place_count post post_at)
 
 -- all pages are written, and the last one begins at last
-pub record PagesWritten (fonts : SetValue) (old_out out defined : List ℕ) (last : ℤ) (pages : List (List Place)) : Type 0 where
-  pub used : defined ≡ fonts_after_all [] (all_places pages)
+pub record PagesWritten (fonts : SetValue) (old_out out defined : List ℕ) (last : ℤ)
+    (pages : List (List Place)) : Type 0 where
+  pub used : defined ≡ numbers_after_all [] (all_places pages)
   pub leads : Advances fonts old_out out (between_pages fonts [] [] (negsuc 0) 0)
       (between_pages fonts defined (numbered_pages fonts 1 pages) last (length (all_places pages)))
   pub long : length out
