@@ -9,7 +9,6 @@ use crate::{
 use mt_box::PackError;
 use mt_family::Size;
 use std::alloc::{AllocError, Global};
-use std::test::Fail;
 
 const STYLES: [Style; 8] = [
     Style::D,
@@ -36,15 +35,11 @@ fn styles_of_parts(rt: HostRuntime) {
         (Style::Ss, Style::Ssc, Style::Ss, Style::Ssc),
         (Style::Ssc, Style::Ssc, Style::Ssc, Style::Ssc),
     ];
-    for (style, (sup, sub, num, den)) in STYLES.into_iter().zip(table) {
-        assert_eq!(rt; style.sup(), sup, "{style:?}");
-        assert_eq!(rt; style.sub(), sub, "{style:?}");
-        assert_eq!(rt; style.num(), num, "{style:?}");
-        assert_eq!(rt; style.den(), den, "{style:?}");
+    for (style, parts) in STYLES.into_iter().zip(table) {
+        assert!(rt; (style.sup(), style.sub(), style.num(), style.den()) == parts);
     }
-    assert_eq!(rt; Style::T.cramped(), Style::Tc);
-    assert_eq!(rt; Style::Ssc.index(), 7);
-    assert_eq!(rt; Style::Sc.size(), Size::Script);
+    assert!(rt; Style::T.cramped() == Style::Tc);
+    assert!(rt; Style::Ssc.index() == 7 && Style::Sc.size() == Size::Script);
 }
 
 const NONE: Delim = Delim {
@@ -68,22 +63,24 @@ fn letter(alloc: Global, code: u8) -> Result<Item, AllocError>
     )?))
 }
 
-#[test]
-fn lists_hold_what_they_are_made_of(rt: HostRuntime) -> Result<(), Fail> {
-    let alloc = rt.alloc();
+// A list with boundaries.
+fn bounded(alloc: Global) -> Result<MathList, AllocError> {
     let items = vec![in alloc;
         Item::Left(NONE),
         Item::Nonscript,
         Item::Kern(5),
         Item::Right(NONE),
     ]?;
-    let list = MathList::from_vec(items);
-    assert_eq!(rt; list.len(), 4);
+    Ok(MathList::from_vec(items))
+}
+
+#[test]
+fn lists_hold_what_they_are_made_of(rt: HostRuntime) {
+    let list = bounded(rt.alloc()).expect(&rt, "memory");
+    assert!(rt; list.len() == 4 && list.get(4).is_none());
     assert!(rt; matches!(list.get(2), Some(Item::Kern(5))));
-    assert!(rt; list.get(4).is_none());
     assert!(rt; matches!(list.as_slice(), [Item::Left(_), .., Item::Right(_)]));
-    assert_eq!(rt; list.into_vec().len(), 4);
-    Ok(())
+    assert!(rt; list.into_vec().len() == 4);
 }
 
 // A letter over a choice of styles.
@@ -106,27 +103,23 @@ fn fraction(alloc: Global) -> Result<Item, AllocError>
     Ok(Item::Fraction(Box::new(alloc, fraction)?))
 }
 
-#[test]
-fn rows_hold_lists(rt: HostRuntime) -> Result<(), Fail> {
-    let alloc = rt.alloc();
+// A fraction as the only row.
+fn rows(alloc: Global) -> Result<RowList, AllocError> {
     let row = MathList::from_vec(vec![in alloc; fraction(alloc)?]?);
-    let rows = RowList::from_vec(vec![in alloc; row]?);
-    assert_eq!(rt; rows.len(), 1);
-    assert!(rt; !rows.is_empty() && rows.get(1).is_none());
-    assert!(rt;
-        matches!(
-            rows.get(0).map(|row| row.as_slice()),
-            Some([Item::Fraction(_)])
-        )
-    );
-    assert_eq!(rt; rows.as_slice().len(), 1);
-    assert_eq!(rt; rows.into_vec().len(), 1);
-    Ok(())
+    Ok(RowList::from_vec(vec![in alloc; row]?))
 }
 
 #[test]
-fn documents_hold_formulas(rt: HostRuntime) -> Result<(), Fail> {
-    let alloc = rt.alloc();
+fn rows_hold_lists(rt: HostRuntime) {
+    let rows = rows(rt.alloc()).expect(&rt, "memory");
+    assert!(rt; rows.len() == 1 && !rows.is_empty() && rows.get(1).is_none());
+    let fraction = rows.get(0).and_then(|row| row.get(0));
+    assert!(rt; matches!(fraction, Some(Item::Fraction(_))));
+    assert!(rt; rows.as_slice().len() == 1 && rows.into_vec().len() == 1);
+}
+
+// An atom without rows, subscripted by nothing.
+fn vcenter(alloc: Global) -> Result<MathList, AllocError> {
     let atom = Atom {
         kind: Kind::Vcenter,
         limits: Limits::Default,
@@ -134,28 +127,37 @@ fn documents_hold_formulas(rt: HostRuntime) -> Result<(), Fail> {
         sup: Field::Empty,
         sub: Field::List(MathList::from_vec(Vec::new(alloc))),
     };
-    let body = MathList::from_vec(vec![in alloc; Item::Atom(Box::new(alloc, atom)?)]?);
-    assert!(rt; !body.is_empty());
+    Ok(MathList::from_vec(vec![in alloc; Item::Atom(Box::new(alloc, atom)?)]?))
+}
+
+// A displayed formula with a space as its number.
+fn document(alloc: Global) -> Result<Document, AllocError> {
     let number = Item::MuSpace(Glue {
         width: 3,
         shrink: 0,
     });
+    let tag = MathList::from_vec(vec![in alloc; number]?);
     let formula = Formula {
         number: 1,
         display: true,
-        body,
+        body: vcenter(alloc)?,
         tag: Some(Tag {
-            body: MathList::from_vec(vec![in alloc; number]?),
+            body: tag,
             left: false,
         }),
     };
-    let document = Document::from_vec(vec![in alloc; Page::from_vec(vec![in alloc; formula]?)]?);
-    assert_eq!(rt; document.len(), 1);
-    Ok(())
+    let page = Page::from_vec(vec![in alloc; formula]?);
+    Ok(Document::from_vec(vec![in alloc; page]?))
+}
+
+#[test]
+fn documents_hold_formulas(rt: HostRuntime) {
+    assert!(rt; document(rt.alloc()).expect(&rt, "memory").len() == 1);
+    assert!(rt; !vcenter(rt.alloc()).expect(&rt, "memory").is_empty());
 }
 
 #[test]
 fn faults_of_packing_are_faults_of_parts(rt: HostRuntime) {
     let fault = PartError::from(PackError::Overflow(1073741824));
-    assert_eq!(rt; fault, PartError::Overflow(1073741824));
+    assert!(rt; fault == PartError::Overflow(1073741824));
 }
