@@ -1,84 +1,100 @@
-//! Runs over files in memory, for the tests.
+//! Runs over files in memory, for the tests. Want of memory ends the process.
 use crate::run::run;
-use crate::status::Status;
 use mt_outside::{Cabinet, CallList, FileList, Held, MemoryCabinet, MemorySink, Sink};
 use mt_samples::{Toy, toy_list, toy_tfm};
 use mt_scaled::{Bytes, Name};
-use std::alloc::{AllocError, Global};
+use std::alloc::Global;
+use std::process::Abort;
 
 /// The words of a run.
-pub const SET: &str = "mathset set toy.fonts formula.tex";
+pub const SET: &[&str] = &["mathset", "set", "toy.fonts", "formula.tex"];
 
 /// A list of the toy fonts in which the letters are so wide that 17 of them are out of range.
 pub const LARGE: &[u8] =
     b"mathset fonts 1\nfont toyr 655360 -\nfont toym 134217727 127\nfont toys 655360 -\nfont toyx 655360 -\nfamily 0 0 0 0\nfamily 1 1 1 1\nfamily 2 2 2 2\nfamily 3 3 3 3\n";
 
-/// A copy of these bytes.
-pub fn bytes_of(alloc: Global, text: &[u8]) -> Result<Bytes, AllocError> {
-    Ok(Bytes::from_vec(text.to_vec(alloc)?))
+fn copy(rt: &impl Abort, alloc: Global, bytes: &[u8]) -> Vec<u8> {
+    bytes.to_vec(alloc).expect(rt, "memory")
 }
 
-fn held(alloc: Global, name: &[u8], bytes: Bytes) -> Result<Held, AllocError> {
-    Ok(Held {
-        name: Name::from_slice(alloc, name)?,
+fn held(rt: &impl Abort, alloc: Global, name: &[u8], bytes: Bytes) -> Held {
+    Held {
+        name: Name::from_vec(copy(rt, alloc, name)),
         bytes,
-    })
+    }
 }
 
-fn toy(alloc: Global, name: &[u8], which: Toy) -> Result<Held, AllocError> {
-    held(alloc, name, toy_tfm(alloc, which)?)
+fn text(rt: &impl Abort, alloc: Global, name: &[u8], bytes: &[u8]) -> Held {
+    held(rt, alloc, name, Bytes::from_vec(copy(rt, alloc, bytes)))
 }
 
-// The list that is given, or that of the toy fonts.
-fn list_of(alloc: Global, list: Option<&[u8]>) -> Result<Bytes, AllocError> {
+fn toy(rt: &impl Abort, alloc: Global, name: &[u8], which: Toy) -> Held {
+    held(rt, alloc, name, toy_tfm(alloc, which).expect(rt, "memory"))
+}
+
+// A list of fonts, or that of the toy fonts, under the name `toy.fonts`.
+fn font_list(rt: &impl Abort, alloc: Global, list: Option<&[u8]>) -> Held {
     match list {
-        Some(list) => bytes_of(alloc, list),
-        None => toy_list(alloc),
+        Some(list) => text(rt, alloc, b"toy.fonts", list),
+        None => held(
+            rt,
+            alloc,
+            b"toy.fonts",
+            toy_list(alloc).expect(rt, "memory"),
+        ),
     }
 }
 
-/// A list of fonts, or that of the toy fonts, under the name `toy.fonts`; the toy fonts; `cut.tfm`, which is none; and a source.
-pub fn files(alloc: Global, list: Option<&[u8]>, source: &[u8]) -> Result<FileList, AllocError> {
+fn add(rt: &impl Abort, files: &mut Vec<Held>, file: Held) {
+    files.push(file).expect(rt, "memory");
+}
+
+/// A list of fonts, or that of the toy fonts, under the name `toy.fonts`; the toy fonts; `cut.tfm`, which is none; and a
+/// source under the name `formula.tex`.
+pub fn files(rt: &impl Abort, alloc: Global, list: Option<&[u8]>, source: &[u8]) -> FileList {
     let mut files = Vec::new(alloc);
-    files.push(held(alloc, b"toy.fonts", list_of(alloc, list)?)?)?;
-    files.push(toy(alloc, b"toyr.tfm", Toy::Roman)?)?;
-    files.push(toy(alloc, b"toym.tfm", Toy::Italic)?)?;
-    files.push(toy(alloc, b"toys.tfm", Toy::Symbols)?)?;
-    files.push(toy(alloc, b"toyx.tfm", Toy::Extension)?)?;
-    files.push(held(alloc, b"cut.tfm", bytes_of(alloc, b"\0\x0f")?)?)?;
-    files.push(held(alloc, b"formula.tex", bytes_of(alloc, source)?)?)?;
-    Ok(FileList::from_vec(files))
+    add(rt, &mut files, font_list(rt, alloc, list));
+    add(rt, &mut files, toy(rt, alloc, b"toyr.tfm", Toy::Roman));
+    add(rt, &mut files, toy(rt, alloc, b"toym.tfm", Toy::Italic));
+    add(rt, &mut files, toy(rt, alloc, b"toys.tfm", Toy::Symbols));
+    add(rt, &mut files, toy(rt, alloc, b"toyx.tfm", Toy::Extension));
+    add(rt, &mut files, text(rt, alloc, b"cut.tfm", b"\0\x0f"));
+    add(rt, &mut files, text(rt, alloc, b"formula.tex", source));
+    FileList::from_vec(files)
 }
 
-/// Numbers of calls.
-pub fn calls(alloc: Global, numbers: &[u64]) -> Result<CallList, AllocError> {
-    Ok(CallList::from_vec(numbers.to_vec(alloc)?))
+/// The number of a call.
+pub fn call(rt: &impl Abort, alloc: Global, number: u64) -> CallList {
+    CallList::from_vec([number].to_vec(alloc).expect(rt, "memory"))
 }
 
-/// A sink in memory of which no call fails.
-pub fn sink(alloc: Global) -> Result<MemorySink, AllocError> {
-    MemorySink::new(alloc, 1000, calls(alloc, &[])?)
+/// A sink in memory of which one call fails, by its number from 1.
+pub fn sink(rt: &impl Abort, alloc: Global, fail: u64) -> MemorySink {
+    MemorySink::new(alloc, 1000, call(rt, alloc, fail)).expect(rt, "memory")
 }
 
-fn words_of(alloc: Global, text: &str) -> Result<Vec<String>, AllocError> {
+fn words_of(rt: &impl Abort, alloc: Global, texts: &[&str]) -> Vec<String> {
     let mut words = Vec::new(alloc);
-    for word in text.split_whitespace() {
-        words.push(String::from_str(alloc, word)?)?;
+    for text in texts {
+        words
+            .push(String::from_str(alloc, text).expect(rt, "memory"))
+            .expect(rt, "memory");
     }
-    Ok(words)
+    words
 }
 
 /// What a run with these words answers: the number of its status, and its line in the log.
 pub fn answer<C: Cabinet, K: Sink>(
+    rt: &impl Abort,
     alloc: Global,
-    text: &str,
+    words: &[&str],
     cabinet: &mut C,
     out: &mut K,
-) -> Result<(u8, Vec<u8>), AllocError> {
-    let words = words_of(alloc, text)?;
-    let mut log = sink(alloc)?;
-    let status: Status = run(alloc, &words, cabinet, out, &mut log);
-    Ok((status.code(), log.bytes().to_vec(alloc)?))
+) -> (u8, Vec<u8>) {
+    let words = words_of(rt, alloc, words);
+    let mut log = sink(rt, alloc, 0);
+    let status = run(alloc, &words, cabinet, out, &mut log);
+    (status.code(), copy(rt, alloc, log.bytes()))
 }
 
 /// How a run ended: the number of its status, its line in the log, and its output.
@@ -92,19 +108,22 @@ pub struct End {
     pub out: Vec<u8>,
 }
 
-/// A run of `set` with a list of fonts, or that of the toy fonts, and a source; a call of the cabinet fails, by its number.
+/// A run with these words, a list of fonts, or that of the toy fonts, and a source. A call of the cabinet fails, by its
+/// number from 1.
 pub fn end_of(
+    rt: &impl Abort,
     alloc: Global,
+    words: &[&str],
     list: Option<&[u8]>,
     source: &[u8],
     fail: u64,
-) -> Result<End, AllocError> {
-    let mut cabinet = MemoryCabinet::new(files(alloc, list, source)?, calls(alloc, &[fail])?);
-    let mut out = sink(alloc)?;
-    let (status, log) = answer(alloc, SET, &mut cabinet, &mut out)?;
-    Ok(End {
+) -> End {
+    let mut cabinet = MemoryCabinet::new(files(rt, alloc, list, source), call(rt, alloc, fail));
+    let mut out = sink(rt, alloc, 0);
+    let (status, log) = answer(rt, alloc, words, &mut cabinet, &mut out);
+    End {
         status,
         log,
-        out: out.bytes().to_vec(alloc)?,
-    })
+        out: copy(rt, alloc, out.bytes()),
+    }
 }
