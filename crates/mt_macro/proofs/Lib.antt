@@ -1,7 +1,14 @@
+-- indexes in a list whose first tokens are passed
 pub mod Indexes
+-- the first brace without partner, in one pass
 pub mod Unmatched
+-- macros by their names
 pub mod Named
+-- the first # that no parameter follows
 pub mod Hashes
+-- groups and arguments, taken a token at a time
 pub mod Taking
+-- how far a list is expanded
 pub mod Running
+-- expansions that are known
 mod Worked

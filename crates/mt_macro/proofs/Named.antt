@@ -19,7 +19,8 @@ use Rattle.mt_macro.specs.declared.table.Macro.{Macro}
 use Rattle.std.proofs.lemmas.Slice.Eq.{bytes_eq-Decides}
 use Rattle.std.proofs.lemmas.Bool.{true≢false}
 use Rattle.mt_macro.specs.Definition.{HasMacroAt}
-use Rattle.mt_macro.specs.Table.{Table, macro_of, with_macro, is_own, own_count, HasShortBody, IsKept}
+use Rattle.mt_macro.specs.Table.{Table, macro_of, with_macro, is_own, own_count}
+use Rattle.mt_macro.specs.inner.Kept.{HasShortBody, IsKept}
 
 own_found : (o : Option Macro) → ◌≡◌ {A = ℕ} (unwrap_or (option_map (λ (m : Macro). if m.own then 1 else 0) o) 0) (if is_own o then 1 else 0)
 own_found None = refl

@@ -6,7 +6,8 @@ use Rattle.std.proofs.lemmas.List.{append-nil}
 use Rattle.mt_token.specs.declared.token.Token.{Token}
 use Rattle.mt_macro.specs.Braces.{Taken, onto, group, level_after, is_close}
 use Rattle.mt_macro.proofs.Unmatched.{group_on}
-use Rattle.mt_macro.specs.Arguments.{argument, Takes, Arguments, arguments, with_argument, TakesAll}
+use Rattle.mt_macro.specs.Arguments.{argument, Arguments, arguments, with_argument}
+use Rattle.mt_macro.specs.inner.Taking.{Takes, TakesAll}
 
 abbrev pub onto_all : List Token → Option Taken → Option Taken
 onto_all done None = None

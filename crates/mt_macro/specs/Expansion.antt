@@ -1,5 +1,5 @@
 -- Expansion, a step at a time (The TeXbook, chapter 20).
-use Rattle.std.specs.Prelude.{◌≡◌, ℕ, zero, suc, ◌+◌, nat_lt, ◌<◌, ◌≤◌, List, [], ◌∷◌, ◌++◌, length, Option, Some, None, if◌then◌else◌, Result, Ok, Err}
+use Rattle.std.specs.Prelude.{◌≡◌, ℕ, zero, suc, ◌+◌, nat_lt, List, [], ◌∷◌, ◌++◌, length, Option, Some, None, if◌then◌else◌, Result, Ok, Err}
 use Rattle.mt_token.specs.declared.token.Token.{Token}
 use Rattle.mt_macro.specs.declared.table.Macro.{Macro}
 use Rattle.mt_macro.specs.Limits.{max_tokens, max_steps}
@@ -7,8 +7,6 @@ use Rattle.mt_macro.specs.Braces.{first_unmatched}
 use Rattle.mt_macro.specs.Table.{Table, macro_at}
 use Rattle.mt_macro.specs.declared.expansion.ExpandError.{ExpandError}
 use Rattle.mt_macro.specs.declared.expansion.ExpandError.TheVariants.{Budget, MissingArgument, Unbalanced, TooLong, OutOfMemory}
-use Rattle.mt_macro.specs.declared.expansion.Replacement.{Replacement}
-use Rattle.mt_macro.specs.declared.expansion.Replacement.TheVariants.{NoArgument as NoArgumentThere, TooLong as OverLength, Done as ReplacementDone}
 use Rattle.mt_macro.specs.Arguments.{Arguments, arguments, fill}
 
 -- what one step makes of a list
@@ -85,21 +83,3 @@ IsErrorOf OutOfMemory o = Unit {0}
 abbrev pub Expands : Result (List Token) ExpandError → Expansion → Type 0
 Expands (Ok list) o = o ≡ Expanded list
 Expands (Err e) o = IsErrorOf e o
-
--- a step makes the list n tokens long, more than max_tokens, where so many tokens stand before the macro
-pub record ExceedsBudget (passed n : ℕ) (s : MacroStep) : Type 0 where
-  pub list : List Token
-  pub is : s ≡ Next list
-  pub count : n ≡ passed + length list
-  pub over : max_tokens < n
-
--- a step leaves these tokens from the macro's index on, and the list has at most max_tokens tokens
-pub record FitsBudget (passed : ℕ) (s : MacroStep) (after : List Token) : Type 0 where
-  pub is : s ≡ Next after
-  pub room : passed + length after ≤ max_tokens
-
--- what became of a macro is what the step makes of it, where so many tokens stand before it
-abbrev pub Replaces : ℕ → Replacement → MacroStep → List Token → Type 0
-Replaces passed NoArgumentThere s after = s ≡ Missing 0
-Replaces passed (OverLength n) s after = ExceedsBudget passed n s
-Replaces passed ReplacementDone s after = FitsBudget passed s after

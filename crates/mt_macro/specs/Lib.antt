@@ -1,7 +1,16 @@
+-- how much a macro, a list and an expansion may be
 pub mod Limits
+-- braces and their partners
 pub mod Braces
+-- parameters in a body
 pub mod Parameters
+-- macros by their names
 pub mod Table
+-- what a definition makes of a table
 pub mod Definition
+-- the arguments of a macro, and its body with them in it
 pub mod Arguments
+-- what a list expands to
 pub mod Expansion
+-- of steps and lent tokens: only inner contracts cite it
+pub mod inner

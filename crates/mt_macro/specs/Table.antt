@@ -1,5 +1,5 @@
 -- Macros by their names: a finite map, as the list of its entries in the names' order.
-use Rattle.std.specs.Prelude.{◌≡◌, ℕ, ◌≤◌, ◌^◌, All, length, Bool, false, List, Option, Some, None, sum_by, if◌then◌else◌}
+use Rattle.std.specs.Prelude.{ℕ, Bool, false, List, Option, Some, None, sum_by, if◌then◌else◌}
 use Rattle.std.specs.Str.{bytes_eq}
 use Rattle.std.specs.Map.{lookup, values_of}
 use Rattle.std.specs.BTreeMap.{insert_entry}
@@ -37,12 +37,3 @@ is_own (Some m) = m.own
 -- how many names are the user's own
 abbrev pub own_count : Table → ℕ
 own_count table = sum_by (λ (m : Macro). if m.own then 1 else 0) (values_of table)
-
--- a body whose tokens can be counted
-abbrev pub HasShortBody : Macro → Type 0
-HasShortBody m = length m.body ≤ 2 ^ 32
-
--- what holds of the macros beside a count of the user's own names
-pub record IsKept (table : Table) (own_names : ℕ) : Type 0 where
-  pub counted : own_names ≡ own_count table
-  pub short : All HasShortBody (values_of table)

@@ -2,8 +2,8 @@
 ghost use Rattle.std.specs.Prelude.{◌≡◌, ◌<◌, ◌≤◌, ◌+◌, ◌^◌, ◌++◌, ◌∷◌, [], IfOk, IfSome, OnOk, length, All};
 ghost use Rattle.std.specs.Option.{option_map};
 ghost use Rattle.mt_macro.specs.Braces.{group};
-ghost use Rattle.mt_macro.specs.Arguments.{is_space, argument, arguments, Takes, TakesAll, IsShortArgument};
-ghost use Rattle.mt_macro.specs.Arguments.{tokens_behind, token_lists_behind};
+ghost use Rattle.mt_macro.specs.Arguments.{is_space, argument, arguments};
+ghost use Rattle.mt_macro.specs.inner.Taking.{Takes, TakesAll, IsShortArgument, tokens_behind, token_lists_behind};
 
 use crate::braces::{closes_none, is_close, is_open, level_after};
 use crate::inputs::Inputs;

@@ -2,9 +2,11 @@
 ghost use Rattle.std.specs.Prelude.{◌≡◌, ◌<◌, ◌≤◌, ◌+◌, IfOk, length, Err, None};
 ghost use Rattle.mt_macro.specs.Limits.{max_steps, max_tokens};
 ghost use Rattle.mt_macro.specs.Braces.{first_unmatched};
-ghost use Rattle.mt_macro.specs.Table.{HasShortBody};
-ghost use Rattle.mt_macro.specs.Arguments.{tokens_behind, arguments};
-ghost use Rattle.mt_macro.specs.Expansion.{run, expansion, Expands, Replaces, replacement};
+ghost use Rattle.mt_macro.specs.inner.Kept.{HasShortBody};
+ghost use Rattle.mt_macro.specs.inner.Taking.{tokens_behind};
+ghost use Rattle.mt_macro.specs.Arguments.{arguments};
+ghost use Rattle.mt_macro.specs.Expansion.{run, expansion, Expands, replacement};
+ghost use Rattle.mt_macro.specs.inner.Replacing.{Replaces};
 ghost use Rattle.mt_macro.specs.declared.expansion.ExpandError.TheVariants.{OutOfMemory};
 
 use crate::arguments::{Argument, push_token, take_arguments};

@@ -1,7 +1,8 @@
 //! A body with arguments in place of its parameters.
 ghost use Rattle.std.specs.Prelude.{◌≡◌, ◌<◌, ◌≤◌, ◌+◌, ◌-◌, ◌^◌, ◌++◌, [], IfOk, OnOk, length, All, get_or};
 ghost use Rattle.mt_token.specs.Character.{character_code};
-ghost use Rattle.mt_macro.specs.Arguments.{fill, tokens_behind, token_lists_behind, IsShortArgument};
+ghost use Rattle.mt_macro.specs.Arguments.{fill};
+ghost use Rattle.mt_macro.specs.inner.Taking.{tokens_behind, token_lists_behind, IsShortArgument};
 
 use crate::arguments::{Argument, push_token};
 use crate::braces::character;

@@ -3,7 +3,8 @@ ghost use Rattle.std.specs.Prelude.{◌≡◌, ◌≤◌, ◌^◌, ◌<◌, ◌+
 ghost use Rattle.std.specs.Prelude.{if◌then◌else◌, IfOk, IfSome, OnOk, OnErr};
 ghost use Rattle.std.specs.Option.{option_copied};
 ghost use Rattle.mt_macro.specs.Limits.{max_own_names};
-ghost use Rattle.mt_macro.specs.Table.{macro_of, macro_at, is_own, own_count, with_macro, HasShortBody};
+ghost use Rattle.mt_macro.specs.Table.{macro_of, macro_at, is_own, own_count, with_macro};
+ghost use Rattle.mt_macro.specs.inner.Kept.{HasShortBody};
 
 use mt_scaled::Name;
 use mt_token::{Token, TokenKind, TokenList};
@@ -35,8 +36,8 @@ pub struct Macros {
 
 impl Model for Macros {
     ghost use Rattle.std.specs.Prelude.{map};
-    ghost use Rattle.mt_macro.specs.Limits.{max_own_names};
-    ghost use Rattle.mt_macro.specs.Table.{Table, IsKept};
+    ghost use Rattle.mt_macro.specs.Table.{Table};
+    ghost use Rattle.mt_macro.specs.inner.Kept.{IsKept};
 
     ghost Value = { Table };
 

@@ -1,5 +1,5 @@
 use Rattle.std.proofs.Common.{◌≡◌, take}
-use Rattle.mt_macro.specs.Arguments.{tokens_behind}
+use Rattle.mt_macro.specs.inner.Taking.{tokens_behind}
 use Rattle.mt_macro.proofs.expansion.copy_tokens.Given as goal
 
 abbrev pub invariant-loop-token : goal.invariant-loop-token

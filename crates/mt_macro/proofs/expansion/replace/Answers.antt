@@ -1,5 +1,6 @@
 use Rattle.std.proofs.Common.{arith, ap, ◌≡◌, ◌∙◌, length, ◌++◌, ◌+◌}
-use Rattle.mt_macro.specs.Arguments.{tokens_behind, token_lists_behind, fill}
+use Rattle.mt_macro.specs.inner.Taking.{tokens_behind, token_lists_behind}
+use Rattle.mt_macro.specs.Arguments.{fill}
 use Rattle.mt_macro.proofs.Running.{fits_budget, exceeds_budget}
 use Rattle.mt_macro.proofs.expansion.replace.Goals as goal
 

@@ -1,6 +1,6 @@
 use Rattle.std.proofs.Common.{arith, ap, ◌≡◌, ◌-◌, ◌+◌, sym, ◌∙◌, length}
 use Rattle.mt_macro.specs.Limits.{max_steps}
-use Rattle.mt_macro.specs.Arguments.{tokens_behind}
+use Rattle.mt_macro.specs.inner.Taking.{tokens_behind}
 use Rattle.mt_macro.specs.Expansion.{NoArgument, Expanded}
 use Rattle.mt_macro.proofs.Running.{going_pass, going_last, going_missing, going_on, going_over, going_end, lent_length}
 use Rattle.mt_macro.proofs.expansion.run_steps.Goals as goal

@@ -1,5 +1,6 @@
 use Rattle.std.proofs.Common.{◌≡◌, ◌++◌, length}
-use Rattle.mt_macro.specs.Arguments.{fill, tokens_behind, token_lists_behind}
+use Rattle.mt_macro.specs.Arguments.{fill}
+use Rattle.mt_macro.specs.inner.Taking.{tokens_behind, token_lists_behind}
 use Rattle.mt_macro.proofs.filling.fill.Given as goal
 
 abbrev pub invariant-loop-rest : goal.invariant-loop-rest
