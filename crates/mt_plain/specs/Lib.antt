@@ -1,7 +1,14 @@
+-- the names with math codes, in the order of plain TeX
 pub mod MathNames
+-- the commands of formulas, by their names
 pub mod Commands
+-- what names mean in a formula, and a table in which they are searched
 pub mod Names
+-- the codes of characters
 pub mod Characters
+-- the codes of the characters, which assignments change
 pub mod CodeTables
+-- the macros of plain TeX, without parameters
 pub mod MacroTexts
+-- the macros that plain TeX's definitions make
 pub mod PlainMacros
