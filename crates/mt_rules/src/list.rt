@@ -119,11 +119,11 @@ impl Model for MathList {
 
     ghost Value = { Sequence };
 
-    ghost use Rattle.mt_rules.specs.nesting.Steps.{BuildStep, steps, sequence_from, sequence_from-steps};
+    ghost use Rattle.mt_rules.specs.nesting.Steps.{BuildStep, build_steps, sequence_from, sequence_from-steps};
     ghost use Rattle.std.specs.Prelude.{List};
     ghost use Rattle.std.specs.Coded.{codes, code_by, coded_list};
 
-    ghost coded = { code_by (List BuildStep) (coded_list (Prim.hlevel codes)) steps sequence_from sequence_from-steps };
+    ghost coded = { code_by (List BuildStep) (coded_list (Prim.hlevel codes)) build_steps sequence_from sequence_from-steps };
 
     ghost use Rattle.mt_rules.specs.View.{sequence_of};
     ghost use Rattle.mt_rules.specs.Facts.{IsMathList};
@@ -146,11 +146,11 @@ impl Model for RowList {
 
     ghost Value = { Rows };
 
-    ghost use Rattle.mt_rules.specs.nesting.Steps.{BuildStep, steps_of_rows, rows_from, rows_from-steps};
+    ghost use Rattle.mt_rules.specs.nesting.Steps.{BuildStep, build_steps_of_rows, rows_from, rows_from-steps};
     ghost use Rattle.std.specs.Prelude.{List};
     ghost use Rattle.std.specs.Coded.{codes, code_by, coded_list};
 
-    ghost coded = { code_by (List BuildStep) (coded_list (Prim.hlevel codes)) steps_of_rows rows_from rows_from-steps };
+    ghost coded = { code_by (List BuildStep) (coded_list (Prim.hlevel codes)) build_steps_of_rows rows_from rows_from-steps };
 
     ghost use Rattle.mt_rules.specs.Rows.{rows_of};
 

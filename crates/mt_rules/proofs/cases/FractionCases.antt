@@ -37,7 +37,7 @@ no_rule_gap : fraction odd D (pos 0) no_delim no_delim (layout (pos 20000) (pos 
 unfolding evaluated
 no_rule_gap = refl
 
--- t = -5: no rule is marked, its half is -2
+-- t = -5: no rule has a place, its half is -2
 negative_rule : fraction odd T (neg 5) no_delim no_delim (layout (pos 20000) (pos 30001) (pos 7001) (Glyph 0 97 (pos 0) (pos 0) ∷ [])) (layout (pos 9) (pos 5) (neg 3) (Glyph 0 98 (pos 0) (pos 0) ∷ [])) ≡ Ok (layout (pos 177286) (pos 45998) (pos 13001) (Glyph 0 97 (pos 78643) (neg 15997) ∷ Glyph 0 98 (pos 88639) (pos 13000) ∷ []))
 unfolding evaluated
 negative_rule = refl
@@ -47,7 +47,7 @@ negative_rule_display : fraction odd D (neg 5) no_delim no_delim (layout (pos 9)
 unfolding evaluated
 negative_rule_display = refl
 
--- both of negative width: the width stays negative, and the rule marks nothing
+-- both of negative width: the width stays negative, and the rule has no place
 negative_widths : fraction odd T (pos 3) no_delim no_delim (layout (neg 9) (pos 5) (pos 1) (Glyph 0 97 (pos 0) (pos 0) ∷ [])) (layout (neg 4) (pos 5) (pos 1) (Glyph 0 98 (pos 0) (pos 0) ∷ [])) ≡ Ok (layout (pos 157282) (pos 15006) (pos 13002) (Glyph 0 97 (pos 78646) (neg 15001) ∷ Glyph 0 98 (pos 78643) (pos 13000) ∷ []))
 unfolding evaluated
 negative_widths = refl

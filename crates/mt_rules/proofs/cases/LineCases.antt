@@ -13,7 +13,7 @@ over_letter : overline odd Text (layout (pos 20000) (pos 30001) (neg 4001) (Glyp
 unfolding evaluated
 over_letter = refl
 
--- a body of negative width: no rule is marked, the width is 0
+-- a body of negative width: no rule has a place, the width is 0
 over_narrow : overline odd Text (layout (neg 5) (pos 7) (pos 3) (Glyph 0 97 (pos 0) (pos 0) ∷ [])) ≡ Ok (layout (pos 0) (pos 7512) (pos 3) (Glyph 0 97 (pos 0) (pos 0) ∷ []))
 unfolding evaluated
 over_narrow = refl

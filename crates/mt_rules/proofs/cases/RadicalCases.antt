@@ -17,7 +17,7 @@ sign_display : radical odd D (delim 3 25 0 0) (layout (pos 20000) (pos 5001) (po
 unfolding evaluated
 sign_display = refl
 
--- an extensible sign: the rule of height 0 marks nothing
+-- an extensible sign: the rule of height 0 has no place
 sign_extensible : radical odd T (delim 3 1 0 0) (layout (pos 20000) (pos 40001) (pos 20001) (Glyph 0 97 (pos 0) (pos 0) ∷ [])) ≡ Ok (layout (pos 33078) (pos 44458) (pos 22581) (Glyph 7 3 (pos 0) (neg 44458) ∷ Glyph 7 5 (pos 0) (neg 35454) ∷ Glyph 7 5 (pos 0) (neg 31451) ∷ Glyph 7 5 (pos 0) (neg 27448) ∷ Glyph 7 5 (pos 0) (neg 23445) ∷ Glyph 7 5 (pos 0) (neg 19442) ∷ Glyph 7 5 (pos 0) (neg 15439) ∷ Glyph 7 5 (pos 0) (neg 11436) ∷ Glyph 7 5 (pos 0) (neg 7433) ∷ Glyph 7 5 (pos 0) (neg 3430) ∷ Glyph 7 5 (pos 0) (pos 573) ∷ Glyph 7 5 (pos 0) (pos 4576) ∷ Glyph 7 5 (pos 0) (pos 8579) ∷ Glyph 7 4 (pos 0) (pos 13580) ∷ Glyph 0 97 (pos 13078) (pos 0) ∷ []))
 unfolding evaluated
 sign_extensible = refl

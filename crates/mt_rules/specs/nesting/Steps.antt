@@ -127,20 +127,20 @@ abbrev pub top_rows : List Cell → Rows
 top_rows (RowsCell s ∷ st) = s
 top_rows _ = NoRows
 
-abbrev pub steps : Sequence → List BuildStep
-steps s = sequence_steps s []
+abbrev pub build_steps : Sequence → List BuildStep
+build_steps s = sequence_steps s []
 
 abbrev pub sequence_from : List BuildStep → Sequence
 sequence_from ws = top_sequence (rebuild ws [])
 
-pub sequence_from-steps : (s : Sequence) → sequence_from (steps s) ≡ s
+pub sequence_from-steps : (s : Sequence) → sequence_from (build_steps s) ≡ s
 sequence_from-steps s = ap top_sequence (rebuilt-sequence s [] [])
 
-abbrev pub steps_of_rows : Rows → List BuildStep
-steps_of_rows s = rows_steps s []
+abbrev pub build_steps_of_rows : Rows → List BuildStep
+build_steps_of_rows s = rows_steps s []
 
 abbrev pub rows_from : List BuildStep → Rows
 rows_from ws = top_rows (rebuild ws [])
 
-pub rows_from-steps : (s : Rows) → rows_from (steps_of_rows s) ≡ s
+pub rows_from-steps : (s : Rows) → rows_from (build_steps_of_rows s) ≡ s
 rows_from-steps s = ap top_rows (rebuilt-rows s [] [])
