@@ -15,7 +15,10 @@ use Rattle.mt_reader.specs.declared.role.Side.{Side}
 use Rattle.mt_reader.specs.declared.role.Side.TheVariants.{Up, Down}
 use Rattle.mt_reader.specs.Parts.{Read, Got, Fault, then_read, opening}
 use Rattle.mt_reader.specs.Atoms.{AtomValue, element_of_atom, hand_items, append, plain_atom, is_bare_ord, is_accent_kind, Filling, InSymbol, InGroup, nucleus_of, nucleus_of_atom, filling_part, group_atom, group_atom_of, with_script, with_limits, prime_items}
-use Rattle.mt_reader.specs.Lists.{Ending, ends_with_tokens, ends_at, stray_cause, FractionHead, fraction_list, Stretch, items_before, StretchReader, fraction_head, list_end, denominator, after_stretch_at, after_stretch, list_after, list, AtBrace}
+use Rattle.mt_reader.specs.declared.ending.Ending.{Ending}
+use Rattle.mt_reader.specs.declared.ending.Ending.TheVariants.{AtBrace}
+use Rattle.mt_reader.specs.declared.fraction.FractionHead.{FractionHead}
+use Rattle.mt_reader.specs.Lists.{ends_with_tokens, ends_at, stray_cause, fraction_list, Stretch, items_before, StretchReader, fraction_head, list_end, denominator, after_stretch_at, after_stretch, list_after, list}
 use Rattle.mt_reader.specs.Groups.{brace_group}
 use Rattle.mt_reader.specs.Counts.{list_items, element_items, part_items}
 use Rattle.mt_reader.proofs.Short.{Within, within_next, within_if, within_more, none, drop_short, opening_takes, fraction_head_short}

@@ -1,6 +1,6 @@
 -- Sizes above 2^31 - 1 count as 2^31 where only a smaller one has a meaning.
-use Rattle.std.proofs.Common.{◌≡◌, ℕ, zero, suc, ◌+◌, ◌*◌, ◌<◌, ◌≤◌, ◌⊎◌, Bool, true, false, nat_le, nat_lt, List, [], ◌∷◌, length, Option, Some, None, refl, sym, ◌∙◌, ap, subst, inl, inr, arith}
-use Rattle.std.specs.Prelude.{min, pos, if◌then◌else◌}
+use Rattle.std.proofs.Common.{◌≡◌, ℕ, ◌+◌, ◌*◌, ◌≤◌, Bool, true, false, nat_lt, List, [], ◌∷◌, length, Option, Some, None, refl, sym, ◌∙◌, ap, inl, inr, arith}
+use Rattle.std.specs.Prelude.{min, if◌then◌else◌}
 use Rattle.std.proofs.Math.Nat.{min-eq_left, min-eq_right, le-mul_of_pos_right}
 use Rattle.std.proofs.lemmas.Bool.{cases_lt}
 use Rattle.std.proofs.lemmas.Bool.Decides.{nat_tests}
@@ -8,7 +8,7 @@ use Rattle.mt_token.specs.declared.token.Token.{Token}
 use Rattle.mt_reader.specs.Parts.{Read, Got, Fault, then_read, after_spaces}
 use Rattle.mt_reader.specs.Numbers.{Whole, digit_of, at_digit, digits, signs, unsigned_number, in_bound, whole_number}
 use Rattle.mt_reader.specs.declared.decimals.Decimal.{Decimal}
-use Rattle.mt_reader.specs.Dimensions.{is_point, after_whole, decimals, with_decimals, factor, measure, dimension_of, dimension_from}
+use Rattle.mt_reader.specs.Dimensions.{is_point, after_whole, factor, measure, dimension_of, dimension_from}
 use Rattle.mt_scaled.specs.declared.unit.Units.{Units}
 use Rattle.mt_scaled.specs.declared.unit.Unit.{Unit as Measure}
 use Rattle.mt_reader.specs.CappedDecimals.{capped_decimal}

@@ -1,6 +1,6 @@
 -- What worked documents are written with.
 use Rattle.std.proofs.Common.{ℕ, zero, suc, Bool, true, false, List, [], ◌∷◌, Some, None}
-use Rattle.std.specs.Prelude.{replicate, codes}
+use Rattle.std.specs.Prelude.{replicate}
 use Rattle.mt_token.specs.declared.token.Token.{Token}
 use Rattle.mt_token.specs.Tokens.{source_tokens}
 use Rattle.mt_macro.specs.Table.{Table}

@@ -1,33 +1,36 @@
 -- A formula has at most four items for each of its tokens: groups, fields, primes, rows and items.
 use Rattle.std.proofs.Common.{◌≡◌, ℕ, zero, suc, ◌+◌, ◌*◌, ◌/◌, ◌≤◌, refl, Bool, true, false, List, [], ◌∷◌, length, Option, Some, None, arith}
-use Rattle.std.specs.Prelude.{ℤ, drop, ◌==◌, ◌&&◌, ◌||◌, ⊤, if◌then◌else◌}
+use Rattle.std.specs.Prelude.{ℤ, drop, ◌==◌, ◌&&◌, ⊤, if◌then◌else◌}
 use Rattle.mt_token.specs.declared.token.Token.{Token}
 use Rattle.mt_scaled.specs.declared.unit.Units.{Units}
 use Rattle.mt_macro.specs.Braces.{Taken, is_close, level_after, onto as onto_taken, group as group_taken}
 use Rattle.mt_rules.specs.declared.class.Class.TheVariants.{Ord, Inner}
 use Rattle.mt_rules.specs.declared.kind.Kind.{Kind}
-use Rattle.mt_rules.specs.declared.kind.Kind.TheVariants.{Plain, Radical, Accent, Vcenter}
+use Rattle.mt_rules.specs.declared.kind.Kind.TheVariants.{Plain, Vcenter}
 use Rattle.mt_rules.specs.declared.kind.Limits.{Limits as WhereLimits}
 use Rattle.mt_rules.specs.declared.symbol.Delim.{Delim}
 use Rattle.mt_rules.specs.declared.symbol.Glue.{Glue}
 use Rattle.mt_rules.specs.Sequence.{Sequence, Element, Part, Rows, End, More, ChoiceElement, ListPart, RowsPart, MoreRows, MuSpaceElement, SpaceElement, MuKernElement, KernElement, RightElement}
 use Rattle.mt_plain.specs.CodeTables.{CodeTables}
+use Rattle.mt_reader.specs.declared.role.NucleusKind.{NucleusKind}
+use Rattle.mt_reader.specs.declared.role.NucleusKind.TheVariants.{Radical, Accent}
 use Rattle.mt_reader.specs.declared.role.Role.{Role}
 use Rattle.mt_reader.specs.declared.role.Amount.{Amount}
 use Rattle.mt_reader.specs.declared.role.Side.{Side}
-use Rattle.mt_reader.specs.declared.role.Side.TheVariants.{Up, Down}
+use Rattle.mt_reader.specs.declared.role.Side.TheVariants.{Up}
 use Rattle.mt_reader.specs.declared.role.Amount.TheVariants.{MuSkip, MuKern, Skip, Kern as AmountKern}
-use Rattle.mt_reader.specs.declared.role.Role.TheVariants.{Blank, MathCode, CharWord, DelimiterWord, Prime, Script, OpenBrace, CloseBrace, Dollar, Stray, Nucleus, RadicalWord, AccentWord, VcenterWord, HboxWord, LeftWord, LimitsWord, ChoiceWord, AmountWord, ItemWord, FamilyWord, Unknown}
+use Rattle.mt_reader.specs.declared.role.Role.TheVariants.{Blank, MathCode, CharWord, DelimiterWord, Prime, Script, OpenBrace, CloseBrace, Nucleus, RadicalWord, AccentWord, VcenterWord, HboxWord, LeftWord, LimitsWord, ChoiceWord, AmountWord, ItemWord, FamilyWord, Unknown}
 use Rattle.mt_reader.specs.declared.role.Simple.{Simple}
-use Rattle.mt_reader.specs.declared.role.Simple.TheVariants.{Style, MuSpace, Nonscript}
-use Rattle.mt_reader.specs.Role.{role_of, simple_element, is_open_brace, is_left, is_math_shift, is_close_brace, is_superscript}
+use Rattle.mt_reader.specs.declared.role.Simple.TheVariants.{Style, MuSpace, Space, MuKern as SimpleMuKern, Kern as SimpleKern, Nonscript}
+use Rattle.mt_reader.specs.Role.{role_of, simple_element, nucleus_kind, is_open_brace, is_left, is_math_shift, is_close_brace, is_superscript}
 use Rattle.mt_reader.specs.Parts.{Read, Got, Fault, then_read, after_spaces, after_blanks, opening}
 use Rattle.mt_reader.specs.Numbers.{whole_number, math_code, delimiter_number}
 use Rattle.mt_reader.specs.Dimensions.{dimension, glue}
 use Rattle.mt_reader.specs.Symbols.{code_symbol, current_family, delim_of}
 use Rattle.mt_reader.specs.Delimiters.{delimiter}
 use Rattle.mt_reader.specs.Atoms.{AtomValue, hand_items, append, plain_atom, coded_atom, Filling, InSymbol, InGroup, filling_part, group_atom, nucleus_atom, with_script, with_limits, prime_atom, prime_items, is_free, is_op}
-use Rattle.mt_reader.specs.Lists.{StretchReader, list, AtEnd, AtRight, AtDollar}
+use Rattle.mt_reader.specs.declared.ending.Ending.TheVariants.{AtEnd, AtRight, AtDollar}
+use Rattle.mt_reader.specs.Lists.{StretchReader, list}
 use Rattle.mt_reader.specs.Groups.{between_boundaries, brace_group, left_right, choice}
 use Rattle.mt_reader.specs.Fields.{field, field_here, field_at}
 use Rattle.mt_reader.specs.Primes.{followed_by, primes, after_primes, braced_argument, argument_at, argument_after, prime_script_at, prime_script_of, prime_script}
@@ -67,6 +70,9 @@ nucleus_atom_count kind f = omega (arith, filling_part_count f)
 pub simple_size : (s : Simple) → element_items (simple_element s) ≡ 1
 simple_size (Style style) = refl
 simple_size (MuSpace glue) = refl
+simple_size (Space glue) = refl
+simple_size (SimpleMuKern amount) = refl
+simple_size (SimpleKern amount) = refl
 simple_size Nonscript = refl
 
 module _ (tables : CodeTables) where
@@ -243,10 +249,10 @@ module _ (tables : CodeTables) where
       pub put_item_within : (depth : ℕ) (family : Option ℕ) (hand : Option AtomValue) (item : Element) (rest : List Token) (c : ℕ) → hand_count hand + element_items item + 4 * length rest ≤ c → Within stretch_items c (put_item tables units again depth family hand item rest)
       put_item_within depth family hand item rest c h = items_before_within (append (hand_items hand) (More item End)) (4 * length rest + hand_count None) c (again depth family None rest) (bounded depth family None rest) (omega (arith, h, append_items (hand_items hand) (More item End)))
 
-      pub put_nucleus_within : (depth : ℕ) (family : Option ℕ) (hand : Option AtomValue) (kind : Kind) (rest : List Token) (c : ℕ) → hand_count hand + 4 * length rest ≤ c → Within stretch_items c (put_nucleus tables units again depth family hand kind rest)
+      pub put_nucleus_within : (depth : ℕ) (family : Option ℕ) (hand : Option AtomValue) (kind : NucleusKind) (rest : List Token) (c : ℕ) → hand_count hand + 4 * length rest ≤ c → Within stretch_items c (put_nucleus tables units again depth family hand kind rest)
       put_nucleus_within depth family hand kind rest c h =
-          within_next filling_four stretch_items (4 * length rest) c (field tables units again depth family rest) (λ (f : Filling) (after : List Token). put_atom tables units again depth family hand (nucleus_atom kind f) after) (field_within depth family rest)
-          (λ f after w. put_atom_within depth family hand (nucleus_atom kind f) after c (omega (arith, w, h, nucleus_atom_count kind f)))
+          within_next filling_four stretch_items (4 * length rest) c (field tables units again depth family rest) (λ (f : Filling) (after : List Token). put_atom tables units again depth family hand (nucleus_atom (nucleus_kind kind) f) after) (field_within depth family rest)
+          (λ f after w. put_atom_within depth family hand (nucleus_atom (nucleus_kind kind) f) after c (omega (arith, w, h, nucleus_atom_count (nucleus_kind kind) f)))
 
       pub put_script_within : (depth : ℕ) (family : Option ℕ) (hand : Option AtomValue) (side : Side) (part : Part) (rest : List Token) (c : ℕ) → hand_count hand + part_items part + 1 + 4 * length rest ≤ c → Within stretch_items c (put_script tables units again depth family hand side part rest)
       put_script_within depth family hand side part rest c h = within_more stretch_items (4 * length rest + hand_count (Some (with_script side part hand))) c (again depth family (Some (with_script side part hand)) rest) (omega (arith, h, script_count side part hand)) (bounded depth family (Some (with_script side part hand)) rest)

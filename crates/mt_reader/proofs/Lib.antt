@@ -1,18 +1,34 @@
+-- sizes above 2^31 - 1 count as 2^31
 mod Capping
+-- sequences, and what the items of an open list keep
+mod Inside
+-- what a turn leaves of open lists
+mod Standing
+-- a turn is the action of what stands in front
+mod Acting
+-- what becomes of a list where no item stands
+mod Stopping
+-- parts take tokens, and never give any back
 mod Short
+-- a formula has at most four items for each of its tokens: lists, and then all else
 mod Bounds
 mod ItemBounds
+-- what worked formulas are written with
 mod Writing
+-- worked formulas
 mod AtomCases
 mod GroupCases
 mod ScriptCases
 mod DelimiterCases
 mod SpaceCases
+-- formulas at fault
 mod NameFaults
 mod ScriptFaults
 mod FieldFaults
 mod NumberFaults
 mod DepthFaults
+-- what worked documents are written with
 mod DocumentWriting
+-- worked documents, and documents at fault
 mod DocumentCases
 mod DocumentFaults

@@ -1,5 +1,5 @@
 -- What worked cases are written with: a formula as a text, and what is read.
-use Rattle.std.proofs.Common.{ℕ, zero, suc, Bool, true, false, List, [], ◌∷◌, Option, Some, None, arith}
+use Rattle.std.proofs.Common.{ℕ, zero, suc, Bool, true, false, List, [], ◌∷◌, Some, None, arith}
 use Rattle.std.specs.Prelude.{ℤ, pos, neg_ℤ, ◌%◌, map, Ok, Err}
 use Rattle.std.proofs.lemmas.Nat.{mod_below}
 use Rattle.mt_token.specs.declared.token.Token.{Token}

@@ -10,7 +10,9 @@ use Rattle.mt_reader.specs.declared.role.Role.TheVariants.{NumberWord}
 use Rattle.mt_reader.specs.Role.{role_of}
 use Rattle.mt_reader.specs.Parts.{Read, Got, Fault, then_read}
 use Rattle.mt_reader.specs.Atoms.{AtomValue}
-use Rattle.mt_reader.specs.Lists.{StretchReader, Ending, AtEnd, AtNumber, list}
+use Rattle.mt_reader.specs.declared.ending.Ending.{Ending}
+use Rattle.mt_reader.specs.declared.ending.Ending.TheVariants.{AtEnd, AtNumber}
+use Rattle.mt_reader.specs.Lists.{StretchReader, list}
 use Rattle.mt_reader.specs.Items.{turn}
 
 -- the body of a formula, and what is set at its side as the number of a display

@@ -9,7 +9,8 @@ use Rattle.mt_reader.specs.Role.{is_open_brace, is_left}
 use Rattle.mt_reader.specs.Parts.{Read, Got, then_read, opening, after_spaces}
 use Rattle.mt_reader.specs.Delimiters.{delimiter}
 use Rattle.mt_reader.specs.Atoms.{append}
-use Rattle.mt_reader.specs.Lists.{StretchReader, AtBrace, AtRight, list}
+use Rattle.mt_reader.specs.declared.ending.Ending.TheVariants.{AtBrace, AtRight}
+use Rattle.mt_reader.specs.Lists.{StretchReader, list}
 
 abbrev pub between_boundaries : Delim → Sequence → Delim → Sequence
 between_boundaries left inner right = More (LeftElement left) (append inner (More (RightElement right) End))

@@ -3,19 +3,20 @@ use Rattle.std.specs.Prelude.{ℕ, ◌+◌, ◌/◌, ℤ, Bool, true, false, Lis
 use Rattle.mt_token.specs.declared.token.Token.{Token}
 use Rattle.mt_scaled.specs.declared.unit.Units.{Units}
 use Rattle.mt_rules.specs.declared.class.Class.TheVariants.{Inner}
-use Rattle.mt_rules.specs.declared.kind.Kind.{Kind}
-use Rattle.mt_rules.specs.declared.kind.Kind.TheVariants.{Plain, Radical, Accent, Vcenter}
+use Rattle.mt_rules.specs.declared.kind.Kind.TheVariants.{Plain, Vcenter}
 use Rattle.mt_rules.specs.declared.kind.Limits.{Limits as WhereLimits}
 use Rattle.mt_rules.specs.declared.symbol.Glue.{Glue}
 use Rattle.mt_rules.specs.Sequence.{Sequence, Element, Part, Rows, End, More, ListPart, RowsPart, MuSpaceElement, SpaceElement, MuKernElement, KernElement}
 use Rattle.mt_plain.specs.CodeTables.{CodeTables}
+use Rattle.mt_reader.specs.declared.role.NucleusKind.{NucleusKind}
+use Rattle.mt_reader.specs.declared.role.NucleusKind.TheVariants.{Radical, Accent}
 use Rattle.mt_reader.specs.declared.role.Role.{Role}
 use Rattle.mt_reader.specs.declared.role.Amount.{Amount}
 use Rattle.mt_reader.specs.declared.role.Side.{Side}
-use Rattle.mt_reader.specs.declared.role.Side.TheVariants.{Up, Down}
+use Rattle.mt_reader.specs.declared.role.Side.TheVariants.{Up}
 use Rattle.mt_reader.specs.declared.role.Amount.TheVariants.{MuSkip, MuKern, Skip, Kern as AmountKern}
 use Rattle.mt_reader.specs.declared.role.Role.TheVariants.{Blank, MathCode, CharWord, DelimiterWord, Prime, Script, OpenBrace, Nucleus, RadicalWord, AccentWord, VcenterWord, HboxWord, LeftWord, LimitsWord, ChoiceWord, AmountWord, ItemWord, FamilyWord, Unknown}
-use Rattle.mt_reader.specs.Role.{role_of, simple_element}
+use Rattle.mt_reader.specs.Role.{role_of, simple_element, nucleus_kind}
 use Rattle.mt_reader.specs.Parts.{Read, Got, Fault, then_read}
 use Rattle.mt_reader.specs.Numbers.{whole_number, math_code, delimiter_number}
 use Rattle.mt_reader.specs.Dimensions.{dimension, glue}
@@ -50,10 +51,10 @@ module _ (tables : CodeTables) (units : Units) where
         items_before (append (hand_items hand) (More item End)) (again depth family None rest)
 
     -- a field, as the nucleus of an atom of this kind
-    abbrev pub put_nucleus : ℕ → Option ℕ → Option AtomValue → Kind → List Token → Read Stretch
+    abbrev pub put_nucleus : ℕ → Option ℕ → Option AtomValue → NucleusKind → List Token → Read Stretch
     put_nucleus depth family hand kind rest =
         then_read (field tables units again depth family rest)
-        (λ (f : Filling) (after : List Token). put_atom depth family hand (nucleus_atom kind f) after)
+        (λ (f : Filling) (after : List Token). put_atom depth family hand (nucleus_atom (nucleus_kind kind) f) after)
 
     -- a script of the atom at hand, or of a new one
     abbrev pub put_script : ℕ → Option ℕ → Option AtomValue → Side → Part → List Token → Read Stretch

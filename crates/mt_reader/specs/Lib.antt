@@ -1,18 +1,38 @@
+-- what a token is in a formula
 pub mod Role
+-- what the reading of a part answers
 pub mod Parts
+-- numbers
 pub mod Numbers
+-- what readers of parts answer
 pub mod Meets
+-- dimensions and glue
 pub mod Dimensions
+-- decimal numbers of which the whole part is capped
 pub mod CappedDecimals
+-- what math codes and delimiter codes stand for
 pub mod Symbols
+-- delimiters
 pub mod Delimiters
+-- atoms and their scripts
 pub mod Atoms
+-- lists, and the fractions that divide them
 pub mod Lists
+-- lists between braces and between delimiters
 pub mod Groups
+-- fields
 pub mod Fields
+-- primes
 pub mod Primes
+-- the rows of a vcenter atom
 pub mod Rows
+-- items
 pub mod Items
+-- the reading of a formula
 pub mod Formulas
+-- how many items a list has
 pub mod Counts
+-- documents
 pub mod documents
+-- of the lists that the code keeps open: only inner contracts cite it
+pub mod machine

@@ -9,20 +9,15 @@ use Rattle.mt_reader.specs.declared.role.Role.{Role}
 use Rattle.mt_reader.specs.declared.role.Bar.{Bar}
 use Rattle.mt_reader.specs.declared.role.Bar.TheVariants.{Own as OwnBar, None as NoBar, Given as GivenBar}
 use Rattle.mt_reader.specs.declared.role.Role.TheVariants.{CloseBrace, RightWord, Dollar, NumberWord, FractionWord}
+use Rattle.mt_reader.specs.declared.ending.Ending.{Ending}
+use Rattle.mt_reader.specs.declared.ending.Ending.TheVariants.{AtEnd, AtNumber, AtBrace, AtRight, AtDollar}
+use Rattle.mt_reader.specs.declared.fraction.FractionHead.{FractionHead}
 use Rattle.mt_reader.specs.Role.{role_of}
 use Rattle.mt_reader.specs.Parts.{Read, Got, Fault, then_read}
 use Rattle.mt_reader.specs.Dimensions.{dimension}
 use Rattle.mt_reader.specs.Symbols.{null_delim}
 use Rattle.mt_reader.specs.Delimiters.{delimiter}
 use Rattle.mt_reader.specs.Atoms.{AtomValue, append}
-
--- where a list ends: with the tokens; there, or at \eqno or \leqno; at }; at \right; at $
-pub data Ending : Type 0 where
-  AtEnd : Ending
-  AtNumber : Ending
-  AtBrace : Ending
-  AtRight : Ending
-  AtDollar : Ending
 
 abbrev pub ends_with_tokens : Ending → Bool
 ends_with_tokens AtEnd = true
@@ -42,12 +37,6 @@ stray_cause (FractionWord delims bar) = 3
 stray_cause (NumberWord left) = 10
 stray_cause _ = 5
 
--- a fraction of which the denominator is still to come
-pub record FractionHead : Type 0 where
-  pub thickness : Option ℤ
-  pub left : Delim
-  pub right : Delim
-
 abbrev pub fraction_list : FractionHead → Sequence → Sequence → Sequence
 fraction_list f num den = More (FractionElement f.thickness f.left f.right num den) End
 
@@ -65,7 +54,7 @@ items_before items (Fault cause left) = Fault cause left
 abbrev pub StretchReader : Type 0
 StretchReader = ℕ → Option ℕ → Option AtomValue → List Token → Read Stretch
 
-module _ (tables : CodeTables) (units : Units) where
+module _ (units : Units) where
   abbrev pub bar_thickness : Bar → List Token → Read (Option ℤ)
   bar_thickness OwnBar tokens = Got None tokens
   bar_thickness NoBar tokens = Got (Some (pos 0)) tokens
@@ -77,12 +66,13 @@ module _ (tables : CodeTables) (units : Units) where
       then_read (bar_thickness bar tokens)
       (λ (thickness : Option ℤ) (rest : List Token). Got (record { thickness = thickness; left = left; right = right }) rest)
 
+module _ (tables : CodeTables) (units : Units) where
   -- what follows a fraction word: two delimiters, a thickness, both or neither
   abbrev pub fraction_head : Bool → Bar → List Token → Read FractionHead
-  fraction_head false bar tokens = with_bar bar null_delim null_delim tokens
+  fraction_head false bar tokens = with_bar units bar null_delim null_delim tokens
   fraction_head true bar tokens =
       then_read (delimiter tables tokens) (λ (left : Delim) (after : List Token).
-      then_read (delimiter tables after) (λ (right : Delim) (rest : List Token). with_bar bar left right rest))
+      then_read (delimiter tables after) (λ (right : Delim) (rest : List Token). with_bar units bar left right rest))
 
   -- the list, if it ends here; the token that ends it is left
   abbrev pub list_end : Ending → Sequence → List Token → Read Sequence

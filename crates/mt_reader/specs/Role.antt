@@ -2,31 +2,45 @@
 use Rattle.std.specs.Prelude.{ℕ, ℤ, pos, negsuc, Bool, true, false, ◌==◌, ◌||◌, Option, Some, None, if◌then◌else◌}
 use Rattle.mt_token.specs.declared.token.Token.{Token}
 use Rattle.mt_token.specs.declared.token.TokenKind.{TokenKind}
-use Rattle.mt_token.specs.declared.token.TokenKind.TheVariants.{Control, Char, Space}
+use Rattle.mt_token.specs.declared.token.TokenKind.TheVariants.{Control, Char, Space as SpaceKind}
 use Rattle.mt_rules.specs.declared.class.Class.TheVariants.{Ord, Op, Bin, Rel, Open, Close, Punct, Inner}
-use Rattle.mt_rules.specs.declared.kind.Kind.TheVariants.{Plain, Over as OverKind, Under as UnderKind}
+use Rattle.mt_rules.specs.declared.kind.Kind.{Kind}
+use Rattle.mt_rules.specs.declared.kind.Kind.TheVariants.{Plain, Radical as RadicalKind, Accent as AccentKind, Over as OverKind, Under as UnderKind}
 use Rattle.mt_rules.specs.declared.kind.Limits.TheVariants.{Default, Always, Never}
 use Rattle.mt_rules.specs.declared.style.Style.TheVariants.{D, T, S, Ss}
-use Rattle.mt_rules.specs.Sequence.{Element, StyleElement, MuSpaceElement, NonscriptElement}
+use Rattle.mt_rules.specs.Sequence.{Element, StyleElement, MuSpaceElement, SpaceElement, MuKernElement, KernElement, NonscriptElement}
 use Rattle.mt_plain.specs.declared.meaning.Command.{Command}
-use Rattle.mt_plain.specs.declared.meaning.Command.TheVariants.{Relax, MathChar, Delimiter, MathOrd, MathOp, MathBin, MathRel, MathOpen, MathClose, MathPunct, MathInner, Overline, Underline, Radical, MathAccent, Vcenter, Hbox, Left, Right, Limits, NoLimits, DisplayLimits, Over, Atop, Above, OverWithDelims, AtopWithDelims, AboveWithDelims, DisplayStyle, TextStyle, ScriptStyle, ScriptScriptStyle, MathChoice, MSkip, MKern, HSkip, Kern, NonScript, Thin, Medium, Thick, NegativeThin, Fam, EqNo, LeqNo}
+use Rattle.mt_plain.specs.declared.meaning.Command.TheVariants.{Relax, MathChar, Delimiter, MathOrd, MathOp, MathBin, MathRel, MathOpen, MathClose, MathPunct, MathInner, Overline, Underline, Radical, MathAccent, Vcenter, Hbox, Left, Right, Limits, NoLimits, DisplayLimits, Over, Atop, Above, OverWithDelims, AtopWithDelims, AboveWithDelims, DisplayStyle, TextStyle, ScriptStyle, ScriptScriptStyle, MathChoice, MSkip, MKern, HSkip, Kern as KernCommand, NonScript, Thin, Medium, Thick, NegativeThin, Fam, EqNo, LeqNo}
 use Rattle.mt_plain.specs.declared.meaning.Meaning.{Meaning}
 use Rattle.mt_plain.specs.declared.meaning.Meaning.TheVariants.{MathChar as CodeMeaning, Command as CommandMeaning}
 use Rattle.mt_plain.specs.CodeTables.{CodeTables, math_code_of}
 use Rattle.mt_plain.specs.Names.{control}
 use Rattle.mt_reader.specs.declared.role.Side.TheVariants.{Up, Down}
 use Rattle.mt_reader.specs.declared.role.Bar.TheVariants.{Own as OwnBar, None as NoBar, Given as GivenBar}
-use Rattle.mt_reader.specs.declared.role.Amount.TheVariants.{MuSkip, MuKern, Skip, Kern as AmountKern}
+use Rattle.mt_reader.specs.declared.role.Amount.TheVariants.{MuSkip, MuKern as AmountMuKern, Skip, Kern as AmountKern}
+use Rattle.mt_reader.specs.declared.role.NucleusKind.{NucleusKind}
+use Rattle.mt_reader.specs.declared.role.NucleusKind.TheVariants.{Class, Radical as RadicalNucleus, Accent as AccentNucleus, Over as OverNucleus, Under as UnderNucleus}
 use Rattle.mt_reader.specs.declared.role.Simple.{Simple}
-use Rattle.mt_reader.specs.declared.role.Simple.TheVariants.{Style, MuSpace, Nonscript}
+use Rattle.mt_reader.specs.declared.role.Simple.TheVariants.{Style, MuSpace, Space, MuKern, Kern, Nonscript}
 use Rattle.mt_reader.specs.declared.role.Role.{Role}
 use Rattle.mt_reader.specs.declared.role.Role.TheVariants.{Blank, MathCode, CharWord, DelimiterWord, Prime, Script, OpenBrace, CloseBrace, Dollar, Stray, Nucleus, RadicalWord, AccentWord, VcenterWord, HboxWord, LeftWord, RightWord, LimitsWord, FractionWord, ChoiceWord, AmountWord, ItemWord, FamilyWord, NumberWord, Unknown}
 
--- the item that a word is
+-- the item
 abbrev pub simple_element : Simple → Element
 simple_element (Style style) = StyleElement style
 simple_element (MuSpace glue) = MuSpaceElement glue
+simple_element (Space glue) = SpaceElement glue
+simple_element (MuKern amount) = MuKernElement amount
+simple_element (Kern amount) = KernElement amount
 simple_element Nonscript = NonscriptElement
+
+-- the kind of an atom with such a nucleus
+abbrev pub nucleus_kind : NucleusKind → Kind
+nucleus_kind (Class class) = Plain class
+nucleus_kind (RadicalNucleus delim) = RadicalKind delim
+nucleus_kind (AccentNucleus symbol) = AccentKind symbol
+nucleus_kind OverNucleus = OverKind
+nucleus_kind UnderNucleus = UnderKind
 
 -- a space of so many math units, as 65536ths, that shrinks by so many
 abbrev pub mu_space : ℤ → ℤ → Role
@@ -36,16 +50,16 @@ abbrev pub command_role : Command → Role
 command_role Relax = Blank
 command_role MathChar = CharWord
 command_role Delimiter = DelimiterWord
-command_role MathOrd = Nucleus (Plain Ord)
-command_role MathOp = Nucleus (Plain Op)
-command_role MathBin = Nucleus (Plain Bin)
-command_role MathRel = Nucleus (Plain Rel)
-command_role MathOpen = Nucleus (Plain Open)
-command_role MathClose = Nucleus (Plain Close)
-command_role MathPunct = Nucleus (Plain Punct)
-command_role MathInner = Nucleus (Plain Inner)
-command_role Overline = Nucleus OverKind
-command_role Underline = Nucleus UnderKind
+command_role MathOrd = Nucleus (Class Ord)
+command_role MathOp = Nucleus (Class Op)
+command_role MathBin = Nucleus (Class Bin)
+command_role MathRel = Nucleus (Class Rel)
+command_role MathOpen = Nucleus (Class Open)
+command_role MathClose = Nucleus (Class Close)
+command_role MathPunct = Nucleus (Class Punct)
+command_role MathInner = Nucleus (Class Inner)
+command_role Overline = Nucleus OverNucleus
+command_role Underline = Nucleus UnderNucleus
 command_role Radical = RadicalWord
 command_role MathAccent = AccentWord
 command_role Vcenter = VcenterWord
@@ -67,9 +81,9 @@ command_role ScriptStyle = ItemWord (Style S)
 command_role ScriptScriptStyle = ItemWord (Style Ss)
 command_role MathChoice = ChoiceWord
 command_role MSkip = AmountWord MuSkip
-command_role MKern = AmountWord MuKern
+command_role MKern = AmountWord AmountMuKern
 command_role HSkip = AmountWord Skip
-command_role Kern = AmountWord AmountKern
+command_role KernCommand = AmountWord AmountKern
 command_role NonScript = ItemWord Nonscript
 command_role Thin = mu_space (pos 196608) (pos 0)
 command_role Medium = mu_space (pos 262144) (pos 262144)
@@ -102,7 +116,7 @@ character_role tables c =
 abbrev pub kind_role : CodeTables → TokenKind → Role
 kind_role tables (Control name) = meaning_role (control name)
 kind_role tables (Char c) = character_role tables c
-kind_role tables Space = Blank
+kind_role tables SpaceKind = Blank
 
 abbrev pub role_of : CodeTables → Token → Role
 role_of tables t = kind_role tables t.kind

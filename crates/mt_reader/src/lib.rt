@@ -1,14 +1,31 @@
 //! The grammar of formulas: tokens are read into math lists (The TeXbook, chapters 17, 18 and 26).
 #![tactic(auto)]
 
+mod action;
 mod decimals;
 mod delimiters;
 mod dimensions;
+mod ending;
+mod fraction;
+mod frame;
+mod frames;
+mod hand;
+mod hands;
+mod inner_items;
+mod items;
+mod lists;
+mod nuclei;
 mod numbers;
+mod open_list;
 mod part;
+mod resume;
 mod role;
 mod spaces;
+mod stops;
 mod symbols;
 mod units;
 
-pub use role::{Amount, Bar, Role, Side, Simple, role_of};
+pub use role::{Amount, Bar, NucleusKind, Role, Side, Simple, role_of};
+
+#[cfg(test)]
+mod tests;

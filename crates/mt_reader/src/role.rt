@@ -3,7 +3,7 @@ ghost use Rattle.std.specs.Prelude.{◌≡◌, ◌<◌};
 ghost use Rattle.mt_reader.specs.Role.{role_of, command_role, meaning_role, code_role, character_role, mu_space};
 
 use mt_plain::{Codes, Command, Meaning};
-use mt_rules::{Class, Glue, Kind, Limits, Style};
+use mt_rules::{Class, Delim, Glue, Limits, Style, Symbol};
 use mt_token::{Token, TokenKind};
 
 /// A side of an atom on which a script stands.
@@ -39,15 +39,36 @@ pub enum Amount {
     Kern,
 }
 
-/// An item that is a word by itself.
+/// An item without lists.
 #[derive(Clone, Copy, Debug, PartialEq, Eq)]
 pub enum Simple {
     /// A style.
     Style(Style),
     /// A space in math units.
     MuSpace(Glue),
+    /// A space.
+    Space(Glue),
+    /// A kern in math units.
+    MuKern(i64),
+    /// A kern.
+    Kern(i64),
     /// `\nonscript`
     Nonscript,
+}
+
+/// The kind of an atom that takes a field as its nucleus.
+#[derive(Clone, Copy, Debug, PartialEq, Eq)]
+pub enum NucleusKind {
+    /// The nucleus alone, as an atom of this class.
+    Class(Class),
+    /// Under a radical sign.
+    Radical(Delim),
+    /// Under an accent.
+    Accent(Symbol),
+    /// Under a rule.
+    Over,
+    /// Over a rule.
+    Under,
 }
 
 /// What a token is in a formula. Words that are treated alike are one variant.
@@ -74,7 +95,7 @@ pub enum Role {
     /// `&` or `#`.
     Stray,
     /// A word that takes a field as the nucleus of an atom of this kind.
-    Nucleus(Kind),
+    Nucleus(NucleusKind),
     /// `\radical`
     RadicalWord,
     /// `\mathaccent`
@@ -118,16 +139,16 @@ fn command_role(command: Command) -> Role
         Command::Relax => Role::Blank,
         Command::MathChar => Role::CharWord,
         Command::Delimiter => Role::DelimiterWord,
-        Command::MathOrd => Role::Nucleus(Kind::Plain(Class::Ord)),
-        Command::MathOp => Role::Nucleus(Kind::Plain(Class::Op)),
-        Command::MathBin => Role::Nucleus(Kind::Plain(Class::Bin)),
-        Command::MathRel => Role::Nucleus(Kind::Plain(Class::Rel)),
-        Command::MathOpen => Role::Nucleus(Kind::Plain(Class::Open)),
-        Command::MathClose => Role::Nucleus(Kind::Plain(Class::Close)),
-        Command::MathPunct => Role::Nucleus(Kind::Plain(Class::Punct)),
-        Command::MathInner => Role::Nucleus(Kind::Plain(Class::Inner)),
-        Command::Overline => Role::Nucleus(Kind::Over),
-        Command::Underline => Role::Nucleus(Kind::Under),
+        Command::MathOrd => Role::Nucleus(NucleusKind::Class(Class::Ord)),
+        Command::MathOp => Role::Nucleus(NucleusKind::Class(Class::Op)),
+        Command::MathBin => Role::Nucleus(NucleusKind::Class(Class::Bin)),
+        Command::MathRel => Role::Nucleus(NucleusKind::Class(Class::Rel)),
+        Command::MathOpen => Role::Nucleus(NucleusKind::Class(Class::Open)),
+        Command::MathClose => Role::Nucleus(NucleusKind::Class(Class::Close)),
+        Command::MathPunct => Role::Nucleus(NucleusKind::Class(Class::Punct)),
+        Command::MathInner => Role::Nucleus(NucleusKind::Class(Class::Inner)),
+        Command::Overline => Role::Nucleus(NucleusKind::Over),
+        Command::Underline => Role::Nucleus(NucleusKind::Under),
         Command::Radical => Role::RadicalWord,
         Command::MathAccent => Role::AccentWord,
         Command::Vcenter => Role::VcenterWord,

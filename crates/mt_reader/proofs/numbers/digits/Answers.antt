@@ -1,5 +1,4 @@
-use Rattle.std.proofs.Common.{ap, ◌∙◌, ℕ, List}
-use Rattle.mt_token.specs.declared.token.Token.{Token}
+use Rattle.std.proofs.Common.{ap, ◌∙◌}
 use Rattle.mt_reader.specs.Numbers.{Whole}
 use Rattle.mt_reader.proofs.Capping.{digits_capped}
 use Rattle.mt_reader.proofs.numbers.digits.Goals as goal

@@ -1,0 +1,18 @@
+-- what the items of an open list keep
+pub mod Facts
+-- open lists, and what becomes of them
+pub mod OpenLists
+-- what a list is read for
+pub mod Frames
+-- how far a formula is read
+pub mod Stands
+-- words that are treated together
+pub mod Words
+-- what a token does in a list
+pub mod Actions
+-- actions that read no list
+pub mod Puts
+-- what becomes of a list where no item stands
+pub mod Stops
+-- what a list that is read makes of the list in which it stands
+pub mod Resumes

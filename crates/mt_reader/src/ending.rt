@@ -1,0 +1,53 @@
+//! Where a list ends.
+ghost use Rattle.std.specs.Prelude.{◌≡◌};
+ghost use Rattle.mt_reader.specs.Lists.{ends_with_tokens, ends_at, stray_cause};
+ghost use Rattle.mt_reader.specs.Meets.{cause_number};
+
+use crate::part::Cause;
+use crate::role::Role;
+
+/// Where a list ends.
+#[derive(Clone, Copy, Debug, PartialEq, Eq)]
+pub enum Ending {
+    /// With the tokens.
+    AtEnd,
+    /// With the tokens, or at `\eqno` or `\leqno`.
+    AtNumber,
+    /// At `}`.
+    AtBrace,
+    /// At `\right`.
+    AtRight,
+    /// At `$`.
+    AtDollar,
+}
+
+/// Whether a list ends with the tokens.
+pub fn ends_with_tokens(ending: Ending) -> bool
+    ensures { result ≡ ends_with_tokens ending }
+{
+    matches!(ending, Ending::AtEnd | Ending::AtNumber)
+}
+
+/// Whether a list ends at a token of this role.
+pub fn ends_at(ending: Ending, role: Role) -> bool
+    ensures { result ≡ ends_at ending role }
+{
+    match ending {
+        Ending::AtEnd => false,
+        Ending::AtNumber => matches!(role, Role::NumberWord(_)),
+        Ending::AtBrace => matches!(role, Role::CloseBrace),
+        Ending::AtRight => matches!(role, Role::RightWord),
+        Ending::AtDollar => matches!(role, Role::Dollar),
+    }
+}
+
+/// The cause of a fault at a token of this role, which is no item and does not end the list.
+pub fn stray_cause(role: Role) -> Cause
+    ensures { cause_number result ≡ stray_cause role }
+{
+    match role {
+        Role::FractionWord(_, _) => Cause::TwoFractions,
+        Role::NumberWord(_) => Cause::MisplacedNumber,
+        _ => Cause::Unbalanced,
+    }
+}

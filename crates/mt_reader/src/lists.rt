@@ -1,0 +1,237 @@
+//! What becomes of a list that is open.
+ghost use Rattle.std.specs.Prelude.{◌≡◌, IfOk, Some, None, true, false};
+ghost use Rattle.mt_rules.specs.Sequence.{End, More, FractionElement};
+ghost use Rattle.mt_reader.specs.Role.{simple_element};
+ghost use Rattle.mt_rules.specs.View.{element_of, part_of_field};
+ghost use Rattle.mt_reader.specs.Atoms.{append, hand_items, with_script, with_limits};
+ghost use Rattle.mt_reader.specs.machine.Facts.{stands_inside, holds_rows};
+ghost use Rattle.mt_reader.specs.machine.OpenLists.{inner_sequence, items_of, hand_value, hand_of, numerator_of, finished_items, Begins, Becomes, Divides};
+ghost use Rattle.mt_reader.specs.machine.Puts.{is_plain_action, Puts};
+
+use crate::action::Action;
+use crate::ending::Ending;
+use crate::fraction::FractionHead;
+use crate::hand::Hand;
+use crate::hands::{plain_hand, with_limits, with_script};
+use crate::inner_items::InnerItems;
+use crate::items::{into_list, no_items, with_hand, with_item};
+use crate::open_list::{Numerator, OpenList};
+use crate::role::{Side, Simple};
+use mt_rules::{Field, Fraction, Item, Limits, MathList};
+use std::alloc::{AllocError, Global};
+
+/// A list that begins.
+pub fn new_list(alloc: Global, depth: usize, family: Option<u8>, ending: Ending) -> OpenList
+    ensures { Begins End None depth family ending result }
+{
+    OpenList {
+        items: no_items(alloc),
+        hand: None,
+        depth,
+        family,
+        ending,
+        numerator: None,
+    }
+}
+
+/// The list with a new atom at hand; the one before is closed.
+pub fn put_hand(alloc: Global, list: OpenList, atom: Hand) -> Result<OpenList, AllocError>
+    ensures { IfOk result (λ new. Becomes (hand_items (hand_of list.hand)) (Some (hand_value atom)) list.family list new) }
+{
+    let OpenList {
+        items,
+        hand,
+        depth,
+        family,
+        ending,
+        numerator,
+    } = list;
+    Ok(OpenList {
+        items: with_hand(alloc, items, hand)?,
+        hand: Some(atom),
+        depth,
+        family,
+        ending,
+        numerator,
+    })
+}
+
+/// The list with another item, after the atom at hand.
+pub fn put_item(alloc: Global, list: OpenList, item: Item) -> Result<OpenList, AllocError>
+    requires { stands_inside (element_of item) ≡ true }
+    ensures { IfOk result (λ new. Becomes (append (hand_items (hand_of list.hand)) (More (element_of item) End)) None list.family list new) }
+{
+    let OpenList {
+        items,
+        hand,
+        depth,
+        family,
+        ending,
+        numerator,
+    } = list;
+    let items = with_hand(alloc, items, hand)?;
+    Ok(OpenList {
+        items: with_item(items, item)?,
+        hand: None,
+        depth,
+        family,
+        ending,
+        numerator,
+    })
+}
+
+/// The list with a script at its atom at hand, or at a new one.
+pub fn put_script(list: OpenList, side: Side, part: Field) -> OpenList
+    requires { holds_rows (part_of_field part) ≡ false }
+    ensures { Becomes End (Some (with_script side (part_of_field part) (hand_of list.hand))) list.family list result }
+{
+    let OpenList {
+        items,
+        hand,
+        depth,
+        family,
+        ending,
+        numerator,
+    } = list;
+    OpenList {
+        items,
+        hand: Some(with_script(side, part, hand)),
+        depth,
+        family,
+        ending,
+        numerator,
+    }
+}
+
+/// The list with other limits at its atom at hand.
+pub fn put_limits(list: OpenList, limits: Limits) -> OpenList
+    ensures { Becomes End (with_limits limits (hand_of list.hand)) list.family list result }
+{
+    let OpenList {
+        items,
+        hand,
+        depth,
+        family,
+        ending,
+        numerator,
+    } = list;
+    OpenList {
+        items,
+        hand: with_limits(limits, hand),
+        depth,
+        family,
+        ending,
+        numerator,
+    }
+}
+
+/// The list with another current family.
+pub fn put_family(list: OpenList, family: Option<u8>) -> OpenList
+    ensures { Becomes End (hand_of list.hand) family list result }
+{
+    let OpenList {
+        items,
+        hand,
+        depth,
+        ending,
+        numerator,
+        ..
+    } = list;
+    OpenList {
+        items,
+        hand,
+        depth,
+        family,
+        ending,
+        numerator,
+    }
+}
+
+// The fraction with this denominator.
+fn fraction_item(alloc: Global, numerator: Numerator, den: MathList) -> Result<Item, AllocError>
+    ensures is { IfOk result (λ item. element_of item ≡ FractionElement numerator.head.thickness numerator.head.left numerator.head.right numerator.list den) }
+    ensures inside { IfOk result (λ item. stands_inside (element_of item) ≡ true) }
+{
+    let Numerator { head, list: num } = numerator;
+    let fraction = Fraction {
+        thickness: head.thickness,
+        left: head.left,
+        right: head.right,
+        num,
+        den,
+    };
+    Ok(Item::Fraction(Box::new(alloc, fraction)?))
+}
+
+/// All the items of a list that ends: those that are there, or the fraction that divides it.
+pub fn finish_items(alloc: Global, list: OpenList) -> Result<InnerItems, AllocError>
+    ensures { IfOk result (λ all. inner_sequence all ≡ finished_items (numerator_of list) (append (items_of list) (hand_items (hand_of list.hand)))) }
+{
+    let OpenList {
+        items,
+        hand,
+        numerator,
+        ..
+    } = list;
+    let last = with_hand(alloc, items, hand)?;
+    match numerator {
+        None => Ok(last),
+        Some(numerator) => {
+            let item = fraction_item(alloc, numerator, into_list(last))?;
+            with_item(no_items(alloc), item)
+        }
+    }
+}
+
+/// The denominator of a list, after a fraction word.
+pub fn divide(alloc: Global, list: OpenList, head: FractionHead) -> Result<OpenList, AllocError>
+    ensures { IfOk result (λ new. Divides head list new) }
+{
+    let OpenList {
+        items,
+        hand,
+        depth,
+        family,
+        ending,
+        ..
+    } = list;
+    let num = into_list(with_hand(alloc, items, hand)?);
+    Ok(OpenList {
+        items: no_items(alloc),
+        hand: None,
+        depth,
+        family,
+        ending,
+        numerator: Some(Numerator { head, list: num }),
+    })
+}
+
+/// The list after an action that reads no list.
+pub fn put_action(alloc: Global, list: OpenList, action: Action) -> Result<OpenList, AllocError>
+    requires { is_plain_action action ≡ true }
+    ensures { IfOk result (λ new. Puts action list new) }
+{
+    match action {
+        Action::Skip => Ok(list),
+        Action::Atom(kind, symbol) => put_hand(alloc, list, plain_hand(kind, Field::Sym(symbol))),
+        Action::Script(side, symbol) => Ok(put_script(list, side, Field::Sym(symbol))),
+        Action::Item(item) => put_item(alloc, list, simple_item(item)),
+        Action::Family(family) => Ok(put_family(list, family)),
+        Action::Limits(limits) => Ok(put_limits(list, limits)),
+        _ => unreachable!(),
+    }
+}
+
+fn simple_item(item: Simple) -> Item
+    ensures is { element_of result ≡ simple_element item }
+    ensures inside { stands_inside (element_of result) ≡ true }
+{
+    match item {
+        Simple::Style(style) => Item::Style(style),
+        Simple::MuSpace(glue) => Item::MuSpace(glue),
+        Simple::Space(glue) => Item::Space(glue),
+        Simple::MuKern(amount) => Item::MuKern(amount),
+        Simple::Kern(amount) => Item::Kern(amount),
+        Simple::Nonscript => Item::Nonscript,
+    }
+}
