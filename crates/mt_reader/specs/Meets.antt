@@ -2,15 +2,15 @@
 use Rattle.std.specs.Prelude.{◌≡◌, ℕ, min, List, [], ◌∷◌, Option, Some, None, Result, Ok, Err}
 use Rattle.std.specs.Borrow.{Bor}
 use Rattle.mt_token.specs.declared.token.Token.{Token}
-use Rattle.mt_reader.specs.declared.part.Cause.{Cause}
-use Rattle.mt_reader.specs.declared.part.Cause.TheVariants.{UnknownName, DoubleScript, TwoFractions, BadDelimiter, Unbalanced, MisplacedLimits, MissingField, BadNumber, BadDimension, MisplacedNumber, TooDeep}
+use Rattle.mt_reader.specs.declared.part.ReadCause.{ReadCause}
+use Rattle.mt_reader.specs.declared.part.ReadCause.TheVariants.{UnknownName, DoubleScript, TwoFractions, BadDelimiter, Unbalanced, MisplacedLimits, MissingField, BadNumber, BadDimension, MisplacedNumber, TooDeep}
 use Rattle.mt_reader.specs.declared.part.Fault.{Fault as FaultFields}
 use Rattle.mt_reader.specs.declared.part.Part.{Part}
 use Rattle.mt_reader.specs.Parts.{Read, Got, Fault}
 use Rattle.mt_reader.specs.Numbers.{Whole, digit_of, at_digit}
 
 -- the number of a cause
-abbrev pub cause_number : Cause → ℕ
+abbrev pub cause_number : ReadCause → ℕ
 cause_number UnknownName = 1
 cause_number DoubleScript = 2
 cause_number TwoFractions = 3

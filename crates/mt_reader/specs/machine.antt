@@ -11,7 +11,7 @@ pub mod Words
 -- what a token does in a list
 pub mod Actions
 -- actions that read no list
-pub mod Puts
+pub mod PutsAction
 -- what becomes of a list where no item stands
 pub mod Stops
 -- what a list that is read makes of the list in which it stands

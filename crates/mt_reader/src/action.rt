@@ -5,7 +5,7 @@ ghost use Rattle.mt_reader.specs.Parts.{opening};
 ghost use Rattle.mt_reader.specs.Role.{is_open_brace};
 ghost use Rattle.mt_reader.specs.Meets.{Meets};
 ghost use Rattle.mt_reader.specs.machine.OpenLists.{hand_of};
-ghost use Rattle.mt_reader.specs.declared.part.Cause.TheVariants.{MissingField};
+ghost use Rattle.mt_reader.specs.declared.part.ReadCause.TheVariants.{MissingField};
 ghost use Rattle.mt_reader.specs.machine.Actions.{HasRoom, Opens, field_start_here, field_start, coded_action, nucleus_action, script_action, amount_action, fence_action, action, action_here, spent, MeetsUnlessStop};
 ghost use Rattle.mt_reader.specs.machine.Words.{is_number_word, is_opening_word, is_hand_word};
 ghost use Rattle.mt_reader.specs.Atoms.{AtomValue};
@@ -22,7 +22,7 @@ use crate::hand::Hand;
 use crate::hands::{is_free, is_op};
 use crate::numbers::{number_to, whole_number};
 use crate::open_list::OpenList;
-use crate::part::{Cause, Fault, Part};
+use crate::part::{Fault, Part, ReadCause};
 use crate::role::{Amount, NucleusKind, Role, Side, Simple, role_of};
 use crate::spaces::after_blanks;
 use crate::symbols::{class_of, code_symbol, current_family, delim_of};
@@ -81,7 +81,7 @@ fn missing_field(left: usize) -> Fault
     ensures { result ≡ record { cause = MissingField; left = left } }
 {
     Fault {
-        cause: Cause::MissingField,
+        cause: ReadCause::MissingField,
         left,
     }
 }
@@ -94,7 +94,7 @@ pub fn room(depth: usize, left: usize) -> Result<(), Fault>
         Ok(())
     } else {
         Err(Fault {
-            cause: Cause::TooDeep,
+            cause: ReadCause::TooDeep,
             left,
         })
     }
@@ -317,7 +317,7 @@ fn fence_action<'a>(
     }
 }
 
-fn fault(cause: Cause, left: usize) -> Fault
+fn fault(cause: ReadCause, left: usize) -> Fault
     ensures { result ≡ record { cause = cause; left = left } }
 {
     Fault { cause, left }
@@ -445,7 +445,7 @@ fn hand_action<'a>(
             if is_free(side, &list.hand) {
                 script_action(codes, units, list.depth, list.family, side, after)
             } else {
-                Err(fault(Cause::DoubleScript, after.len() + 1))
+                Err(fault(ReadCause::DoubleScript, after.len() + 1))
             }
         }
         Role::Prime => {
@@ -455,7 +455,7 @@ fn hand_action<'a>(
                     rest: after,
                 })
             } else {
-                Err(fault(Cause::DoubleScript, after.len() + 1))
+                Err(fault(ReadCause::DoubleScript, after.len() + 1))
             }
         }
         Role::LimitsWord(limits) => {
@@ -465,7 +465,7 @@ fn hand_action<'a>(
                     rest: after,
                 })
             } else {
-                Err(fault(Cause::MisplacedLimits, after.len() + 1))
+                Err(fault(ReadCause::MisplacedLimits, after.len() + 1))
             }
         }
         _ => unreachable!(),
@@ -515,7 +515,7 @@ fn role_action<'a>(
         }
         Role::Nucleus(kind) => nucleus_action(codes, units, depth, family, kind, after),
         Role::AmountWord(amount) => amount_action(codes, units, amount, after),
-        Role::HboxWord | Role::Unknown => Err(fault(Cause::UnknownName, after.len() + 1)),
+        Role::HboxWord | Role::Unknown => Err(fault(ReadCause::UnknownName, after.len() + 1)),
         Role::CloseBrace
         | Role::Dollar
         | Role::Stray

@@ -1,13 +1,13 @@
 //! Decimal numbers.
 ghost use Rattle.std.specs.Prelude.{◌≡◌, ◌≤◌, ◌+◌, ◌*◌, ◌/◌, length, take, IfOk};
 ghost use Rattle.mt_scaled.specs.Number.{decimals_of, decimal_fraction};
-ghost use Rattle.mt_reader.specs.declared.part.Cause.TheVariants.{BadDimension};
+ghost use Rattle.mt_reader.specs.declared.part.ReadCause.TheVariants.{BadDimension};
 ghost use Rattle.mt_reader.specs.Dimensions.{decimals, is_point, after_whole, factor};
 ghost use Rattle.mt_reader.specs.Meets.{Meets};
 ghost use Rattle.mt_reader.specs.CappedDecimals.{capped_decimal};
 
 use crate::numbers::{digit_of, digits};
-use crate::part::{Cause, Fault, Part};
+use crate::part::{Fault, Part, ReadCause};
 use crate::spaces::character_code;
 use mt_token::Token;
 
@@ -25,7 +25,7 @@ pub fn bad_dimension(left: usize) -> Fault
     ensures { result ≡ record { cause = BadDimension; left = left } }
 {
     Fault {
-        cause: Cause::BadDimension,
+        cause: ReadCause::BadDimension,
         left,
     }
 }

@@ -4,7 +4,7 @@ ghost use Rattle.mt_reader.specs.Delimiters.{code_of_kind, delimiter_by_code, de
 ghost use Rattle.mt_reader.specs.Meets.{Meets};
 
 use crate::numbers::number_to;
-use crate::part::{Cause, Fault, Part};
+use crate::part::{Fault, Part, ReadCause};
 use crate::role::{Role, role_of};
 use crate::spaces::after_blanks;
 use crate::symbols::delim_of;
@@ -35,7 +35,7 @@ fn delimiter_by_code<'a>(code: Option<u32>, rest: &'a [Token]) -> Result<Part<'a
             rest,
         }),
         None => Err(Fault {
-            cause: Cause::BadDelimiter,
+            cause: ReadCause::BadDelimiter,
             left: rest.len() + 1,
         }),
     }
@@ -57,7 +57,7 @@ fn delimiter_here<'a>(codes: &Codes, tokens: &'a [Token]) -> Result<Part<'a, Del
             _ => delimiter_by_code(code_of_kind(codes, token), after),
         },
         [] => Err(Fault {
-            cause: Cause::BadDelimiter,
+            cause: ReadCause::BadDelimiter,
             left: 0,
         }),
     }

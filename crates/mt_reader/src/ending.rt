@@ -3,7 +3,7 @@ ghost use Rattle.std.specs.Prelude.{◌≡◌};
 ghost use Rattle.mt_reader.specs.Lists.{ends_with_tokens, ends_at, stray_cause};
 ghost use Rattle.mt_reader.specs.Meets.{cause_number};
 
-use crate::part::Cause;
+use crate::part::ReadCause;
 use crate::role::Role;
 
 /// Where a list ends.
@@ -42,12 +42,12 @@ pub fn ends_at(ending: Ending, role: Role) -> bool
 }
 
 /// The cause of a fault at a token of this role, which is no item and does not end the list.
-pub fn stray_cause(role: Role) -> Cause
+pub fn stray_cause(role: Role) -> ReadCause
     ensures { cause_number result ≡ stray_cause role }
 {
     match role {
-        Role::FractionWord(_, _) => Cause::TwoFractions,
-        Role::NumberWord(_) => Cause::MisplacedNumber,
-        _ => Cause::Unbalanced,
+        Role::FractionWord(_, _) => ReadCause::TwoFractions,
+        Role::NumberWord(_) => ReadCause::MisplacedNumber,
+        _ => ReadCause::Unbalanced,
     }
 }

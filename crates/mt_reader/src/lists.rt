@@ -6,7 +6,7 @@ ghost use Rattle.mt_rules.specs.View.{element_of, part_of_field};
 ghost use Rattle.mt_reader.specs.Atoms.{append, hand_items, with_script, with_limits};
 ghost use Rattle.mt_reader.specs.machine.Facts.{stands_inside, holds_rows};
 ghost use Rattle.mt_reader.specs.machine.OpenLists.{inner_sequence, items_of, hand_value, hand_of, numerator_of, finished_items, Begins, Becomes, Divides};
-ghost use Rattle.mt_reader.specs.machine.Puts.{is_plain_action, Puts};
+ghost use Rattle.mt_reader.specs.machine.PutsAction.{is_plain_action, PutsAction};
 
 use crate::action::Action;
 use crate::ending::Ending;
@@ -209,7 +209,7 @@ pub fn divide(alloc: Global, list: OpenList, head: FractionHead) -> Result<OpenL
 /// The list after an action that reads no list.
 pub fn put_action(alloc: Global, list: OpenList, action: Action) -> Result<OpenList, AllocError>
     requires { is_plain_action action ≡ true }
-    ensures { IfOk result (λ new. Puts action list new) }
+    ensures { IfOk result (λ new. PutsAction action list new) }
 {
     match action {
         Action::Skip => Ok(list),

@@ -1,10 +1,10 @@
 //! Numbers.
 ghost use Rattle.std.specs.Prelude.{◌≡◌, ◌≤◌, ◌<◌, ◌*◌, ◌+◌, min, pos, false, length, IfOk, IfSome};
 ghost use Rattle.mt_reader.specs.Numbers.{turns_sign, sign_after, signs, with_sign, digit_value, digit_of, digits, digits_in, quoted_kind, quoted_code, unsigned_number, in_bound, whole_number, number_to};
-ghost use Rattle.mt_reader.specs.declared.part.Cause.TheVariants.{BadNumber};
+ghost use Rattle.mt_reader.specs.declared.part.ReadCause.TheVariants.{BadNumber};
 ghost use Rattle.mt_reader.specs.Meets.{Meets, capped, capped_digits};
 
-use crate::part::{Cause, Fault, Part};
+use crate::part::{Fault, Part, ReadCause};
 use crate::spaces::{after_one_space, character_code};
 use mt_token::{Token, TokenKind};
 
@@ -15,7 +15,7 @@ fn bad_number(left: usize) -> Fault
     ensures { result ≡ record { cause = BadNumber; left = left } }
 {
     Fault {
-        cause: Cause::BadNumber,
+        cause: ReadCause::BadNumber,
         left,
     }
 }

@@ -4,7 +4,7 @@ use mt_token::Token;
 
 /// Why a part of a formula is not read.
 #[derive(Clone, Copy, Debug, PartialEq, Eq)]
-pub enum Cause {
+pub enum ReadCause {
     /// A name that is no item.
     UnknownName,
     /// A script that is there already.
@@ -33,7 +33,7 @@ pub enum Cause {
 #[derive(Clone, Copy, Debug, PartialEq, Eq)]
 pub struct Fault {
     /// The cause.
-    pub cause: Cause,
+    pub cause: ReadCause,
     /// The tokens that are left.
     pub left: usize,
 }

@@ -3,7 +3,7 @@ ghost use Rattle.mt_reader.specs.machine.Stops.{AtRole, StopsAt};
 
 use crate::ending::{ends_at, ends_with_tokens, stray_cause};
 use crate::open_list::OpenList;
-use crate::part::{Cause, Fault};
+use crate::part::{Fault, ReadCause};
 use crate::role::{Bar, Role, role_of};
 use mt_plain::Codes;
 use mt_token::Token;
@@ -45,7 +45,7 @@ pub fn list_stop(codes: &Codes, list: &OpenList, tokens: &[Token]) -> Result<Lis
                 Ok(ListStop::Ends)
             } else {
                 Err(Fault {
-                    cause: Cause::Unbalanced,
+                    cause: ReadCause::Unbalanced,
                     left: 0,
                 })
             }

@@ -1,7 +1,7 @@
 use crate::delimiters::delimiter;
 use crate::dimensions::{dimension, glue};
 use crate::numbers::whole_number;
-use crate::part::Cause;
+use crate::part::ReadCause;
 use crate::{Role, Side, role_of};
 use mt_plain::Codes;
 use mt_scaled::Units;
@@ -69,7 +69,8 @@ fn knows_roles(rt: HostRuntime) -> Result<(), Fail> {
     );
     assert_eq!(rt; list.get(2).map(|t| role_of(&codes, t)), Some(Role::Prime));
     assert!(rt;
-        delimiter(&codes, list.as_slice()).is_err_and(|fault| fault.cause == Cause::BadDelimiter)
+        delimiter(&codes, list.as_slice()).is_err_and(|fault| fault.cause
+            == ReadCause::BadDelimiter)
     );
     let glued = tokens(alloc, b"1pt plus 2pt MINUS .5pt")?;
     assert!(rt; glue(UNITS, false, glued.as_slice()).is_ok_and(|part| part.value.shrink == 32_768));

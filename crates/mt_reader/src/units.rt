@@ -1,6 +1,6 @@
 //! Units of length.
 ghost use Rattle.std.specs.Prelude.{◌≡◌, ◌≤◌, ◌<◌, ◌^◌, pos, ◌+ℤ◌, ◌*ℤ◌, ◌≤ℤ◌, length, IfOk};
-ghost use Rattle.mt_scaled.specs.Number.{Within};
+ghost use Rattle.mt_scaled.specs.Number.{Within, max_dimen};
 ghost use Rattle.mt_scaled.specs.Units.{unit_length, font_length};
 ghost use Rattle.mt_reader.specs.Dimensions.{small_letter, letter, measures, begins_measure, measure_of, second_letter, after_first_letter, measure, length_of};
 ghost use Rattle.mt_reader.specs.Meets.{Meets};
@@ -99,7 +99,7 @@ pub fn measure<'a>(mu: bool, tokens: &'a [Token]) -> Result<Part<'a, Unit>, Faul
 
 // A number of units in scaled points, where n points make d of the unit.
 fn unit_length(whole: u64, part: u64, n: u64, d: u64) -> u64
-    requires whole { whole ≤ 1073741823 }
+    requires whole { whole ≤ max_dimen }
     requires part { part ≤ 65536 }
     requires n { n ≤ 14856 }
     requires d { 0 < d }
@@ -142,7 +142,7 @@ fn sum(a: i64, b: i64) -> i64
 
 #[tactic(auto, using(std::proofs::lemmas::Int::ints))]
 fn whole_of(whole: u64) -> i64
-    requires { whole ≤ 1073741823 }
+    requires { whole ≤ max_dimen }
     ensures is { result ≡ pos whole }
     ensures small { Within (2 ^ 30) result }
 {
@@ -162,7 +162,7 @@ fn part_of(part: u64) -> i64
 // A number of lengths of a font.
 #[tactic(auto, using(std::proofs::lemmas::Int::ints))]
 fn font_length(whole: u64, part: u64, x: i64) -> i64
-    requires whole { whole ≤ 1073741823 }
+    requires whole { whole ≤ max_dimen }
     requires part { part ≤ 65536 }
     requires x { Within (2 ^ 31) x }
     ensures is { result ≡ font_length whole part x }
@@ -176,7 +176,7 @@ fn font_length(whole: u64, part: u64, x: i64) -> i64
 
 /// So many units, in scaled points, or in 65536ths of a math unit.
 pub fn length_of(units: Units, unit: Unit, f: Decimal) -> i64
-    requires whole { f.whole ≤ 1073741823 }
+    requires whole { f.whole ≤ max_dimen }
     requires part { f.part ≤ 65536 }
     requires em { Within (2 ^ 31) units.em }
     requires ex { Within (2 ^ 31) units.ex }

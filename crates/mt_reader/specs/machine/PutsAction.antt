@@ -22,7 +22,7 @@ is_plain_action (Limits limits) = true
 is_plain_action _ = false
 
 -- the new list is the old one after this action
-pub record Puts (action : Action) (l new : OpenList) : Type 0 where
+pub record PutsAction (action : Action) (l new : OpenList) : Type 0 where
   pub items : Sequence
   pub hand : Option AtomValue
   pub family : Option ℕ
