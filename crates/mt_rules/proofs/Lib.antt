@@ -4,6 +4,8 @@ pub mod Lists
 pub mod Styles
 -- what setting answers, step by step
 pub mod Answering
+-- rows and columns put together
+pub mod Appends
 -- the columns that parts are made of
 pub mod Stacks
 -- the definitions on known formulas

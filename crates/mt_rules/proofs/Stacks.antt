@@ -1,11 +1,11 @@
 -- Columns that parts are made of, and the layouts at absolute offsets that they are.
-use Rattle.std.proofs.Common.{◌≡◌, ℕ, zero, suc, List, [], ◌∷◌, ◌++◌, ℤ, pos, negsuc, ◌+ℤ◌, ◌-ℤ◌, ◌≤ℤ◌, refl, arith, append_assoc, ap, sym, ◌∙◌}
+use Rattle.std.proofs.Common.{◌≡◌, zero, suc, List, [], ◌∷◌, ◌++◌, ℤ, pos, negsuc, ◌+ℤ◌, ◌-ℤ◌, ◌≤ℤ◌, refl, arith, append_assoc, ap, sym, ◌∙◌}
 use Rattle.std.proofs.lemmas.Int.{ints, clamps}
 use Rattle.std.specs.Int.{int_max}
 use Rattle.mt_box.specs.declared.place.Place.{Place}
 use Rattle.mt_box.specs.Layout.{Layout, all_moved}
 use Rattle.mt_box.specs.Columns.{EntryValue, EntryBox, EntryKern, EntryRule, entry_width, entry_drop, entry_places, column_width, column_drop, column_places, stack, rule_places}
-use Rattle.mt_box.proofs.Moved.{moved_zero}
+use Rattle.mt_box.proofs.Moved.{moved_zero, moved_twice}
 use Rattle.mt_box.proofs.Lists.{nil_right}
 use Rattle.mt_box.proofs.Equalities.{extents_eq, layout_eq}
 
@@ -49,6 +49,34 @@ column_places-append w y (e ∷ es) fs =
     ∙ ap (λ z. column_places w (y -ℤ entry_drop e) es ++ column_places w z fs) (less_both y (entry_drop e) (column_drop es)))
     ∙ sym (append_assoc (entry_places w y e) (column_places w (y -ℤ entry_drop e) es) (column_places w (y -ℤ column_drop (e ∷ es)) fs))
 
+-- ---- a box on the baseline, with entries above it and below it
+
+depth_round : (a h d c t : ℤ) → t ≡ a +ℤ ((h +ℤ d) +ℤ c) → t -ℤ (a +ℤ h) ≡ d +ℤ c
+depth_round a h d c t e = omega (arith, ints, e)
+
+at_baseline : (w y z : ℤ) (b : Layout) (below : List EntryValue) → y ≡ pos 0 → z ≡ pos 0 -ℤ b.extents.depth → all_moved (pos 0) y b.places ++ column_places w z below ≡ b.places ++ column_places w (pos 0 -ℤ b.extents.depth) below
+at_baseline w y z b below e f = rw (e, f, moved_zero b.places) refl
+
+box_round : (w top a : ℤ) (b : Layout) (below : List EntryValue) → top ≡ a +ℤ b.extents.height → column_places w (top -ℤ a) (EntryBox (pos 0) b ∷ below) ≡ b.places ++ column_places w (pos 0 -ℤ b.extents.depth) below
+box_round w top a b below e = at_baseline w ((top -ℤ a) -ℤ b.extents.height) ((top -ℤ a) -ℤ (b.extents.height +ℤ b.extents.depth)) b below (omega (arith, ints, e)) (omega (arith, ints, e))
+
+pub stack_round : (above below : List EntryValue) (b : Layout) → stack (above ++ EntryBox (pos 0) b ∷ below) (column_drop above +ℤ b.extents.height) ≡ record {
+  extents = record {
+    width = column_width (above ++ EntryBox (pos 0) b ∷ below);
+    height = column_drop above +ℤ b.extents.height;
+    depth = b.extents.depth +ℤ column_drop below;
+  };
+  places = column_places (column_width (above ++ EntryBox (pos 0) b ∷ below)) (column_drop above +ℤ b.extents.height) above
+      ++ (b.places ++ column_places (column_width (above ++ EntryBox (pos 0) b ∷ below)) (pos 0 -ℤ b.extents.depth) below);
+}
+stack_round above below b =
+    let w = column_width (above ++ EntryBox (pos 0) b ∷ below) in
+    let top = column_drop above +ℤ b.extents.height in
+    layout_eq
+    (extents_eq refl refl (depth_round (column_drop above) b.extents.height b.extents.depth (column_drop below) _ (column_drop-append above (EntryBox (pos 0) b ∷ below))))
+    (column_places-append w top above (EntryBox (pos 0) b ∷ below)
+    ∙ ap (λ ps. column_places w top above ++ ps) (box_round w top (column_drop above) b below refl))
+
 -- ---- the places of a last box, and of what stands above it
 
 -- a last box that stands at the reference point
@@ -57,6 +85,13 @@ last_box y ps e = rw e (nil_right _ ∙ moved_zero ps)
 
 pub box_and_last : (x y y' z : ℤ) (ps qs : List Place) → y ≡ y' → z ≡ pos 0 → all_moved x y ps ++ (all_moved (pos 0) z qs ++ []) ≡ all_moved x y' ps ++ qs
 box_and_last x y y' z ps qs e f = rw (e, last_box z qs f) refl
+
+-- a box that stands alone at y, whose places were moved to the right by themselves
+pub moved_box : (shift y y' : ℤ) (ps : List Place) → y ≡ y' → all_moved (pos 0) y (all_moved shift (pos 0) ps) ++ [] ≡ all_moved shift y' ps
+moved_box shift y y' ps e =
+    let right : shift +ℤ pos 0 ≡ shift = omega (arith, ints) in
+    let up : pos 0 +ℤ y' ≡ y' = omega (arith, ints) in
+    rw (e, nil_right _, moved_twice (pos 0) y' shift (pos 0) ps, right, up) refl
 
 pub rule_and_last : (t y y' w w' z : ℤ) (ps : List Place) → y ≡ y' → w ≡ w' → z ≡ pos 0 → rule_places (pos 0) y t w ++ (all_moved (pos 0) z ps ++ []) ≡ rule_places (pos 0) y' t w' ++ ps
 rule_and_last t y y' w w' z ps p q r = rw (p, q, last_box z ps r) refl

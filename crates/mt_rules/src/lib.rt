@@ -23,7 +23,7 @@ pub use document::{Document, Formula, Page, Tag};
 pub use kind::{Kind, Limits};
 pub use list::{Atom, Choice, Field, Fraction, Item, MathList, RowList};
 pub use packed_list::PackedList;
-pub use part::{part_answer, test_rule};
+pub use part::{part_answer, test_rule, with_width};
 pub use part_error::PartError;
 pub use shifts::Shifts;
 pub use style::Style;

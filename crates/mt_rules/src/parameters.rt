@@ -1,5 +1,6 @@
-//! The parameters of the math fonts by their names (The TeXbook, Appendix G; tex.web §700, §701), in scaled points. The
-//! sigmas are those of the symbols, family 2, and the xis those of the extensible characters, family 3.
+//! The parameters of the math fonts by their names (The TeXbook, Appendix G; tex.web §700, §701),
+//! in scaled points. The sigmas are those of the symbols, family 2, and the xis those of the
+//! extensible characters, family 3.
 ghost use Rattle.std.specs.Prelude.{◌≡◌, ◌^◌};
 ghost use Rattle.mt_scaled.specs.Number.{Within};
 ghost use Rattle.mt_rules.specs.Parameters;

@@ -10,7 +10,8 @@ pub enum PartError {
     /// This extent of what was made, in scaled points, is greater than 2^30 - 1 in size.
     #[error("a part has an extent of {0}sp")]
     Overflow(i64),
-    /// A delimiter would need the repeatable piece of its recipe this many times, which is more than 2,000.
+    /// A delimiter would need the repeatable piece of its recipe this many times, which is more
+    /// than 2,000.
     #[error("a delimiter needs {0} repeats")]
     TooTall(u64),
     /// There is no memory left.

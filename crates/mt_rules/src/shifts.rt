@@ -1,7 +1,7 @@
 //! How far parts of a formula are shifted.
 
-/// How far two parts of a formula are shifted from its baseline, in scaled points: a superscript or a numerator up, a
-/// subscript or a denominator down.
+/// How far two parts of a formula are shifted from its baseline, in scaled points: a superscript or
+/// a numerator up, a subscript or a denominator down.
 #[derive(Clone, Copy, Debug, PartialEq, Eq)]
 pub struct Shifts {
     /// Upward.
