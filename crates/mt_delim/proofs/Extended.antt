@@ -15,7 +15,7 @@ use Rattle.mt_rules.specs.Setting.{SettingFault, Overflow, TooTall, ◌>>=◌, �
 use Rattle.mt_rules.specs.Calls.{PartAnswers}
 use Rattle.mt_rules.specs.Symbols.{height_plus_depth}
 use Rattle.mt_rules.specs.Extensibles.{repeats, at_most_2000, recipe_pieces, glyphs_total, glyphs_places, first_height, glyphs_layout, test_glyphs, extensible_layout}
-use Rattle.mt_delim.specs.Glyphs.{glyph_entries, with_width, ColumnAnswers}
+use Rattle.mt_delim.specs.Glyphs.{glyph_entries, layout_with_width, ColumnAnswers}
 use Rattle.mt_delim.proofs.Pieces.{tested_once}
 
 -- ---- the column is the layout
@@ -31,7 +31,7 @@ same_places : (number : ℕ) (m : Metrics) (w y : ℤ) (cs : List ℕ) → colum
 same_places number m w y [] = refl
 same_places number m w y (c ∷ cs) = place_first (glyph_eq refl (omega (arith, ints))) (same_places number m w (y -ℤ height_plus_depth m c) cs)
 
-stacked : (number : ℕ) (m : Metrics) (width : ℤ) (cs : List ℕ) → with_width width (stack (glyph_entries number m cs) (first_height m cs)) ≡ glyphs_layout number m width cs
+stacked : (number : ℕ) (m : Metrics) (width : ℤ) (cs : List ℕ) → layout_with_width width (stack (glyph_entries number m cs) (first_height m cs)) ≡ glyphs_layout number m width cs
 stacked number m width cs =
     layout_eq (extents_eq refl refl (ap (λ z. z -ℤ first_height m cs) (drop_total number m cs)))
     (same_places number m (column_width (glyph_entries number m cs)) (first_height m cs) cs)
@@ -60,11 +60,11 @@ extensible_fails number m r wanted n pieces (PartOverflow value) is least same h
 extensible_fails number m r wanted n pieces (PartTooTall k) is least same h = fails number m r wanted n pieces (TooTall k) is least same h
 extensible_fails number m r wanted n pieces NoPartMemory is least same h = tt
 
-pub extensible_made : (number : ℕ) (m : Metrics) (r : Recipe) (wanted : ℤ) (n : ℕ) (pieces : List ℕ) (es : List EntryValue) (top width : ℤ) (result : Result BoxValue PartError) → n ≡ repeats m r wanted → n ≤ 2000 → pieces ≡ recipe_pieces r n → test_glyphs m pieces ≡ Ok tt → es ≡ glyph_entries number m pieces → top ≡ first_height m pieces → width ≡ width_of m r.repeat +ℤ italic_of m r.repeat → PartAnswers result (make_box (with_width width (stack es top))) → PartAnswers result (extensible_layout number m r wanted)
+pub extensible_made : (number : ℕ) (m : Metrics) (r : Recipe) (wanted : ℤ) (n : ℕ) (pieces : List ℕ) (es : List EntryValue) (top width : ℤ) (result : Result BoxValue PartError) → n ≡ repeats m r wanted → n ≤ 2000 → pieces ≡ recipe_pieces r n → test_glyphs m pieces ≡ Ok tt → es ≡ glyph_entries number m pieces → top ≡ first_height m pieces → width ≡ width_of m r.repeat +ℤ italic_of m r.repeat → PartAnswers result (make_box (layout_with_width width (stack es top))) → PartAnswers result (extensible_layout number m r wanted)
 extensible_made number m r wanted n pieces es top width result is least same passed entries first wide h =
-    let layout : with_width width (stack es top) ≡ box_of number m r n =
-    ap (λ v. with_width width (stack v top)) entries
-    ∙ ap (λ t. with_width width (stack (glyph_entries number m pieces) t)) first
+    let layout : layout_with_width width (stack es top) ≡ box_of number m r n =
+    ap (λ v. layout_with_width width (stack v top)) entries
+    ∙ ap (λ t. layout_with_width width (stack (glyph_entries number m pieces) t)) first
     ∙ stacked number m width pieces
     ∙ ap (λ w. glyphs_layout number m w pieces) wide
     ∙ ap (λ cs. glyphs_layout number m (width_of m r.repeat +ℤ italic_of m r.repeat) cs) same in

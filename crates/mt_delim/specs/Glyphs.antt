@@ -1,4 +1,4 @@
--- Columns of glyphs: their entries (`glyph_entries`), and what making them answers (`ColumnAnswers`).
+-- Columns of glyphs (`glyph_entries`), and what making one answers (`ColumnAnswers`).
 use Rattle.std.specs.Prelude.{◌≡◌, ℕ, ℤ, pos, List, [], ◌∷◌, Result, Ok, Err, ⊤}
 use Rattle.mt_tfm.specs.Font.{Metrics}
 use Rattle.mt_box.specs.Layout.{Layout}
@@ -14,15 +14,20 @@ use Rattle.mt_rules.specs.Extensibles.{test_glyphs}
 -- the boxes of glyphs, one below the other
 abbrev pub glyph_entries : ℕ → Metrics → List ℕ → List EntryValue
 glyph_entries font m [] = []
-glyph_entries font m (c ∷ cs) = EntryBox (pos 0) (glyph_layout font c (extents_without_italic m c)) ∷ glyph_entries font m cs
+glyph_entries font m (c ∷ cs) =
+    EntryBox (pos 0) (glyph_layout font c (extents_without_italic m c)) ∷ glyph_entries font m cs
 
 -- the column, where every glyph is in range; else the first extent that is not
 abbrev pub ColumnAnswers : ℕ → Metrics → List ℕ → Result (List Entry) PartError → Type 0
-ColumnAnswers font m cs (Ok column) = (test_glyphs m cs ≡ Ok tt) × (entry_values column ≡ glyph_entries font m cs)
+ColumnAnswers font m cs (Ok column) =
+    (test_glyphs m cs ≡ Ok tt) × (entry_values column ≡ glyph_entries font m cs)
 ColumnAnswers font m cs (Err (PartOverflow value)) = test_glyphs m cs ≡ Err (Overflow value)
 ColumnAnswers font m cs (Err (PartTooTall n)) = test_glyphs m cs ≡ Err (TooTall n)
 ColumnAnswers font m cs (Err NoPartMemory) = ⊤
 
-abbrev pub with_width : ℤ → Layout → Layout
-with_width width l =
-    record { extents = record { width = width; height = l.extents.height; depth = l.extents.depth }; places = l.places }
+-- the layout with another width
+abbrev pub layout_with_width : ℤ → Layout → Layout
+layout_with_width width l = record {
+  extents = record { width = width; height = l.extents.height; depth = l.extents.depth };
+  places = l.places;
+}

@@ -3,7 +3,6 @@ ghost use Rattle.std.specs.Prelude.{◌≡◌, ◌^◌, ◌≤◌, ◌+ℤ◌, �
 ghost use Rattle.mt_scaled.specs.Number.{Within, max_dimen};
 ghost use Rattle.mt_tfm.specs.Font.{exists, width_of, italic_of};
 ghost use Rattle.mt_tfm.specs.Checks.{recipe_fits};
-ghost use Rattle.mt_box.specs.Layout.{layout_of};
 ghost use Rattle.mt_box.specs.declared.entry.Entry.TheVariants.{Boxed};
 ghost use Rattle.mt_box.specs.Boxes.{glyph_layout};
 ghost use Rattle.mt_box.specs.Columns.{entry_values, column_width, column_level, stack, AllModestEntries};
@@ -12,11 +11,11 @@ ghost use Rattle.mt_rules.specs.Symbols.{extents_without_italic};
 ghost use Rattle.mt_rules.specs.Setting.{make_box};
 ghost use Rattle.mt_rules.specs.Calls.{PartAnswers};
 ghost use Rattle.mt_rules.specs.Extensibles.{extensible_layout, recipe_piece, recipe_pieces, first_height as first_height_of};
-ghost use Rattle.mt_delim.specs.Glyphs.{ColumnAnswers, with_width as layout_with_width};
+ghost use Rattle.mt_delim.specs.Glyphs.{ColumnAnswers, layout_with_width};
 
 use crate::repeats::repeats;
-use mt_box::{Column, Entry, Extents, Packed, glyph_box, vpack, with_extents};
-use mt_rules::PartError;
+use mt_box::{Column, Entry, Extents, Packed, glyph_box, vpack};
+use mt_rules::{PartError, with_width};
 use mt_scaled::{Length, in_range};
 use mt_tfm::{Font, Recipe};
 use std::alloc::{AllocError, Global};
@@ -26,8 +25,8 @@ const MAX_REPEATS: u64 = 2000;
 
 /// The box of an extensible character for a wanted size.
 ///
-/// Refused with `TooTall`, then with `Overflow` of the first extent out of range of its glyphs, from the top, and of the
-/// box; and with `OutOfMemory`.
+/// Refused with `TooTall`, then with `Overflow` of the first extent out of range of its glyphs,
+/// from the top, and of the box; and with `OutOfMemory`.
 pub fn extensible_box(
     alloc: Global,
     font: &Font,
@@ -50,7 +49,8 @@ pub fn extensible_box(
     pack_to_width(alloc, column, top, width_with_italic(font, recipe.repeat))
 }
 
-// The pieces from the top: top, repeats and bottom, with a middle between as many repeats at both sides.
+// The pieces from the top: top, repeats and bottom, with a middle between as many repeats at both
+// sides.
 fn pieces_of(alloc: Global, recipe: Recipe, n: u16) -> Result<Vec<u8>, AllocError>
     ensures { IfOk result (λ pieces. pieces.items ≡ recipe_pieces recipe n) }
 {
@@ -110,7 +110,8 @@ fn push_box(column: &mut Vec<Entry>, body: Packed) -> Result<(), AllocError>
 // The box of a glyph, without its italic correction.
 fn piece_box(alloc: Global, font: &Font, number: u16, code: u8) -> Result<Packed, PartError>
     requires { IsTrue (exists font.now code) }
-    ensures is { PartAnswers result (make_box (glyph_layout number code (extents_without_italic font.now code))) }
+    ensures is { PartAnswers result (make_box (glyph_layout number code
+        (extents_without_italic font.now code))) }
     ensures level { IfOk result (λ b. b.level ≡ 1) }
     ensures in_range { IfOk result (λ b. ExtentsInRange b.extents) }
 {
@@ -168,24 +169,13 @@ fn pack_to_width(
     requires top { Within (2 ^ 31) top.sp }
     requires width { Within max_dimen (column_width (entry_values column)) }
     requires small { Within (2 ^ 32) width.sp }
-    ensures is { PartAnswers result (make_box (layout_with_width width.sp (stack (entry_values column) top.sp))) }
+    ensures is { PartAnswers result (make_box (layout_with_width width.sp
+        (stack (entry_values column) top.sp))) }
     ensures level { IfOk result (λ b. b.level ≡ column_level column) }
 {
     if !in_range(width.sp) {
         return Err(PartError::Overflow(width.sp));
     }
     let body = vpack(alloc, column, top.sp)?;
-    Ok(with_width(body, width))
-}
-
-fn with_width(body: Packed, width: Length) -> Packed
-    requires { Within max_dimen width.sp }
-    ensures is { layout_of result ≡ layout_with_width width.sp (layout_of body) }
-    ensures level { result.level ≡ body.level }
-{
-    let extents = Extents {
-        width: width.sp,
-        ..body.extents()
-    };
-    with_extents(body, extents)
+    Ok(with_width(body, width.sp))
 }
