@@ -1,0 +1,2 @@
+-- whole lists in the example fonts, worked
+mod cases

@@ -1,0 +1,31 @@
+-- Lists whose setting is refused, worked.
+use Rattle.std.proofs.Common.{◌≡◌, refl, Err, Some, pos, [], ◌∷◌}
+use Rattle.mt_family.specs.declared.size.Size.TheVariants.{Text}
+use Rattle.mt_rules.specs.declared.style.Style.TheVariants.{T}
+use Rattle.mt_rules.specs.declared.class.Class.TheVariants.{Ord, Inner}
+use Rattle.mt_rules.specs.declared.kind.Kind.TheVariants.{Plain}
+use Rattle.mt_rules.specs.Sequence.{FractionElement, LeftElement, RightElement, KernElement, EmptyPart, ListPart}
+use Rattle.mt_rules.specs.Setting.{MissingFamily, MissingChar, Overflow, TooTall}
+use Rattle.mt_convert.specs.ListRow.{list_row}
+use Rattle.mt_convert.proofs.cases.ToyFonts.{toy}
+use Rattle.mt_convert.proofs.cases.Writing.{list, delim, no_delim, atom, plain, letter, roman, group, from_top, evaluated}
+
+-- a character that its font does not have
+missing_char : from_top (list_row toy T (list (roman 0 ∷ []))) ≡ Err (MissingChar 0 Text 0)
+unfolding evaluated
+missing_char = refl
+
+-- a family without a font
+missing_family : from_top (list_row toy T (list (plain Ord 4 120 ∷ []))) ≡ Err (MissingFamily 4 Text)
+unfolding evaluated
+missing_family = refl
+
+-- two kerns of 16383pt and a: the row is too wide
+wide_kerns : from_top (list_row toy T (list (KernElement (pos 1073676288) ∷ KernElement (pos 1073676288) ∷ letter 97 ∷ []))) ≡ Err (Overflow (pos 2147680256))
+unfolding evaluated
+wide_kerns = refl
+
+-- a above b with a rule of 4000pt, after a brace: it wants too many repeats
+tall_brace : from_top (list_row toy T (list (atom (Plain Inner) (ListPart (list (LeftElement (delim 2 102 3 8) ∷ group (FractionElement (Some (pos 262144000)) no_delim no_delim (list (letter 97 ∷ [])) (list (letter 98 ∷ [])) ∷ []) ∷ RightElement no_delim ∷ []))) EmptyPart EmptyPart ∷ []))) ≡ Err (TooTall 4797)
+unfolding evaluated
+tall_brace = refl

@@ -1,0 +1,16 @@
+-- the items of a list, with the lists inside them as what they are set to
+pub mod Contents
+-- where a list has come to
+pub mod Current
+-- pairs of symbols that are joined
+pub mod Joining
+-- the flat list, without choices and conditional spaces
+pub mod Flat
+-- the items between the two passes, and their final classes
+pub mod Halves
+-- the first pass: the items are set
+pub mod FirstPass
+-- the second pass: spaces and boundaries
+pub mod SecondPass
+-- the row of a list
+pub mod ListRow
