@@ -1,4 +1,4 @@
--- The column of an operator with its limits (`limits_entries`), in which each limit is moved to the side (`moved_limit`).
+-- The column of an operator with its limits (`limits_entries`), each moved to the side (`moved_limit`).
 use Rattle.std.specs.Prelude.{ℤ, pos, List, [], ◌∷◌, ◌++◌, Option, Some, None}
 use Rattle.mt_family.specs.declared.size.Size.{Size}
 use Rattle.mt_family.specs.SetValue.{SetValue}
@@ -30,4 +30,5 @@ lower_entries fonts size (Some l) =
     EntryKern (gap_below fonts size l.extents) ∷ EntryBox (pos 0) l ∷ EntryKern (big_op_spacing5 fonts size) ∷ []
 
 abbrev pub limits_entries : SetValue → Size → Option Layout → Layout → Option Layout → List EntryValue
-limits_entries fonts size sup nucleus sub = upper_entries fonts size sup ++ EntryBox (pos 0) nucleus ∷ lower_entries fonts size sub
+limits_entries fonts size sup nucleus sub =
+    upper_entries fonts size sup ++ EntryBox (pos 0) nucleus ∷ lower_entries fonts size sub

@@ -31,7 +31,9 @@ const SCRIPT_SPACE: i64 = 32768;
 /// scripts it is the nucleus's row.
 ///
 /// The row has at most 2^21 pieces; each number in it is at most 2^40 in size, and so is `delta`.
-/// The level of each script is at most 2^20 - 4.
+/// The level of each script is at most 2^20 - 4. Where each box in the row has a level below 2^20,
+/// and the row's height and depth are at most 2^33 in size, the answer is such a row too (the
+/// clause `modest`), which can be packed.
 ///
 /// Refused with `Overflow` of the first extent out of range of what is made in this order: the
 /// superscript and the subscript, each made wider, and with both scripts their box; and with
@@ -100,7 +102,7 @@ fn attach_sub(fonts: &FontSet, style: Style, nucleus: Row, sub: Packed) -> Resul
 {
     let shifts = shifts_beside(fonts, style, &nucleus, None, Some(sub.extents()));
     let body = widen(sub)?;
-    Ok(row_with(nucleus, lowering(shifts), body)?)
+    Ok(row_with(nucleus, raise_of_subscript(shifts), body)?)
 }
 
 #[tactic(auto, unfolding(mt_rules::specs::Scripts::row_with_scripts))]
@@ -135,11 +137,12 @@ fn attach_both(
     );
     let sup = widen(sup)?;
     let sub = widen(sub)?;
-    let both = both_scripts(alloc, delta, rise_of(shifts), sup, sub)?;
-    Ok(row_with(nucleus, lowering(shifts), both)?)
+    let both = both_scripts(alloc, delta, distance_between(shifts), sup, sub)?;
+    Ok(row_with(nucleus, raise_of_subscript(shifts), both)?)
 }
 
-// The shifts of scripts beside this row.
+// The shifts of scripts beside this row. Beside a row whose height and depth are at most 2^33 in
+// size they are at most 2^38 in size (`up_near`, `down_near`), as a row's raises have to be.
 fn shifts_beside(
     fonts: &FontSet,
     style: Style,
@@ -195,7 +198,8 @@ fn wider(extents: Extents) -> Extents
     }
 }
 
-// The row with a box more, raised by so much.
+// The row with a box more, raised by so much. It is modest where the row was, the box's level is
+// below 2^20, and the raise is at most 2^38 in size.
 fn row_with(row: Row, raise: Length, body: Packed) -> Result<Row, AllocError>
     requires { Within (2 ^ 48) raise.sp }
     ensures is { IfOk result (λ r. piece_values r ≡ piece_values row
@@ -215,7 +219,7 @@ fn row_with(row: Row, raise: Length, body: Packed) -> Result<Row, AllocError>
 
 // By how much a subscript is raised.
 #[tactic(auto, using(std::proofs::lemmas::Int::ints))]
-fn lowering(shifts: Shifts) -> Length
+fn raise_of_subscript(shifts: Shifts) -> Length
     requires { Within (2 ^ 48) shifts.down }
     ensures is { result.sp ≡ neg_ℤ shifts.down }
     ensures small { Within (2 ^ 48) result.sp }
@@ -224,9 +228,9 @@ fn lowering(shifts: Shifts) -> Length
     Length { sp: -shifts.down }
 }
 
-// How far the superscript's baseline is above the subscript's.
+// The distance between the baselines of both scripts.
 #[tactic(auto, using(std::proofs::lemmas::Int::ints))]
-fn rise_of(shifts: Shifts) -> Length
+fn distance_between(shifts: Shifts) -> Length
     requires up { Within (2 ^ 48) shifts.up }
     requires down { Within (2 ^ 48) shifts.down }
     ensures is { result.sp ≡ shifts.up +ℤ shifts.down }

@@ -129,12 +129,12 @@ fn moved_limit(
 {
     match script {
         None => Ok(None),
-        Some(body) => Ok(Some(moved(alloc, shift, recentre(body, width.sp))?)),
+        Some(body) => Ok(Some(box_to_the_right(alloc, shift, recentre(body, width.sp))?)),
     }
 }
 
 // The box with the same extents, and its places moved to the right.
-fn moved(alloc: Global, shift: Length, body: Packed) -> Result<Packed, AllocError>
+fn box_to_the_right(alloc: Global, shift: Length, body: Packed) -> Result<Packed, AllocError>
     requires shift { Within (2 ^ 40) shift.sp }
     requires level { body.level < 2 ^ 20 }
     ensures is { IfOk result (λ b. layout_of b ≡ moved_right shift.sp (layout_of body)) }

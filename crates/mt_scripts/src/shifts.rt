@@ -20,7 +20,8 @@ use mt_scaled::Length;
 ///
 /// `glyph` says whether the nucleus begins with a glyph; `nucleus` is what it reaches when it is
 /// packed, `sup` and `sub` what the scripts reach. Without a script its shift is where it would
-/// start. Heights and depths are at most 2^41 in size.
+/// start. Heights and depths are at most 2^41 in size; where they are at most 2^33 in size, the
+/// shifts are at most 2^38 in size (`up_near`, `down_near`).
 #[tactic(auto, using(std::proofs::lemmas::Int::ints))]
 pub fn script_shifts(
     fonts: &FontSet,
@@ -174,40 +175,41 @@ fn four_rules(fonts: &FontSet, style: Style) -> Length
     }
 }
 
-// What the gap between both scripts lacks, where `rules` is the least gap.
+// By how much the gap between both scripts is less than `least_gap`.
 #[tactic(auto, using(std::proofs::lemmas::Int::ints, std::proofs::lemmas::Int::clamps))]
-fn lack_of(rules: Length, up: Length, down: Length, sup: Extents, sub: Extents) -> Length
-    requires rules { Within (2 ^ 33) rules.sp }
+fn lack_of(least_gap: Length, up: Length, down: Length, sup: Extents, sub: Extents) -> Length
+    requires least_gap { Within (2 ^ 33) least_gap.sp }
     requires up { Within (2 ^ 43) up.sp }
     requires down { Within (2 ^ 43) down.sp }
     requires sup { ReachesWithin (2 ^ 41) sup }
     requires sub { ReachesWithin (2 ^ 41) sub }
     ensures is { result.sp ≡ int_max (pos 0)
-        (rules.sp -ℤ ((up.sp -ℤ sup.depth) -ℤ (sub.height -ℤ down.sp))) }
+        (least_gap.sp -ℤ ((up.sp -ℤ sup.depth) -ℤ (sub.height -ℤ down.sp))) }
     ensures small { Within (2 ^ 46) result.sp }
     ensures near { Within (2 ^ 34) up.sp → Within (2 ^ 34) down.sp
         → ReachesWithin (2 ^ 33) sup → ReachesWithin (2 ^ 33) sub → Within (2 ^ 36) result.sp }
 {
     let bottom = up.minus(Length { sp: sup.depth });
     let top = Length { sp: sub.height }.minus(down);
-    rules.minus(bottom.minus(top)).not_negative()
+    least_gap.minus(bottom.minus(top)).not_negative()
 }
 
-// How far both rise with it, where `fifths` is the least height of the superscript's bottom.
+// How far both rise, where the gap lacked something: until the superscript's bottom is at least at
+// `least_bottom`.
 #[tactic(auto, using(std::proofs::lemmas::Int::ints, std::proofs::lemmas::Int::clamps))]
-fn rise_of(fifths: Length, up: Length, sup: Extents, lack: Length) -> Length
-    requires fifths { Within (2 ^ 31) fifths.sp }
+fn rise_of(least_bottom: Length, up: Length, sup: Extents, lack: Length) -> Length
+    requires least_bottom { Within (2 ^ 31) least_bottom.sp }
     requires up { Within (2 ^ 43) up.sp }
     requires sup { ReachesWithin (2 ^ 41) sup }
     ensures is { result.sp
-        ≡ (if int_lt (pos 0) lack.sp then int_max (pos 0) (fifths.sp -ℤ (up.sp -ℤ sup.depth))
+        ≡ (if int_lt (pos 0) lack.sp then int_max (pos 0) (least_bottom.sp -ℤ (up.sp -ℤ sup.depth))
         else pos 0) }
     ensures small { Within (2 ^ 45) result.sp }
     ensures near { Within (2 ^ 34) up.sp → ReachesWithin (2 ^ 33) sup → Within (2 ^ 35) result.sp }
 {
     if lack.is_positive() {
         let bottom = up.minus(Length { sp: sup.depth });
-        fifths.minus(bottom).not_negative()
+        least_bottom.minus(bottom).not_negative()
     } else {
         Length { sp: 0 }
     }

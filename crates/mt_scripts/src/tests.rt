@@ -82,6 +82,20 @@ fn script(reach: Option<(i64, i64)>) -> Option<Extents>
     }
 }
 
+// The shifts of scripts of these heights and depths beside such a box, or else beside a letter.
+fn shifts_beside(
+    fonts: &FontSet,
+    style: Style,
+    body: Option<(i64, i64)>,
+    sup: Option<(i64, i64)>,
+    sub: Option<(i64, i64)>,
+) -> Shifts {
+    let (height, depth) = body.unwrap_or((30001, -4001));
+    let nucleus = extents(20000, height, depth);
+    let glyph = body.is_none();
+    script_shifts(fonts, style, glyph, nucleus, script(sup), script(sub))
+}
+
 #[test]
 fn shifts_of_scripts(rt: HostRuntime) -> Result<(), AllocError> {
     let fonts = odd_fonts(&rt, rt.alloc())?;
@@ -118,16 +132,7 @@ fn shifts_of_scripts(rt: HostRuntime) -> Result<(), AllocError> {
         ),
     ];
     for (style, body, sup, sub, (up, down)) in cases {
-        let (height, depth) = body.unwrap_or((30001, -4001));
-        let nucleus = extents(20000, height, depth);
-        let shifts = script_shifts(
-            &fonts,
-            style,
-            body.is_none(),
-            nucleus,
-            script(sup),
-            script(sub),
-        );
+        let shifts = shifts_beside(&fonts, style, body, sup, sub);
         assert_eq!(rt; shifts, Shifts { up, down });
     }
     Ok(())
@@ -162,7 +167,7 @@ fn letter(alloc: Global) -> Result<Row, AllocError>
 }
 
 // The box behind the nucleus: its raise, its extents, and its places.
-fn behind(rt: &impl Abort, alloc: Global, row: &Row) -> (i64, Extents, PlaceList) {
+fn box_behind(rt: &impl Abort, alloc: Global, row: &Row) -> (i64, Extents, PlaceList) {
     match row.as_slice() {
         [_, Piece::Boxed { raise, body }] => {
             let places = places(alloc, body, 0, 0, 9).expect(rt, "places");
@@ -183,7 +188,7 @@ fn both_scripts_form_a_box(rt: HostRuntime) -> Result<(), AllocError> {
         &rt, "a row",
     );
     // up 14001 and down 9001
-    let (raise, reach, places) = behind(&rt, alloc, &row);
+    let (raise, reach, places) = box_behind(&rt, alloc, &row);
     assert_eq!(rt; raise, -9001);
     assert_eq!(rt; reach, extents(34284, 23025, 5));
     let want = [glyph(1, 97, 1501, -23002), glyph(1, 98, 0, 0)];
@@ -199,13 +204,13 @@ fn a_lone_script_follows_the_nucleus(rt: HostRuntime) -> Result<(), AllocError> 
     let row = attach_scripts(alloc, &fonts, Style::T, letter(alloc)?, 7, Some(sup), None).expect(
         &rt, "a row",
     );
-    let (raise, reach, _) = behind(&rt, alloc, &row);
+    let (raise, reach, _) = box_behind(&rt, alloc, &row);
     assert_eq!(rt; (raise, reach), (14001, extents(32783, 23, -3)));
     let sub = glyph_in(&rt, alloc, 1, 98, extents(10, 9, 5));
     let row = attach_scripts(alloc, &fonts, Style::T, letter(alloc)?, 7, None, Some(sub)).expect(
         &rt, "a row",
     );
-    let (raise, reach, _) = behind(&rt, alloc, &row);
+    let (raise, reach, _) = box_behind(&rt, alloc, &row);
     assert_eq!(rt; (raise, reach), (-6001, extents(32778, 9, 5)));
     let row = attach_scripts(alloc, &fonts, Style::T, letter(alloc)?, 7, None, None).expect(
         &rt, "a row",
