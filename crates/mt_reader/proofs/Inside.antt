@@ -75,7 +75,7 @@ no_boundaries (More (MuKernElement amount) rest) h = no_boundaries rest h
 no_boundaries (More (KernElement amount) rest) h = no_boundaries rest h
 no_boundaries (More NonscriptElement rest) h = no_boundaries rest h
 
-stands : (e : Element) → stands_inside e ≡ true → StandsInside e
+pub stands : (e : Element) → stands_inside e ≡ true → StandsInside e
 stands (AtomElement kind limits nucleus sup sub) h =
     (fits kind nucleus (first_true _ _ h), no_rows sup (first_true _ _ (second_true _ _ h)), no_rows sub (second_true _ _ (second_true _ _ h)))
 stands (FractionElement thickness left right num den) h = tt

@@ -8,6 +8,14 @@ mod Standing
 mod Acting
 -- what becomes of a list where no item stands
 mod Stopping
+-- lists that go on after what was read of one of their items
+mod Continuing
+-- what a turn leaves follows from what a step of it leaves
+mod Turning
+-- what a list that is read leaves: between boundaries, of a choice, and a row
+mod Fencing
+mod Choosing
+mod Rowing
 -- parts take tokens, and never give any back
 mod Short
 -- a formula has at most four items for each of its tokens: lists, and then all else

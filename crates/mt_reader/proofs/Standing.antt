@@ -18,6 +18,7 @@ use Rattle.mt_reader.specs.Formulas.{stretch}
 use Rattle.mt_reader.specs.machine.OpenLists.{items_of, hand_of, numerator_of, Begins, Becomes, Divides}
 use Rattle.mt_reader.specs.machine.Frames.{owned, behind_owner, left_after, shifted}
 use Rattle.mt_reader.specs.machine.Stands.{finished, list_with, listed, resumed, Unwinds, Stands, behind}
+use Rattle.mt_reader.specs.machine.Turned.{Resuming}
 use Rattle.mt_reader.proofs.Inside.{append_append}
 
 -- parts one after the other
@@ -96,7 +97,7 @@ module _ (tables : CodeTables) (units : Units) where
       ∙ (ap (λ d. finished tables units again new.ending d (numerator_of l) (record { items = append (items_of new) s.items; family = s.family }) rest) (sym b.is_depth)
       ∙ ap (λ n. finished tables units again new.ending new.depth n (record { items = append (items_of new) s.items; family = s.family }) rest) (sym b.is_numerator)))
 
-  becomes_list : (n m : ℕ) (items : Sequence) (hand : Option AtomValue) (family : Option ℕ) (l new : OpenList) (rest : List Token) → Becomes items hand family l new → then_read (items_before items (stretch tables units n l.depth family hand rest)) (list_with tables units (stretch tables units m) l) ≡ listed tables units n m new rest
+  pub becomes_list : (n m : ℕ) (items : Sequence) (hand : Option AtomValue) (family : Option ℕ) (l new : OpenList) (rest : List Token) → Becomes items hand family l new → then_read (items_before items (stretch tables units n l.depth family hand rest)) (list_with tables units (stretch tables units m) l) ≡ listed tables units n m new rest
   becomes_list n m items hand family l new rest b =
       items_then (stretch tables units m) l items (stretch tables units n l.depth family hand rest)
       ∙ (then_same (stretch tables units n l.depth family hand rest) _ _ (list_same (stretch tables units m) items hand family l new b)
@@ -105,7 +106,7 @@ module _ (tables : CodeTables) (units : Units) where
       ∙ ap (λ h. then_read (stretch tables units n new.depth new.family h rest) (list_with tables units (stretch tables units m) new)) (sym b.is_hand))))
 
   -- a reading of what is left
-  stood : (whole : Read Sequence) (frames : List Frame) (new : OpenList) (n m left : ℕ) (rest : List Token) (r : Read Sequence) → length rest < n → length rest < m → Unwinds tables units frames left r whole → r ≡ listed tables units n m new rest → length rest ≤ left → Stands tables units whole frames new rest
+  pub stood : (whole : Read Sequence) (frames : List Frame) (new : OpenList) (n m left : ℕ) (rest : List Token) (r : Read Sequence) → length rest < n → length rest < m → Unwinds tables units frames left r whole → r ≡ listed tables units n m new rest → length rest ≤ left → Stands tables units whole frames new rest
   stood whole frames new n m left rest r low lowm u e h = record {
     turns = n;
     later = m;
@@ -186,16 +187,7 @@ module _ (tables : CodeTables) (units : Units) where
   finish_whole whole l ts all u e = u.is ∙ e (stretch tables units u.m)
 
   -- a list is read, and the list of its frame goes on
-  pub record Resuming (whole : Read Sequence) (f : Frame) (fs : List Frame) (all : Sequence) (ts : List Token) : Type 0 where
-    pub n : ℕ
-    pub m : ℕ
-    pub k : ℕ
-    pub enough : left_after f.owner (length ts) < n
-    pub enough_later : left_after f.owner (length ts) < m
-    pub enough_rows : left_after f.owner (length ts) < k
-    pub is : Unwinds tables units fs (left_after f.owner (length ts)) (then_read (owned tables units (stretch tables units n) f.list.depth f.list.family (hand_of f.list.hand) k f.owner all ts) (list_with tables units (stretch tables units m) f.list)) whole
-
-  pub resuming : (whole : Read Sequence) (f : Frame) (fs : List Frame) (l : OpenList) (ts : List Token) (all : Sequence) → Finishing whole (f ∷ fs) l ts → Finishes l ts (Got all ts) → Resuming whole f fs all ts
+  pub resuming : (whole : Read Sequence) (f : Frame) (fs : List Frame) (l : OpenList) (ts : List Token) (all : Sequence) → Finishing whole (f ∷ fs) l ts → Finishes l ts (Got all ts) → Resuming tables units whole f fs all ts
   resuming whole f fs l ts all u e =
       let v = subst (λ (r : Read Sequence). Unwinds tables units (f ∷ fs) (length ts) r whole) (e (stretch tables units u.m)) u.is in
       record { n = v.0; m = v.2; k = v.4; enough = v.1; enough_later = v.3; enough_rows = v.5; is = v.6 }
@@ -204,13 +196,13 @@ module _ (tables : CodeTables) (units : Units) where
   abbrev pub Gives : Frame → ℕ → Sequence → List Token → (StretchReader → Read Stretch) → Type 0
   Gives f k all ts r = (again : StretchReader) → owned tables units again f.list.depth f.list.family (hand_of f.list.hand) k f.owner all ts ≡ r again
 
-  pub resumed_put : (whole : Read Sequence) (f : Frame) (fs : List Frame) (all : Sequence) (ts after : List Token) (new : OpenList) (items : Sequence) (hand : Option AtomValue) (family : Option ℕ) → Resuming whole f fs all ts
+  pub resumed_put : (whole : Read Sequence) (f : Frame) (fs : List Frame) (all : Sequence) (ts after : List Token) (new : OpenList) (items : Sequence) (hand : Option AtomValue) (family : Option ℕ) → Resuming tables units whole f fs all ts
       → ((k : ℕ) → Gives f k all ts (λ again. items_before items (again f.list.depth family hand after))) → Becomes items hand family f.list new → length after ≤ left_after f.owner (length ts) → Stands tables units whole fs new after
   resumed_put whole f fs all ts after new items hand family u e b h =
       stood whole fs new u.n u.m (left_after f.owner (length ts)) after _ (omega (arith, h, u.enough)) (omega (arith, h, u.enough_later)) u.is
       (ap (λ r. then_read r (list_with tables units (stretch tables units u.m) f.list)) (e u.k (stretch tables units u.n)) ∙ becomes_list u.n u.m items hand family f.list new after b) h
 
-  pub resumed_fault : (whole : Read Sequence) (f : Frame) (fs : List Frame) (all : Sequence) (ts : List Token) (cause at : ℕ) → Resuming whole f fs all ts → ((k : ℕ) → left_after f.owner (length ts) < k → Gives f k all ts (λ again. Fault cause at)) → whole ≡ Fault cause (at + behind fs)
+  pub resumed_fault : (whole : Read Sequence) (f : Frame) (fs : List Frame) (all : Sequence) (ts : List Token) (cause at : ℕ) → Resuming tables units whole f fs all ts → ((k : ℕ) → left_after f.owner (length ts) < k → Gives f k all ts (λ again. Fault cause at)) → whole ≡ Fault cause (at + behind fs)
   resumed_fault whole f fs all ts cause at u e =
       faulted fs (left_after f.owner (length ts)) cause at whole (subst (λ (r : Read Stretch). Unwinds tables units fs (left_after f.owner (length ts)) (then_read r (list_with tables units (stretch tables units u.m) f.list)) whole) (e u.k u.enough_rows (stretch tables units u.n)) u.is)
 
@@ -220,7 +212,7 @@ module _ (tables : CodeTables) (units : Units) where
     pub enough : left_after owner (length inside) < rows
     pub is : Gives f k all ts (λ again. then_read (shifted (behind_owner owner) (list_after tables units again items hand ending depth family inside)) (owned tables units again f.list.depth f.list.family (hand_of f.list.hand) rows owner))
 
-  pub resumed_open : (whole : Read Sequence) (f : Frame) (fs : List Frame) (all : Sequence) (ts inside : List Token) (new : OpenList) (owner : Owner) (items : Sequence) (hand : Option AtomValue) (depth : ℕ) (family : Option ℕ) (ending : Ending) → Resuming whole f fs all ts
+  pub resumed_open : (whole : Read Sequence) (f : Frame) (fs : List Frame) (all : Sequence) (ts inside : List Token) (new : OpenList) (owner : Owner) (items : Sequence) (hand : Option AtomValue) (depth : ℕ) (family : Option ℕ) (ending : Ending) → Resuming tables units whole f fs all ts
       → ((k : ℕ) → left_after f.owner (length ts) < k → Reopens f k all ts owner inside items hand depth family ending) → Begins items hand depth family ending new
       → length inside ≤ left_after f.owner (length ts) → left_after owner (length inside) ≤ left_after f.owner (length ts) → Stands tables units whole (record { owner = owner; list = f.list } ∷ fs) new inside
   resumed_open whole f fs all ts inside new owner items hand depth family ending u e b h left =

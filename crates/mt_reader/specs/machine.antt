@@ -16,3 +16,7 @@ pub mod PutsAction
 pub mod Stops
 -- what a list that is read makes of the list in which it stands
 pub mod Resumes
+-- what a turn leaves
+pub mod Turned
+-- lists that go on after what was read of one of their items
+pub mod Continues

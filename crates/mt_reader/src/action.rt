@@ -77,7 +77,8 @@ pub enum Action {
     Stop,
 }
 
-fn missing_field(left: usize) -> Fault
+/// The fault of a token that begins no field, row or group where one must stand.
+pub fn missing_field(left: usize) -> Fault
     ensures { result ≡ record { cause = MissingField; left = left } }
 {
     Fault {
@@ -108,6 +109,7 @@ pub fn open_brace<'a>(
 ) -> Result<&'a [Token], Fault>
     ensures is { Opens result (opening codes.now is_open_brace depth tokens.now) }
     ensures falls { IfOk result (λ inside. length inside.now < length tokens.now) }
+    ensures room { IfOk result (λ inside. depth < 150) }
 {
     match tokens {
         [token, inside @ ..] => match role_of(codes, token) {

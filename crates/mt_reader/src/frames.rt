@@ -1,5 +1,5 @@
 //! The lists in which other lists are open.
-ghost use Rattle.std.specs.Prelude.{◌≡◌, [], ◌∷◌, ◌+◌, ◌<◌, ◌^◌, MatchOption, IfOk, OnOk, None, reverse};
+ghost use Rattle.std.specs.Prelude.{◌≡◌, [], ◌∷◌, ◌+◌, ◌<◌, MatchOption, IfOk, OnOk, None, length, reverse};
 ghost use Rattle.mt_rules.specs.Sequence.{End};
 ghost use Rattle.mt_reader.specs.machine.OpenLists.{Begins};
 
@@ -9,8 +9,10 @@ use crate::lists::new_list;
 use crate::open_list::OpenList;
 use std::alloc::{AllocError, Global};
 
-fn push_frame<'a>(frames: &mut Vec<Frame<'a>>, frame: Frame<'a>) -> Result<(), AllocError>
-    ensures { OnOk result (reverse frames.new.items ≡ frame.entry ∷ reverse frames.old.items) }
+/// Puts a frame inside of all others.
+pub fn push_frame<'a>(frames: &mut Vec<Frame<'a>>, frame: Frame<'a>) -> Result<(), AllocError>
+    ensures pushed { OnOk result (reverse frames.new.items ≡ frame.entry ∷ reverse frames.old.items) }
+    ensures count { OnOk result (length frames.new.items ≡ length frames.old.items + 1) }
 {
     frames.push(frame)?;
     Ok(())
@@ -31,9 +33,10 @@ pub fn open_group<'a>(
     owner: Owner<'a>,
     ending: Ending,
 ) -> Result<OpenList, AllocError>
-    requires { list.depth + 1 < 2 ^ 64 }
+    requires { list.depth < 150 }
     ensures begins { IfOk result (λ new. Begins End None (list.depth + 1) list.family ending new) }
     ensures pushed { OnOk result (reverse frames.new.items ≡ record { owner = owner.entry; list = list } ∷ reverse frames.old.items) }
+    ensures count { OnOk result (length frames.new.items ≡ length frames.old.items + 1) }
 {
     let depth = list.depth + 1;
     let family = list.family;

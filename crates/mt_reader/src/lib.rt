@@ -2,10 +2,12 @@
 #![tactic(auto)]
 
 mod action;
+mod choices;
 mod decimals;
 mod delimiters;
 mod dimensions;
 mod ending;
+mod fences;
 mod fraction;
 mod frame;
 mod frames;
@@ -20,9 +22,12 @@ mod open_list;
 mod part;
 mod resume;
 mod role;
+mod rows;
 mod spaces;
+mod stop;
 mod stops;
 mod symbols;
+mod turned;
 mod units;
 
 pub use role::{Amount, Bar, NucleusKind, Role, Side, Simple, role_of};

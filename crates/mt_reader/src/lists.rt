@@ -1,5 +1,5 @@
 //! What becomes of a list that is open.
-ghost use Rattle.std.specs.Prelude.{◌≡◌, IfOk, Some, None, true, false};
+ghost use Rattle.std.specs.Prelude.{◌≡◌, ◌≤◌, IfOk, Some, None, true, false};
 ghost use Rattle.mt_rules.specs.Sequence.{End, More, FractionElement};
 ghost use Rattle.mt_reader.specs.Role.{simple_element};
 ghost use Rattle.mt_rules.specs.View.{element_of, part_of_field};
@@ -22,6 +22,7 @@ use std::alloc::{AllocError, Global};
 
 /// A list that begins.
 pub fn new_list(alloc: Global, depth: usize, family: Option<u8>, ending: Ending) -> OpenList
+    requires { depth ≤ 150 }
     ensures { Begins End None depth family ending result }
 {
     OpenList {

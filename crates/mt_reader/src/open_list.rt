@@ -1,4 +1,5 @@
 //! A list that is open.
+ghost use Rattle.std.specs.Prelude.{◌≤◌};
 
 use crate::ending::Ending;
 use crate::fraction::FractionHead;
@@ -22,7 +23,7 @@ pub struct OpenList {
     pub items: InnerItems,
     /// The last item, where it is an atom that may still get scripts.
     pub hand: Option<Hand>,
-    /// How many groups are open in it.
+    /// How many groups are open round it, at most 150.
     pub depth: usize,
     /// The current family.
     pub family: Option<u8>,
@@ -30,4 +31,5 @@ pub struct OpenList {
     pub ending: Ending,
     /// The fraction that divides it.
     pub numerator: Option<Numerator>,
+    ghost few_groups: { depth ≤ 150 },
 }
