@@ -16,6 +16,8 @@ mod Turning
 mod Fencing
 mod Choosing
 mod Rowing
+-- primes, and the argument after them
+mod Priming
 -- parts take tokens, and never give any back
 mod Short
 -- a formula has at most four items for each of its tokens: lists, and then all else

@@ -20,3 +20,7 @@ pub mod Resumes
 pub mod Turned
 -- lists that go on after what was read of one of their items
 pub mod Continues
+-- the argument after primes
+pub mod Arguments
+-- how much there is still to read
+pub mod Remaining

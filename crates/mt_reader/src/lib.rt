@@ -2,6 +2,7 @@
 #![tactic(auto)]
 
 mod action;
+mod argument;
 mod choices;
 mod decimals;
 mod delimiters;
@@ -20,6 +21,7 @@ mod nuclei;
 mod numbers;
 mod open_list;
 mod part;
+mod primes;
 mod resume;
 mod role;
 mod rows;

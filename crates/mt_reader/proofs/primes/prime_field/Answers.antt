@@ -1,0 +1,9 @@
+use Rattle.std.proofs.Common.{ap, sym, ◌∙◌}
+use Rattle.mt_rules.specs.Sequence.{ListPart}
+use Rattle.mt_reader.specs.Atoms.{append, hand_items}
+use Rattle.mt_reader.specs.machine.OpenLists.{items_of, hand_of, finished_items}
+use Rattle.mt_reader.proofs.Priming.{all_primes}
+use Rattle.mt_reader.proofs.primes.prime_field.Goals as goal
+
+pub returns : goal.returns
+returns c = ap ListPart (c.into_list.ensures ∙ (c.in_ok-finish_items.ensures ∙ all_primes c.in_ok-list.list c.args.count c.in_ok-list.ensures))
