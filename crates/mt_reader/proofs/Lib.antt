@@ -12,10 +12,15 @@ mod Stopping
 mod Continuing
 -- what a turn leaves follows from what a step of it leaves
 mod Turning
--- what a list that is read leaves: between boundaries, of a choice, and a row
+-- how much there is still to read where lists open and end
+mod Remaining
+-- actions that open a list
+mod Opening
+-- what a list that is read leaves: between boundaries, of a choice, a row, and any other
 mod Fencing
 mod Choosing
 mod Rowing
+mod Closing
 -- primes, and the argument after them
 mod Priming
 -- parts take tokens, and never give any back

@@ -22,5 +22,7 @@ pub mod Turned
 pub mod Continues
 -- the argument after primes
 pub mod Arguments
+-- actions that open a list
+pub mod Openings
 -- how much there is still to read
 pub mod Remaining

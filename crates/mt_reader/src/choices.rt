@@ -4,6 +4,7 @@ ghost use Rattle.mt_scaled.specs.declared.unit.Units.{Units};
 ghost use Rattle.mt_reader.specs.declared.frame.Owner.TheVariants.{Choice};
 ghost use Rattle.mt_reader.specs.machine.OpenLists.{inner_sequence};
 ghost use Rattle.mt_reader.specs.machine.Continues.{Continues, list_of_choice};
+ghost use Rattle.mt_reader.specs.machine.Remaining.{remaining};
 ghost use Rattle.mt_reader.specs.machine.Turned.{Resumes};
 
 use crate::action::open_brace;
@@ -33,9 +34,8 @@ fn open_next<'a>(
         Continues codes.now units (reverse frames.old.items) list (length tokens.now)
         (list_of_choice codes.now units list lists tokens.now)
         result (reverse frames.new.items) }
-    ensures falls { IfOk result (λ turned. length turned.rest.now ≤ length tokens.now) }
-    ensures takes { IfOk result (λ turned. length turned.rest.now + length frames.new.items
-        ≤ length tokens.now + length frames.old.items) }
+    ensures falls { IfOk result (λ turned. remaining (reverse frames.new.items) (length turned.rest.now)
+        ≤ remaining (reverse frames.old.items) (length tokens.now)) }
 {
     match open_brace(codes, list.depth, after_spaces(tokens)) {
         Ok(inside) => {
@@ -65,9 +65,8 @@ pub fn close_choice<'a>(
         Resumes codes.now units (record { owner = Choice lists; list = list }) (reverse frames.old.items)
         (inner_sequence all) tokens.now
         result (reverse frames.new.items) }
-    ensures falls { IfOk result (λ turned. length turned.rest.now ≤ length tokens.now) }
-    ensures takes { IfOk result (λ turned. length turned.rest.now + length frames.new.items
-        ≤ length tokens.now + length frames.old.items) }
+    ensures falls { IfOk result (λ turned. remaining (reverse frames.new.items) (length turned.rest.now)
+        ≤ remaining (reverse frames.old.items) (length tokens.now)) }
 {
     let after = after_first(tokens);
     match lists {

@@ -4,6 +4,7 @@
 mod action;
 mod argument;
 mod choices;
+mod closings;
 mod decimals;
 mod delimiters;
 mod dimensions;
@@ -20,6 +21,7 @@ mod lists;
 mod nuclei;
 mod numbers;
 mod open_list;
+mod openings;
 mod part;
 mod primes;
 mod resume;

@@ -13,6 +13,7 @@ ghost use Rattle.mt_reader.specs.machine.Frames.{append_rows};
 ghost use Rattle.mt_reader.specs.machine.OpenLists.{inner_sequence};
 ghost use Rattle.mt_reader.specs.machine.Continues.{next_row_begins, first_row_begins, later_row_begins, brace_closes, row_ends, row_opens, TurnsRows};
 ghost use Rattle.mt_reader.specs.machine.Resumes.{ResumesRows};
+ghost use Rattle.mt_reader.specs.machine.Remaining.{remaining};
 ghost use Rattle.mt_reader.specs.machine.Turned.{Performs, Resumes};
 
 use crate::action::{missing_field, open_brace, room};
@@ -166,9 +167,8 @@ fn open_row<'a>(
     ensures is { (units : Units) →
         TurnsRows codes.now units (reverse frames.old.items) list (rows_of done.items) true tokens.now
         result (reverse frames.new.items) }
-    ensures falls { IfOk result (λ turned. length turned.rest.now ≤ length tokens.now) }
-    ensures takes { IfOk result (λ turned. length turned.rest.now + length frames.new.items
-        ≤ length tokens.now + length frames.old.items) }
+    ensures falls { IfOk result (λ turned. remaining (reverse frames.new.items) (length turned.rest.now)
+        ≤ remaining (reverse frames.old.items) (length tokens.now)) }
 {
     let depth = list.depth + 1;
     match open_row_list(codes, depth, tokens) {
@@ -202,9 +202,8 @@ fn next_row<'a>(
     ensures is { (units : Units) →
         TurnsRows codes.now units (reverse frames.old.items) list (rows_of done.items) begins tokens.now
         result (reverse frames.new.items) }
-    ensures falls { IfOk result (λ turned. length turned.rest.now ≤ length tokens.now) }
-    ensures takes { IfOk result (λ turned. length turned.rest.now + length frames.new.items
-        ≤ length tokens.now + length frames.old.items) }
+    ensures falls { IfOk result (λ turned. remaining (reverse frames.new.items) (length turned.rest.now)
+        ≤ remaining (reverse frames.old.items) (length tokens.now)) }
 {
     if begins {
         open_row(alloc, codes, frames, list, done, tokens)
@@ -228,9 +227,8 @@ pub fn open_rows<'a>(
     ensures is { (units : Units) →
         Performs codes.now units (reverse frames.old.items) list Rows tokens.now
         result (reverse frames.new.items) }
-    ensures falls { IfOk result (λ turned. length turned.rest.now ≤ length tokens.now) }
-    ensures takes { IfOk result (λ turned. length turned.rest.now + length frames.new.items
-        ≤ length tokens.now + length frames.old.items) }
+    ensures falls { IfOk result (λ turned. remaining (reverse frames.new.items) (length turned.rest.now)
+        ≤ remaining (reverse frames.old.items) (length tokens.now)) }
 {
     match first_row_begins(codes, tokens) {
         Ok(row) => next_row(
@@ -261,9 +259,8 @@ pub fn close_row<'a>(
         Resumes codes.now units (record { owner = Row done; list = list }) (reverse frames.old.items)
         (inner_sequence all) tokens.now
         result (reverse frames.new.items) }
-    ensures falls { IfOk result (λ turned. length turned.rest.now ≤ length tokens.now) }
-    ensures takes { IfOk result (λ turned. length turned.rest.now + length frames.new.items
-        ≤ length tokens.now + length frames.old.items) }
+    ensures falls { IfOk result (λ turned. remaining (reverse frames.new.items) (length turned.rest.now)
+        ≤ remaining (reverse frames.old.items) (length tokens.now)) }
 {
     match row_ends(codes, after_first(tokens)) {
         Ok(row) => {

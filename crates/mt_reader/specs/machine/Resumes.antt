@@ -7,6 +7,7 @@ use Rattle.mt_rules.specs.Sequence.{Sequence, Rows, End, More, ListPart, RowsPar
 use Rattle.mt_reader.specs.declared.open_list.OpenList.{OpenList}
 use Rattle.mt_reader.specs.declared.role.NucleusKind.{NucleusKind}
 use Rattle.mt_reader.specs.declared.role.Side.{Side}
+use Rattle.mt_reader.specs.declared.role.Side.TheVariants.{Up}
 use Rattle.mt_reader.specs.Role.{nucleus_kind}
 use Rattle.mt_reader.specs.Atoms.{InGroup, append, hand_items, nucleus_atom, nucleus_of, plain_atom, with_script}
 use Rattle.mt_reader.specs.Groups.{between_boundaries}
@@ -28,3 +29,6 @@ ResumesChoice display text script small l new =
 
 abbrev pub ResumesRows : Rows → OpenList → OpenList → Type 0
 ResumesRows rows l new = Becomes (hand_items (hand_of l.hand)) (Some (plain_atom Vcenter (RowsPart rows))) l.family l new
+
+abbrev pub ResumesArgument : Sequence → OpenList → OpenList → Type 0
+ResumesArgument all l new = Becomes End (Some (with_script Up (ListPart all) (hand_of l.hand))) l.family l new

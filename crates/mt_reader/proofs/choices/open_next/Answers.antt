@@ -1,4 +1,5 @@
-use Rattle.std.proofs.Common.{reverse}
+use Rattle.std.proofs.Common.{arith, length, refl, reverse}
+use Rattle.mt_reader.proofs.Remaining.{pushed_remaining}
 use Rattle.mt_reader.proofs.Choosing.{next_opened, next_fault}
 use Rattle.mt_reader.proofs.choices.open_next.Goals as goal
 
@@ -10,3 +11,8 @@ returns-in_ok-inner-in-Ok-clause-is c = λ units whole u.
 pub returns-in-Err-clause-is : goal.returns-in-Err-clause-is
 returns-in-Err-clause-is c = λ units whole u.
     next_fault c.args.codes.now units whole (reverse c.args.frames.now.items) c.args.list c.args.lists c.args.tokens.now c.after_spaces.result.now u c.after_spaces.ensures.is _ _ c.in-Err.ensures.is
+
+pub returns-in_ok-inner-in-Ok-clause-falls : goal.returns-in_ok-inner-in-Ok-clause-falls
+returns-in_ok-inner-in-Ok-clause-falls c =
+    pushed_remaining (reverse c.args.frames.now.items) (reverse c.open_group.new.frames.items) _ (length c.in-Ok.inside.now) (length c.args.tokens.now)
+    c.in_ok-inner-in-Ok.ensures.pushed refl (omega (arith, c.in-Ok.ensures.falls, c.after_spaces.ensures.falls))

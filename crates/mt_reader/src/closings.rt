@@ -1,0 +1,108 @@
+//! What becomes of a list when one in it ends.
+ghost use Rattle.std.specs.Prelude.{◌≡◌, ◌≤◌, List, length, reverse, IfOk};
+ghost use Rattle.mt_plain.specs.CodeTables.{CodeTables};
+ghost use Rattle.mt_scaled.specs.declared.unit.Units.{Units};
+ghost use Rattle.mt_reader.specs.declared.frame.Frame.{Frame};
+ghost use Rattle.mt_reader.specs.declared.frame.Owner.TheVariants.{Nucleus, Script};
+ghost use Rattle.mt_reader.specs.machine.Frames.{left_after};
+ghost use Rattle.mt_reader.specs.machine.OpenLists.{inner_sequence};
+ghost use Rattle.mt_reader.specs.machine.Remaining.{remaining};
+ghost use Rattle.mt_reader.specs.machine.Resumes.{ResumesArgument};
+ghost use Rattle.mt_reader.specs.machine.Turned.{Resumes};
+
+use crate::choices::close_choice;
+use crate::fences::close_fence;
+use crate::frame::{Frame, Owner};
+use crate::inner_items::InnerItems;
+use crate::items::into_list;
+use crate::lists::put_script;
+use crate::open_list::OpenList;
+use crate::part::{Fault, ReadCause};
+use crate::resume::{after_first, resume_nucleus, resume_script};
+use crate::role::{NucleusKind, Side};
+use crate::rows::close_row;
+use crate::stop::Stop;
+use crate::turned::Turned;
+use mt_plain::Codes;
+use mt_rules::Field;
+use mt_token::Token;
+use std::alloc::Global;
+
+// A group ends that is the nucleus of an atom of this kind.
+fn close_nucleus<'a>(
+    alloc: Global,
+    list: OpenList,
+    kind: NucleusKind,
+    all: InnerItems,
+    tokens: &'a [Token],
+) -> Result<Turned<'a>, Stop>
+    ensures is { (tables : CodeTables) (units : Units) (outer : List Frame) →
+        Resumes tables units (record { owner = Nucleus kind; list = list }) outer
+        (inner_sequence all) tokens.now result outer }
+    ensures falls { IfOk result (λ turned. length turned.rest.now ≤ length tokens.now) }
+{
+    Ok(Turned {
+        list: resume_nucleus(alloc, list, kind, all)?,
+        rest: after_first(tokens),
+    })
+}
+
+// A group ends that is a script.
+fn close_script<'a>(
+    list: OpenList,
+    side: Side,
+    all: InnerItems,
+    tokens: &'a [Token],
+) -> Result<Turned<'a>, Stop>
+    ensures is { (tables : CodeTables) (units : Units) (outer : List Frame) →
+        Resumes tables units (record { owner = Script side; list = list }) outer
+        (inner_sequence all) tokens.now result outer }
+    ensures falls { IfOk result (λ turned. length turned.rest.now ≤ length tokens.now) }
+{
+    Ok(Turned {
+        list: resume_script(list, side, all),
+        rest: after_first(tokens),
+    })
+}
+
+// The argument ends of a superscript that primes begin, with these tokens behind it.
+fn close_argument<'a>(list: OpenList, all: InnerItems, after: &'a [Token]) -> Turned<'a>
+    ensures list { ResumesArgument (inner_sequence all) list result.list }
+    ensures rest { result.rest ≡ after.entry }
+{
+    Turned {
+        list: put_script(list, Side::Up, Field::List(into_list(all))),
+        rest: after,
+    }
+}
+
+/// What becomes of the list of a frame when the one in it ends, with these items: by what that one
+/// is read for, its token at the end is dropped and what must follow is read.
+pub fn close_list<'a>(
+    alloc: Global,
+    codes: &Codes,
+    frames: &mut Vec<Frame<'a>>,
+    frame: Frame<'a>,
+    all: InnerItems,
+    tokens: &'a [Token],
+) -> Result<Turned<'a>, Stop>
+    ensures is { (units : Units) →
+        Resumes codes.now units frame.entry (reverse frames.old.items)
+        (inner_sequence all) tokens.now result (reverse frames.new.items) }
+    ensures falls { IfOk result (λ turned. remaining (reverse frames.new.items) (length turned.rest.now)
+        ≤ remaining (reverse frames.old.items) (left_after frame.entry.owner (length tokens.now))) }
+{
+    let Frame { owner, list } = frame;
+    match owner {
+        Owner::Nucleus(kind) => close_nucleus(alloc, list, kind, all, tokens),
+        Owner::Script(side) => close_script(list, side, all, tokens),
+        Owner::Fence(left) => close_fence(alloc, codes, list, left, all, tokens),
+        Owner::Choice(lists) => close_choice(alloc, codes, frames, list, lists, all, tokens),
+        Owner::Row(done) => close_row(alloc, codes, frames, list, done, all, tokens),
+        Owner::Argument(after, _) => Ok(close_argument(list, all, after)),
+        Owner::OpenArgument => Err(Stop::Fault(Fault {
+            cause: ReadCause::Unbalanced,
+            left: 0,
+        })),
+    }
+}
