@@ -2,3 +2,11 @@
 pub mod Made
 -- lines over and under a body
 pub mod Ruled
+-- along the next larger characters of an accent
+pub mod Widest
+-- an accent over a body
+pub mod Accenting
+-- the symbol of an accent, and its character
+pub mod Finding
+-- lines one below another
+pub mod Lining
