@@ -1,11 +1,13 @@
 //! Parts of the example fonts, reckoned by hand.
-ghost use Rattle.std.specs.Prelude.{All, IfOk, ◌≡◌};
+ghost use Rattle.std.specs.Prelude.{All, IfOk, IsOk, IsTrue, length, ◌≡◌, ◌≤◌, ◌+◌, ◌^◌};
 ghost use Rattle.mt_family.specs.ListFacts.{IsFontLine};
 ghost use Rattle.mt_family.specs.SetValue.{AreLoaded};
+ghost use Rattle.mt_rules.specs.Symbols.{find_symbol};
 
-use crate::{overline_box, underline_box};
+use crate::{accent_box, overline_box, underline_box, vcenter_box};
 use mt_box::{Extents, Packed, Place, glyph_box, places};
 use mt_family::{FontLine, FontSet, Fonts, Size, read_font_list};
+use mt_rules::{PackedList, Symbol};
 use mt_samples::{Toy, toy_list, toy_tfm};
 use mt_tfm::read_tfm;
 use std::alloc::{AllocError, Global};
@@ -88,5 +90,106 @@ fn a_rule_under_a_letter(rt: HostRuntime) -> Result<(), Fail> {
     let body = underline_box(alloc, &fonts, Size::Text, letter(&rt, alloc)).expect(&rt, "a box");
     let page = places(alloc, &body, 0, body.extents().height, 2).expect(&rt, "two places");
     assert_eq!(rt; page.as_slice(), [glyph(327680), rule(491520)].as_slice());
+    Ok(())
+}
+
+// Whether a symbol is found at a size.
+fn is_found(fonts: &FontSet, size: Size, symbol: Symbol) -> bool
+    ensures { IsTrue result → IsOk (find_symbol fonts.now size symbol) }
+{
+    let Some(number) = fonts.number_of(symbol.fam, size) else {
+        return false;
+    };
+    match fonts.font(number) {
+        Some(font) => font.exists(symbol.code),
+        None => false,
+    }
+}
+
+// The first of the wide accents in the toy extension font over this letter, moved right by 7sp.
+fn wide_accent(rt: &impl Abort, alloc: Global, letter: Packed) -> Result<Packed, AllocError>
+    requires { letter.level ≡ 1 }
+{
+    let fonts = toy_fonts(rt, alloc)?;
+    let accent = Symbol { fam: 3, code: 98 };
+    if !is_found(&fonts, Size::Text, accent) {
+        return rt.abort();
+    }
+    let plain = letter.extents();
+    Ok(accent_box(alloc, &fonts, Size::Text, accent, 7, plain, letter).expect(rt, "a box"))
+}
+
+fn accented(code: u8, h: i64, v: i64) -> [Place; 2] {
+    let accent = Place::Glyph {
+        font: 9,
+        code,
+        h,
+        v,
+    };
+    [accent, glyph(0)]
+}
+
+#[test]
+fn an_accent_over_a_letter(rt: HostRuntime) -> Result<(), Fail> {
+    let alloc = rt.alloc();
+    // as wide as the next larger accent, and 40960 higher than the font's x-height
+    let wide = Extents {
+        width: 655360,
+        height: 368640,
+        depth: 0,
+    };
+    let letter_m = glyph_box(alloc, 3, 97, wide).expect(&rt, "a letter");
+    let body = wide_accent(&rt, alloc, letter_m)?;
+    assert!(rt;
+        body.extents()
+            == Extents {
+                height: 532480,
+                ..wide
+            }
+    );
+    let page = places(alloc, &body, 0, 0, 2).expect(&rt, "two places");
+    assert_eq!(rt; page.as_slice(), accented(99, 7, -40960).as_slice());
+    // an accent that is wider than its letter
+    let body = wide_accent(&rt, alloc, letter(&rt, alloc))?;
+    let page = places(alloc, &body, 0, 0, 2).expect(&rt, "two places");
+    assert_eq!(rt; page.as_slice(), accented(98, -20473, 0).as_slice());
+    Ok(())
+}
+
+// The letter a, and a letter b that is higher.
+fn two_rows(rt: &impl Abort, alloc: Global) -> Result<PackedList, AllocError>
+    ensures few { IfOk result (λ rows. length rows ≤ 2 ^ 20) }
+    ensures levels { IfOk result (All (λ b. b.level + 4 ≤ 2 ^ 20)) }
+{
+    let high = Extents {
+        width: 655360,
+        height: 400000,
+        depth: 7,
+    };
+    let second = glyph_box(alloc, 3, 98, high).expect(rt, "a letter");
+    Ok(PackedList::from_vec(vec![in alloc; letter(rt, alloc), second]?))
+}
+
+#[test]
+fn two_rows_about_the_axis(rt: HostRuntime) -> Result<(), Fail> {
+    let alloc = rt.alloc();
+    let fonts = toy_fonts(&rt, alloc)?;
+    let rows = two_rows(&rt, alloc)?;
+    let body = vcenter_box(alloc, &fonts, Size::Text, rows).expect(&rt, "a box");
+    // 386432 between the rows, 1114119 in all, and the axis at 163840
+    let want = Extents {
+        width: 655360,
+        height: 720900,
+        depth: 393219,
+    };
+    assert!(rt; body.extents() == want);
+    let page = places(alloc, &body, 0, 0, 2).expect(&rt, "two places");
+    let second = Place::Glyph {
+        font: 3,
+        code: 98,
+        h: 0,
+        v: 393212,
+    };
+    assert_eq!(rt; page.as_slice(), [glyph(-393220), second].as_slice());
     Ok(())
 }
