@@ -23,11 +23,15 @@ mod Rowing
 mod Closing
 -- primes, and the argument after them
 mod Priming
+-- what a turn gives
+mod Proceeding
 -- parts take tokens, and never give any back
 mod Short
 -- a formula has at most four items for each of its tokens: lists, and then all else
 mod Bounds
 mod ItemBounds
+-- the reading of a formula, of a list and perhaps of another one at its side
+mod FormulaReading
 -- what worked formulas are written with
 mod Writing
 -- worked formulas

@@ -18,6 +18,7 @@ use Rattle.mt_reader.specs.Formulas.{stretch}
 use Rattle.mt_reader.specs.machine.OpenLists.{items_of, hand_of, numerator_of, Begins, Becomes, Divides}
 use Rattle.mt_reader.specs.machine.Frames.{owned, behind_owner, left_after, shifted}
 use Rattle.mt_reader.specs.machine.Stands.{finished, list_with, listed, resumed, Unwinds, Stands, behind}
+use Rattle.mt_reader.specs.machine.Progressing.{Finishing, Finishes}
 use Rattle.mt_reader.specs.machine.Turned.{Resuming}
 use Rattle.mt_reader.proofs.Inside.{append_append}
 
@@ -161,13 +162,8 @@ module _ (tables : CodeTables) (units : Units) where
       }
 
   -- a list ends where no item stands
-  pub record Finishing (whole : Read Sequence) (frames : List Frame) (l : OpenList) (ts : List Token) : Type 0 where
-    pub m : ℕ
-    pub enough : length ts < m
-    pub is : Unwinds tables units frames (length ts) (list_with tables units (stretch tables units m) l (record { items = hand_items (hand_of l.hand); family = l.family }) ts) whole
-
   pub finishing : (whole : Read Sequence) (frames : List Frame) (l : OpenList) (ts : List Token) → Stands tables units whole frames l ts
-      → ((again : StretchReader) → turn tables units again l.depth l.family (hand_of l.hand) ts ≡ Got (record { items = hand_items (hand_of l.hand); family = l.family }) ts) → Finishing whole frames l ts
+      → ((again : StretchReader) → turn tables units again l.depth l.family (hand_of l.hand) ts ≡ Got (record { items = hand_items (hand_of l.hand); family = l.family }) ts) → Finishing tables units whole frames l ts
   finishing whole frames l ts g e =
       let u = turning whole frames l ts g in
       record {
@@ -176,18 +172,14 @@ module _ (tables : CodeTables) (units : Units) where
         is = subst (λ (r : Read Stretch). Unwinds tables units frames (length ts) (then_read r (list_with tables units (stretch tables units u.m) l)) whole) (e (stretch tables units u.n)) u.is;
       }
 
-  -- what a list gives at its end
-  abbrev pub Finishes : OpenList → List Token → Read Sequence → Type 0
-  Finishes l ts r = (again : StretchReader) → list_with tables units again l (record { items = hand_items (hand_of l.hand); family = l.family }) ts ≡ r
-
-  pub finish_fault : (whole : Read Sequence) (frames : List Frame) (l : OpenList) (ts : List Token) (cause at : ℕ) → Finishing whole frames l ts → Finishes l ts (Fault cause at) → whole ≡ Fault cause (at + behind frames)
+  pub finish_fault : (whole : Read Sequence) (frames : List Frame) (l : OpenList) (ts : List Token) (cause at : ℕ) → Finishing tables units whole frames l ts → Finishes tables units l ts (λ again. Fault cause at) → whole ≡ Fault cause (at + behind frames)
   finish_fault whole frames l ts cause at u e = faulted frames (length ts) cause at whole (subst (λ (r : Read Sequence). Unwinds tables units frames (length ts) r whole) (e (stretch tables units u.m)) u.is)
 
-  pub finish_whole : (whole : Read Sequence) (l : OpenList) (ts : List Token) (all : Sequence) → Finishing whole [] l ts → Finishes l ts (Got all ts) → whole ≡ Got all ts
+  pub finish_whole : (whole : Read Sequence) (l : OpenList) (ts : List Token) (all : Sequence) → Finishing tables units whole [] l ts → Finishes tables units l ts (λ again. Got all ts) → whole ≡ Got all ts
   finish_whole whole l ts all u e = u.is ∙ e (stretch tables units u.m)
 
   -- a list is read, and the list of its frame goes on
-  pub resuming : (whole : Read Sequence) (f : Frame) (fs : List Frame) (l : OpenList) (ts : List Token) (all : Sequence) → Finishing whole (f ∷ fs) l ts → Finishes l ts (Got all ts) → Resuming tables units whole f fs all ts
+  pub resuming : (whole : Read Sequence) (f : Frame) (fs : List Frame) (l : OpenList) (ts : List Token) (all : Sequence) → Finishing tables units whole (f ∷ fs) l ts → Finishes tables units l ts (λ again. Got all ts) → Resuming tables units whole f fs all ts
   resuming whole f fs l ts all u e =
       let v = subst (λ (r : Read Sequence). Unwinds tables units (f ∷ fs) (length ts) r whole) (e (stretch tables units u.m)) u.is in
       record { n = v.0; m = v.2; k = v.4; enough = v.1; enough_later = v.3; enough_rows = v.5; is = v.6 }
@@ -242,7 +234,7 @@ module _ (tables : CodeTables) (units : Units) where
           ∙ (ap (λ e. list_end tables units e (fraction_list head (append (items_of l) (hand_items (hand_of l.hand))) (append (items_of new) s.items)) after) (sym d.is_ending)
           ∙ ap (λ n. finished tables units again new.ending new.depth n (record { items = append (items_of new) s.items; family = s.family }) after) (sym d.is_numerator))
 
-  pub divides : (whole : Read Sequence) (frames : List Frame) (l new : OpenList) (ts after : List Token) (head : FractionHead) → Finishing whole frames l ts
+  pub divides : (whole : Read Sequence) (frames : List Frame) (l new : OpenList) (ts after : List Token) (head : FractionHead) → Finishing tables units whole frames l ts
       → ((again : StretchReader) → list_with tables units again l (record { items = hand_items (hand_of l.hand); family = l.family }) ts ≡ denominator tables units again l.ending l.depth (record { items = append (items_of l) (hand_items (hand_of l.hand)); family = l.family }) head after)
       → Divides head l new → length after ≤ length ts → Stands tables units whole frames new after
   divides whole frames l new ts after head u e d h =

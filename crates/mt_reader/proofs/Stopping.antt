@@ -14,7 +14,7 @@ use Rattle.mt_reader.specs.Role.{role_of}
 use Rattle.mt_reader.specs.Parts.{Got, Fault, then_read}
 use Rattle.mt_reader.specs.Atoms.{append, hand_items}
 use Rattle.mt_reader.specs.Lists.{StretchReader, Stretch, ends_with_tokens, ends_at, stray_cause, fraction_head, list_end, after_stretch_at, denominator}
-use Rattle.mt_reader.specs.machine.OpenLists.{items_of, hand_of, NumeratorValue, numerator_of, finished_items}
+use Rattle.mt_reader.specs.machine.OpenLists.{items_of, hand_of, NumeratorValue, numerator_of, finished_items, all_items}
 use Rattle.mt_reader.specs.machine.Stands.{finished, list_with}
 use Rattle.mt_reader.specs.machine.Stops.{divides_at}
 
@@ -32,10 +32,6 @@ module _ (tables : CodeTables) (units : Units) where
     finished_end : (n : Option NumeratorValue) (s : Stretch) → finished tables units again ending depth n s [] ≡ list_end tables units ending (finished_items n s.items) []
     finished_end None s = refl
     finished_end (Some n) s = refl
-
-  -- all that a list has
-  abbrev pub all_items : OpenList → Sequence
-  all_items l = finished_items (numerator_of l) (append (items_of l) (hand_items (hand_of l.hand)))
 
   abbrev last_stretch : OpenList → Stretch
   last_stretch l = record { items = hand_items (hand_of l.hand); family = l.family }

@@ -30,6 +30,8 @@ pub mod Rows
 pub mod Items
 -- the reading of a formula
 pub mod Formulas
+-- what the reading of a formula answers
+pub mod Answers
 -- how many items a list has
 pub mod Counts
 -- documents

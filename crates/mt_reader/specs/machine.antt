@@ -26,3 +26,7 @@ pub mod Arguments
 pub mod Openings
 -- how much there is still to read
 pub mod Remaining
+-- what a turn gives
+pub mod Progressing
+-- what the reading of a list answers
+pub mod Reads

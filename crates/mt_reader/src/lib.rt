@@ -10,6 +10,7 @@ mod delimiters;
 mod dimensions;
 mod ending;
 mod fences;
+mod formula;
 mod fraction;
 mod frame;
 mod frames;
@@ -23,7 +24,11 @@ mod numbers;
 mod open_list;
 mod openings;
 mod part;
+mod perform;
 mod primes;
+mod progress;
+mod read_error;
+mod reading;
 mod resume;
 mod role;
 mod rows;
@@ -31,9 +36,12 @@ mod spaces;
 mod stop;
 mod stops;
 mod symbols;
+mod turn;
 mod turned;
 mod units;
 
+pub use formula::read_formula;
+pub use read_error::ReadError;
 pub use role::{Amount, Bar, NucleusKind, Role, Side, Simple, role_of};
 
 #[cfg(test)]

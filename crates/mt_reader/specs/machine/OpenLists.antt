@@ -90,3 +90,7 @@ pub record Divides (head : FractionHead) (l new : OpenList) : Type 0 where
 abbrev pub finished_items : Option NumeratorValue → Sequence → Sequence
 finished_items None items = items
 finished_items (Some n) items = fraction_list n.0 n.1 items
+
+-- all that a list has
+abbrev pub all_items : OpenList → Sequence
+all_items l = finished_items (numerator_of l) (append (items_of l) (hand_items (hand_of l.hand)))
