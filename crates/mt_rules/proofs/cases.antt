@@ -13,3 +13,4 @@ mod OperatorCases
 mod AccentCases
 mod PartCases
 mod ToyCases
+mod ModestCases

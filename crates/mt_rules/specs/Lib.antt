@@ -6,6 +6,8 @@ pub mod Rows
 pub mod View
 -- what every math list keeps
 pub mod Facts
+-- lists that can be set within bounds
+pub mod Modest
 -- styles by their numbers
 pub mod Styles
 -- the classes of atoms
