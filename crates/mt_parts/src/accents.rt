@@ -21,12 +21,12 @@ use mt_tfm::Font;
 use std::alloc::{AllocError, Global};
 
 /// A nucleus with an accent over it. `plain` is what the nucleus reaches without its scripts, in
-/// range, and the body has those that belong under the accent. `skew` moves the accent to the right,
-/// and is at most 2^38 in size. The accent's symbol is found at this size.
+/// range, and the body has those that belong under the accent. `skew` moves the accent to the
+/// right, and is at most 2^38 in size. The accent's symbol is found at this size.
 ///
-/// The accent is the symbol's character, or one of its next larger ones: as far along as they exist
-/// and are not wider than `plain`. With its italic correction it stands in the middle of that width.
-/// The width and the depth are those of the body. The body's level is at most 2^20 - 4.
+/// The accent is the symbol's character, or one of its next larger ones: as far along as they
+/// exist and are not wider than `plain`. With its italic correction it stands in the middle of that
+/// width. The width and the depth are those of the body. The body's level is at most 2^20 - 4.
 ///
 /// Refused with `Overflow` of the first extent out of range of the accent's glyph, and then of the
 /// whole; and with `OutOfMemory`.
@@ -234,7 +234,8 @@ fn accented_row(
     requires level { body.level + 4 ≤ 2 ^ 20 }
     ensures is { IfOk result (λ row. piece_values row
         ≡ PieceKern x.sp ∷ PieceBox y.sp (layout_of accent)
-        ∷ PieceKern (neg_ℤ (x.sp +ℤ accent.extents.width)) ∷ PieceBox (pos 0) (layout_of body) ∷ []) }
+        ∷ PieceKern (neg_ℤ (x.sp +ℤ accent.extents.width))
+        ∷ PieceBox (pos 0) (layout_of body) ∷ []) }
     ensures modest { IfOk result AllModest }
     ensures few { IfOk result (λ row. length row ≡ 4) }
     ensures level { IfOk result (λ row. row_level row ≡ max body.level 1 + 1) }

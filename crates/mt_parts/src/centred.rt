@@ -1,5 +1,5 @@
-//! Rows one below another, centred on the axis (The TeXbook, Appendix G, rule 8; tex.web §736), with
-//! the gaps between lines (plain TeX's \baselineskip and \lineskip).
+//! Rows one below another, centred on the axis (The TeXbook, Appendix G, rule 8; tex.web §736),
+//! with the gaps between lines (plain TeX's \baselineskip and \lineskip).
 ghost use Rattle.std.specs.Prelude.{◌≡◌, ◌≤◌, ◌^◌, ◌+◌, ◌+ℤ◌, ◌++◌, ◌∷◌, [], None, Some, All, int_lt, length, map, pos, IfOk, OnOk};
 ghost use Rattle.std.specs.Option.{ForSome};
 ghost use Rattle.mt_scaled.specs.Number.{Within, half_of, max_dimen};
@@ -95,7 +95,8 @@ fn column_of_lines(alloc: Global, rows: PackedList) -> Result<LineColumn, AllocE
     ensures small { IfOk result (λ lines. Within (2 ^ 53) lines.total.sp) }
     ensures modest { IfOk result (λ lines. AllModestEntries lines.column) }
     ensures few { IfOk result (λ lines. length lines.column ≤ 2 ^ 21) }
-    ensures width { IfOk result (λ lines. Within max_dimen (column_width (entry_values lines.column))) }
+    ensures width { IfOk result (λ lines.
+        Within max_dimen (column_width (entry_values lines.column))) }
     ensures level { IfOk result (λ lines. column_level lines.column ≡ boxes_level rows) }
 {
     let mut entries = Vec::new(alloc);
