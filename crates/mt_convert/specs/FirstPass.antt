@@ -11,7 +11,8 @@ use Rattle.mt_rules.specs.Classes.{kind_class, forward_of}
 use Rattle.mt_rules.specs.Setting.{Setting, ◌>>=◌, ◌>>◌, test_value}
 use Rattle.mt_rules.specs.Parameters.{quad}
 use Rattle.mt_rules.specs.AtomRow.{atom_row, fraction_row}
-use Rattle.mt_convert.specs.Current.{Current, opening}
+use Rattle.mt_convert.specs.declared.current.Current.{Current}
+use Rattle.mt_convert.specs.Current.{opening}
 use Rattle.mt_convert.specs.Contents.{ItemContents}
 use Rattle.mt_convert.specs.Flat.{FlatItem, FlatAtom, FlatFraction, FlatLeft, FlatRight, FlatStyle, FlatMuSpace, FlatSpace, FlatMuKern, FlatKern, current_after, flat}
 use Rattle.mt_convert.specs.Halves.{HalfValue, HalfAtom, HalfLeft, HalfRight, HalfStyle, HalfKern, HalfSpace, Halves, settle}

@@ -17,7 +17,7 @@ use Rattle.mt_rules.specs.Styles.{size_of, is_display_or_text}
 use Rattle.mt_rules.specs.Classes.{kind_class, forward_of}
 use Rattle.mt_rules.specs.Nuclei.{SymbolContent, SymbolRole, OrdinarySymbol, TextSymbol, SmartPair}
 use Rattle.mt_rules.specs.AtomRow.{AtomContent, FractionContent}
-use Rattle.mt_convert.specs.Current.{Current}
+use Rattle.mt_convert.specs.declared.current.Current.{Current}
 use Rattle.mt_convert.specs.Contents.{ItemContent, AtomItem, FractionItem, LeftItem, RightItem, StyleItem, ChoiceItem, MuSpaceItem, SpaceItem, MuKernItem, KernItem, NonscriptItem, ItemContents, NoItems, MoreItems, append_items}
 use Rattle.mt_convert.specs.Joining.{SymbolPair, pair_with_next, pair_of_fonts}
 

@@ -1,6 +1,6 @@
 -- the items of a list, with the lists inside them as what they are set to
 pub mod Contents
--- where a list has come to
+-- where a list begins
 pub mod Current
 -- pairs of symbols that are joined
 pub mod Joining
@@ -14,3 +14,11 @@ pub mod FirstPass
 pub mod SecondPass
 -- the row of a list
 pub mod ListRow
+-- the faults of boxes and parts
+pub mod Faults
+-- what a call answers
+pub mod Calls
+-- the items that the code has between the passes, and what they keep
+pub mod Halfway
+-- only contracts inside the crate cite it
+pub mod inner

@@ -14,7 +14,8 @@ use Rattle.mt_rules.specs.Styles.{size_of}
 use Rattle.mt_rules.specs.Spaces.{Spacing, NoSpacing, ThinSpacing, MediumSpacing, ThickSpacing, spacing, spacing_glue}
 use Rattle.mt_rules.specs.Setting.{Setting, ◌>>=◌, make_row}
 use Rattle.mt_rules.specs.Delimiters.{delimiter, piece_on_axis, boundary_size}
-use Rattle.mt_convert.specs.Current.{Current, opening}
+use Rattle.mt_convert.specs.declared.current.Current.{Current}
+use Rattle.mt_convert.specs.Current.{opening}
 use Rattle.mt_convert.specs.Halves.{HalfValue, HalfAtom, HalfLeft, HalfRight, HalfStyle, HalfKern, HalfSpace, Halves, class_to_right}
 use Rattle.mt_convert.specs.FirstPass.{math_unit}
 
@@ -50,10 +51,15 @@ current_past current half =
     record { style = style_past current.style half; last = option_or (class_to_right half) current.last }
 
 -- a delimiter of the wanted size at this size, in the middle of the axis
+abbrev pub boundary_piece : SetValue → Size → ℤ → Delim → Setting PieceValue
+boundary_piece fonts size wanted delim = do
+  box ← delimiter fonts delim size wanted
+  Ok (piece_on_axis fonts size box)
+
 abbrev pub boundary_pieces : SetValue → Size → ℤ → Current → Class → Delim → Setting (List PieceValue)
 boundary_pieces fonts size wanted current class delim = do
-  box ← delimiter fonts delim size wanted
-  Ok (space_before fonts current class ++ piece_on_axis fonts size box ∷ [])
+  piece ← boundary_piece fonts size wanted delim
+  Ok (space_before fonts current class ++ piece ∷ [])
 
 abbrev pub half_pieces : SetValue → Size → ℤ → Current → HalfValue → Setting (List PieceValue)
 half_pieces fonts size wanted current (HalfAtom class row) = Ok (space_before fonts current class ++ row)
@@ -72,10 +78,15 @@ all_pieces fonts size wanted current (half ∷ halves) = do
   rest ← all_pieces fonts size wanted (current_past current half) halves
   Ok (pieces ++ rest)
 
--- Boundaries have their size at that of the style in which the list begins. They stand at the ends alone, so nothing else is made
--- between the left one and the right one. The finished row is tested last.
-unfoldable pub second_pass_of : SetValue → Style → Halves → Setting (List PieceValue)
-second_pass_of fonts style halves = do
-  let size = size_of style
-  pieces ← all_pieces fonts size (boundary_size fonts size halves.height halves.depth) (opening style) halves.items
+-- the finished row is tested last
+abbrev pub row_of_halves : SetValue → Size → ℤ → Style → List HalfValue → Setting (List PieceValue)
+row_of_halves fonts size wanted style halves = do
+  pieces ← all_pieces fonts size wanted (opening style) halves
   make_row pieces
+
+-- Boundaries have their size at that of the style in which the list begins. They stand at the ends alone, so nothing else is made
+-- between the left one and the right one.
+unfoldable pub second_pass_of : SetValue → Style → Halves → Setting (List PieceValue)
+second_pass_of fonts style halves =
+    let size = size_of style in
+    row_of_halves fonts size (boundary_size fonts size halves.height halves.depth) style halves.items

@@ -1,0 +1,24 @@
+-- What a call answers, beside what setting answers (`SetsRow`): the same row, or the same fault. Want of memory may come in its place.
+use Rattle.std.specs.Prelude.{◌≡◌, List, Result, Ok, Err, ⊤}
+use Rattle.mt_box.specs.declared.piece.Piece.{Piece}
+use Rattle.mt_box.specs.Rows.{PieceValue, piece_value, piece_values}
+use Rattle.mt_rules.specs.Setting.{Setting, MissingFamily, MissingChar, SmartLigature, Overflow, TooTall}
+use Rattle.mt_convert.specs.declared.fault.SetFault.{SetFault}
+use Rattle.mt_convert.specs.declared.fault.SetFault.TheVariants as set
+
+-- this fault is the first one
+abbrev pub SetFails : {A : Type 0} → SetFault → Setting A → Type 0
+SetFails (set.MissingFamily fam size) setting = setting ≡ Err (MissingFamily fam size)
+SetFails (set.MissingChar fam size code) setting = setting ≡ Err (MissingChar fam size code)
+SetFails (set.SmartLigature fam size first second) setting = setting ≡ Err (SmartLigature fam size first second)
+SetFails (set.Overflow value) setting = setting ≡ Err (Overflow value)
+SetFails (set.TooTall n) setting = setting ≡ Err (TooTall n)
+SetFails set.OutOfMemory setting = ⊤
+
+abbrev pub SetsRow : Result (List Piece) SetFault → Setting (List PieceValue) → Type 0
+SetsRow (Ok row) setting = setting ≡ Ok (piece_values row)
+SetsRow (Err fault) setting = SetFails fault setting
+
+abbrev pub SetsPiece : Result Piece SetFault → Setting PieceValue → Type 0
+SetsPiece (Ok piece) setting = setting ≡ Ok (piece_value piece)
+SetsPiece (Err fault) setting = SetFails fault setting

@@ -1,0 +1,2 @@
+-- lists that are made part by part
+pub mod Appending

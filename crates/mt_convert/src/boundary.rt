@@ -1,0 +1,92 @@
+//! Boundaries: their size, and their boxes.
+ghost use Rattle.std.specs.Prelude.{◌≡◌, ◌≤◌, ◌^◌, ◌*ℤ◌, ◌-ℤ◌, IfOk, int_div, pos};
+ghost use Rattle.std.specs.Int.{int_max};
+ghost use Rattle.mt_scaled.specs.Number.{Within};
+ghost use Rattle.mt_box.specs.Rows.{IsMeasurable, level_of_piece};
+ghost use Rattle.mt_rules.specs.Styles.{size_of};
+ghost use Rattle.mt_rules.specs.Delimiters.{boundary_size};
+ghost use Rattle.mt_convert.specs.SecondPass.{boundary_piece};
+ghost use Rattle.mt_convert.specs.Calls.{SetsPiece};
+
+use crate::SetFault;
+use mt_box::Piece;
+use mt_delim::delimiter_box;
+use mt_family::{FontSet, Size};
+use mt_rules::parameters::axis_height;
+use mt_rules::{Delim, Style};
+use mt_scaled::{Length, x_over_n};
+use std::alloc::Global;
+
+// The size of the style in which a list begins, and the wanted size of its boundaries.
+#[derive(Clone, Copy)]
+pub(crate) struct Frame {
+    pub(crate) size: Size,
+    pub(crate) wanted: Length,
+}
+
+// The frame of a list whose atoms reach so far up and down.
+pub(crate) fn frame_of(fonts: &FontSet, style: Style, height: Length, depth: Length) -> Frame
+    requires height { Within (2 ^ 30) height.sp }
+    requires depth { Within (2 ^ 30) depth.sp }
+    ensures size { result.size ≡ size_of style }
+    ensures wanted { result.wanted.sp ≡ boundary_size fonts.now (size_of style) height.sp depth.sp }
+    ensures small { Within (2 ^ 40) result.wanted.sp }
+{
+    let size = style.size();
+    let axis = axis_height(fonts, size);
+    Frame {
+        size,
+        wanted: wanted_for(depth.plus(axis).at_least(height.minus(axis))),
+    }
+}
+
+// The wanted size for what reaches so far from the axis.
+#[tactic(auto, using(std::proofs::lemmas::Int::ints, std::proofs::lemmas::Int::clamps))]
+fn wanted_for(reach: Length) -> Length
+    requires { Within (2 ^ 33) reach.sp }
+    ensures is { result.sp ≡ int_max (int_div reach.sp (pos 500) *ℤ pos 901) ((pos 2 *ℤ reach.sp) -ℤ pos 327680) }
+    ensures small { Within (2 ^ 40) result.sp }
+{
+    doubled(reach)
+        .minus(Length { sp: 327680 })
+        .at_least(share(reach))
+}
+
+#[tactic(auto, using(std::proofs::lemmas::Int::ints))]
+fn doubled(reach: Length) -> Length
+    requires { Within (2 ^ 33) reach.sp }
+    ensures { result.sp ≡ pos 2 *ℤ reach.sp }
+{
+    Length { sp: 2 * reach.sp }
+}
+
+fn share(reach: Length) -> Length
+    requires { Within (2 ^ 33) reach.sp }
+    ensures is { result.sp ≡ int_div reach.sp (pos 500) *ℤ pos 901 }
+    ensures small { Within (2 ^ 35) result.sp }
+{
+    Length {
+        sp: x_over_n(reach.sp, 500) * 901,
+    }
+}
+
+// A boundary in the middle of the axis.
+pub(crate) fn boundary(
+    alloc: Global,
+    fonts: &FontSet,
+    frame: Frame,
+    delim: Delim,
+) -> Result<Piece, SetFault>
+    requires wanted { Within (2 ^ 40) frame.wanted.sp }
+    ensures is { SetsPiece result (boundary_piece fonts.now frame.size frame.wanted.sp delim) }
+    ensures measurable { IfOk result IsMeasurable }
+    ensures level { IfOk result (λ p. level_of_piece p ≤ 2) }
+{
+    match delimiter_box(alloc, fonts, delim, frame.size, frame.wanted.sp) {
+        Ok(raised) => Ok(Piece::Boxed {
+            raise: raised.raise,
+            body: raised.body,
+        }),
+        Err(error) => Err(SetFault::from(error)),
+    }
+}

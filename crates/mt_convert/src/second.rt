@@ -1,0 +1,102 @@
+//! The second pass.
+ghost use Rattle.std.specs.Prelude.{◌≡◌, ◌≤◌, ◌^◌, ℕ, IfOk, length, None};
+ghost use Rattle.mt_scaled.specs.Number.{Within};
+ghost use Rattle.mt_box.specs.Rows.{AllMeasurable, piece_values};
+ghost use Rattle.mt_rules.specs.Setting.{make_row};
+ghost use Rattle.mt_convert.specs.SecondPass.{current_past, row_of_halves, second_pass_of, style_past};
+ghost use Rattle.mt_convert.specs.Calls.{SetsRow};
+ghost use Rattle.mt_convert.specs.Halfway.{half_value, half_values, halves_value, total_of, AllFit, AllMeet, RowFits};
+
+use crate::SetFault;
+use crate::boundary::{Frame, frame_of};
+use crate::current::Current;
+use crate::half::{Half, HalfList};
+use crate::halfway::Halfway;
+use crate::pieces::push_half;
+use mt_box::{Row, first_out, row_extents};
+use mt_family::FontSet;
+use mt_rules::Style;
+use mt_scaled::Length;
+use std::alloc::Global;
+
+/// The row of a list that the first pass has set, in the style in which the list begins: the rows
+/// of its items side by side, with the spaces between atoms, and the boundaries at the two ends (The
+/// TeXbook, Appendix G, rules 19 and 20; tex.web, sections 760 to 767).
+///
+/// Refused with `TooTall` of the repeats of a boundary, or with `Overflow` of the first extent out
+/// of range of a boundary's glyphs and box, the left boundary first; then with `Overflow` of the
+/// first extent out of range of the row; and with `OutOfMemory`. The row has at most 2^21 pieces.
+pub fn second_pass(
+    alloc: Global,
+    fonts: &FontSet,
+    half: Halfway,
+    style: Style,
+) -> Result<Row, SetFault>
+    ensures is { SetsRow result (second_pass_of fonts.now style (halves_value half)) }
+    ensures few { IfOk result (λ row. length row ≤ 2 ^ 21) }
+    ensures fits { IfOk result (λ row. (n : ℕ) → 2 ≤ n → AllFit n half.items → RowFits n row) }
+{
+    let height = Length { sp: half.height };
+    let depth = Length { sp: half.depth };
+    let frame = frame_of(fonts, style, height, depth);
+    join(alloc, fonts, frame, style, half.items)
+}
+
+// The rows of these items side by side.
+fn join(
+    alloc: Global,
+    fonts: &FontSet,
+    frame: Frame,
+    style: Style,
+    items: HalfList,
+) -> Result<Row, SetFault>
+    requires wanted { Within (2 ^ 40) frame.wanted.sp }
+    requires meet { AllMeet None (half_values items) }
+    requires few { length items ≤ 2 ^ 19 }
+    requires total { total_of items ≤ 2 ^ 20 }
+    requires fit { AllFit (2 ^ 16) items }
+    ensures is { SetsRow result (row_of_halves fonts.now frame.size frame.wanted.sp style (half_values items)) }
+    ensures few { IfOk result (λ row. length row ≤ 2 ^ 21) }
+    ensures fits { IfOk result (λ row. (n : ℕ) → 2 ≤ n → AllFit n items → RowFits n row) }
+{
+    let mut pieces = Vec::new(alloc);
+    let mut current = Current { style, last: None };
+    for item in items.into_vec() {
+        let next = past(current, &item);
+        push_half(alloc, fonts, frame, current, item, &mut pieces)?;
+        current = next;
+    }
+    tested(Row::from_vec(pieces))
+}
+
+// Where a list has come to after an item.
+fn past(current: Current, half: &Half) -> Current
+    ensures { result ≡ current_past current (half_value half.now) }
+{
+    Current {
+        style: style_past(current.style, half),
+        last: half.class_to_right().or(current.last),
+    }
+}
+
+fn style_past(style: Style, half: &Half) -> Style
+    ensures { result ≡ style_past style (half_value half.now) }
+{
+    match half {
+        Half::Style(next) => *next,
+        _ => style,
+    }
+}
+
+// The row, tested as it packs.
+fn tested(row: Row) -> Result<Row, SetFault>
+    requires few { length row ≤ 2 ^ 21 }
+    requires measurable { AllMeasurable row }
+    ensures is { SetsRow result (make_row (piece_values row)) }
+    ensures same { IfOk result (λ r. r ≡ row) }
+{
+    match first_out(row_extents(&row)) {
+        Some(value) => Err(SetFault::Overflow(value)),
+        None => Ok(row),
+    }
+}
