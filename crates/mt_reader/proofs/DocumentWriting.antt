@@ -15,16 +15,16 @@ abbrev pub source : List ℕ → List Token
 source text = tokens_of (source_tokens text)
 
 -- a source as a text
-abbrev pub read : List ℕ → DocumentAnswer toy_units
+abbrev pub read : List ℕ → DocumentAnswer
 read text = document toy_units plain_codes plain_table (source text)
 
 -- after so many pages, with these formulas on the next
-abbrev pub after_pages : ℕ → List Formula → List ℕ → DocumentAnswer toy_units
-after_pages pages page text = document_from toy_units (record (start_state toy_units plain_codes plain_table) { pages = replicate pages []; page = page; count = 7 }) (source text)
+abbrev pub after_pages : ℕ → List Formula → List ℕ → DocumentAnswer
+after_pages pages page text = document_from toy_units (record (start_state plain_codes plain_table) { pages = replicate pages []; page = page; count = 7 }) (source text)
 
 -- after formulas of 999,998 tokens
-abbrev pub after_tokens : List ℕ → DocumentAnswer toy_units
-after_tokens text = document_from toy_units (record (start_state toy_units plain_codes plain_table) { count = 7; total = 999998 }) (source text)
+abbrev pub after_tokens : List ℕ → DocumentAnswer
+after_tokens text = document_from toy_units (record (start_state plain_codes plain_table) { count = 7; total = 999998 }) (source text)
 
 -- names of the user's own: so many, from a number on
 abbrev pub own_names : ℕ → ℕ → Table
@@ -32,8 +32,8 @@ own_names from zero = []
 own_names from (suc n) = (from ∷ [], record { own = true; params = 0; body = [] }) ∷ own_names (suc from) n
 
 -- after so many definitions of names of the user's own
-abbrev pub after_definitions : ℕ → List ℕ → DocumentAnswer toy_units
-after_definitions count text = document_from toy_units (record (start_state toy_units plain_codes (own_names 0 count)) { count = 7 }) (source text)
+abbrev pub after_definitions : ℕ → List ℕ → DocumentAnswer
+after_definitions count text = document_from toy_units (record (start_state plain_codes (own_names 0 count)) { count = 7 }) (source text)
 
 abbrev pub entry : ℕ → List Element → Formula
 entry n es = record { number = n; display = false; body = seq es; tag = None }

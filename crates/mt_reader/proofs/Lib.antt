@@ -21,10 +21,20 @@ mod Fencing
 mod Choosing
 mod Rowing
 mod Closing
+-- tokens up to one that ends them
+mod Cutting
 -- primes, and the argument after them
 mod Priming
 -- what a turn gives
 mod Proceeding
+-- definitions, a parameter at a time
+mod Defining
+-- how long an expanded list is
+mod Expanding
+-- the loop over the tokens of a document
+mod DocumentLoop
+-- the tokens of a source
+mod Sourcing
 -- parts take tokens, and never give any back
 mod Short
 -- a formula has at most four items for each of its tokens: lists, and then all else

@@ -1,5 +1,5 @@
 -- Primes, and the argument after them.
-use Rattle.std.proofs.Common.{◌≡◌, ℕ, zero, suc, ◌+◌, ◌≤◌, Bool, true, false, List, [], ◌∷◌, ◌++◌, length, take, drop, Option, Some, None, refl, sym, ap, subst, ◌∙◌, append_assoc, arith, add-one, true≢false}
+use Rattle.std.proofs.Common.{◌≡◌, ℕ, zero, suc, ◌+◌, ◌≤◌, Bool, true, false, List, [], ◌∷◌, ◌++◌, length, take, drop, Option, Some, None, refl, sym, ap, subst, ◌∙◌, arith, add-one, true≢false}
 use Rattle.std.proofs.lemmas.List.{append-nil}
 use Rattle.std.proofs.lemmas.Bool.{lt-ltb}
 use Rattle.std.specs.Prelude.{◌<◌, get_or, nat_lt, Ok, Err, is_some, ◌==◌, ◌&&◌, if◌then◌else◌, ⊤}
@@ -7,7 +7,7 @@ use Rattle.std.proofs.Math.Seq.{take-add}
 use Rattle.std.specs.Borrow.{Bor}
 use Rattle.mt_token.specs.declared.token.Token.{Token}
 use Rattle.mt_scaled.specs.declared.unit.Units.{Units}
-use Rattle.mt_macro.specs.Braces.{Taken, group, onto, is_close, level_after}
+use Rattle.mt_macro.specs.Braces.{group, onto, is_close, level_after}
 use Rattle.mt_rules.specs.Sequence.{Sequence, More, End, Part, ListPart}
 use Rattle.mt_plain.specs.CodeTables.{CodeTables}
 use Rattle.mt_reader.specs.declared.argument.Argument.{Argument}
@@ -32,10 +32,11 @@ use Rattle.mt_reader.specs.machine.Arguments.{put_superscript, opened_argument, 
 use Rattle.mt_reader.specs.machine.Actions.{performed}
 use Rattle.mt_reader.specs.machine.Stands.{Stands, behind}
 use Rattle.mt_reader.specs.machine.Turned.{Performing}
+use Rattle.mt_reader.proofs.Cutting.{onto_all, onto_more}
 use Rattle.mt_reader.proofs.Standing.{no_items}
 use Rattle.mt_reader.proofs.Continuing.{performing_continues, continued_put, continued_fault, continued_open}
 use Rattle.mt_reader.specs.machine.OpenLists.{items_of, hand_of, numerator_of, finished_items, Begins, Becomes}
-use Rattle.mt_reader.specs.machine.Frames.{owned, behind_owner, left_after, shifted}
+use Rattle.mt_reader.specs.machine.Frames.{owned, left_after, shifted}
 
 -- primes in a row
 pub one_prime_more : (n : ℕ) → append (prime_items n) (More (element_of_atom prime_atom) End) ≡ prime_items (n + 1)
@@ -61,19 +62,6 @@ prime_put l new count depth family ending b atom a p = record {
   is_ending = p.is_ending ∙ b.is_ending;
   is_numerator = p.is_numerator ∙ b.is_numerator;
 }
-
--- tokens before what a group takes
-abbrev pub onto_all : List Token → Option Taken → Option Taken
-onto_all before None = None
-onto_all before (Some taken) = Some (record { argument = before ++ taken.argument; after = taken.after })
-
-onto_none : (o : Option Taken) → o ≡ onto_all [] o
-onto_none None = refl
-onto_none (Some taken) = refl
-
-onto_more : (before : List Token) (t : Token) (o : Option Taken) → onto_all before (onto t o) ≡ onto_all (before ++ t ∷ []) o
-onto_more before t None = refl
-onto_more before t (Some taken) = ap (λ a. Some (record { argument = a; after = taken.after })) (sym (append_assoc before (t ∷ []) taken.argument))
 
 drop_one : (count : ℕ) (tokens : List Token) {t : Token} {after : List Token} → t ∷ after ≡ drop count tokens → drop (count + 1) tokens ≡ after
 drop_one count tokens e = ap (λ n. drop n tokens) (add-one count) ∙ drop_more count tokens e

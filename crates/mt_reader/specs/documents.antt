@@ -6,3 +6,14 @@ pub mod Assignments
 pub mod Dollars
 -- documents
 pub mod Documents
+-- the document of a source
+pub mod Sources
+-- the numbers of causes outside of formulas
+pub mod Causes
+-- what a source is answered
+pub mod Refusals
+-- how many formulas a document has
+pub mod Weights
+-- lent tokens, and what a turn leaves: only inner contracts cite these
+pub mod Lent
+pub mod Turns

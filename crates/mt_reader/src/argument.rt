@@ -1,14 +1,13 @@
 //! The argument after primes and `^`.
 ghost use Rattle.std.specs.Prelude.{◌≡◌, ◌≤◌, ◌<◌, ℕ, ◌+◌, ◌^◌, ◌==◌, ◌&&◌, length, take, drop, IfOk, None, Some, MatchOption};
-ghost use Rattle.mt_macro.specs.Braces.{group, is_close, level_after};
 ghost use Rattle.mt_reader.specs.machine.Arguments.{GivesArgument, GivesBraced};
 ghost use Rattle.mt_reader.specs.machine.Frames.{left_after};
 
 use crate::action::{missing_field, room};
+use crate::braces::closing_brace;
 use crate::frame::Owner;
 use crate::part::Fault;
 use crate::role::{Role, role_of};
-use crate::spaces::character_code;
 use mt_plain::Codes;
 use mt_token::Token;
 
@@ -35,45 +34,6 @@ fn tokens_from<'a>(tokens: &'a [Token], start: usize) -> &'a [Token]
     ensures { result.now ≡ drop start tokens.now }
 {
     &tokens[start..]
-}
-
-fn closes_none(level: usize, token: &Token) -> bool
-    ensures { result ≡ (level == 0) && is_close token.now }
-{
-    level == 0 && character_code(token) == b'}'
-}
-
-fn level_after(level: usize, token: &Token) -> usize
-    requires { level + 1 < 2 ^ 64 }
-    ensures is { result ≡ level_after level token.now }
-    ensures small { result ≤ level + 1 }
-{
-    match character_code(token) {
-        b'{' => level + 1,
-        b'}' => level.saturating_sub(1),
-        _ => level,
-    }
-}
-
-// The index of the `}` that closes a group, of which the `{` stands before the tokens.
-fn closing_brace(tokens: &[Token]) -> Option<usize>
-    ensures within { (i : ℕ) → result ≡ Some i → i < length tokens.now }
-    ensures is { MatchOption result (group 0 tokens.now ≡ None)
-        (λ i. group 0 tokens.now
-        ≡ Some (record { argument = take i tokens.now; after = drop (i + 1) tokens.now })) }
-{
-    let mut level = 0;
-    let mut index = 0;
-    let mut rest = tokens;
-    while let [token, after @ ..] = rest {
-        if closes_none(level, token) {
-            return Some(index);
-        }
-        level = level_after(level, token);
-        index += 1;
-        rest = after;
-    }
-    None
 }
 
 // The argument of which the `{` stands before the tokens.

@@ -3,11 +3,19 @@
 
 mod action;
 mod argument;
+mod assignments;
+mod braces;
 mod choices;
 mod closings;
 mod decimals;
+mod definitions;
 mod delimiters;
 mod dimensions;
+mod document_error;
+mod document_state;
+mod document_turn;
+mod documents;
+mod dollars;
 mod ending;
 mod fences;
 mod formula;
@@ -23,6 +31,8 @@ mod nuclei;
 mod numbers;
 mod open_list;
 mod openings;
+mod outside_cause;
+mod outside_role;
 mod part;
 mod perform;
 mod primes;
@@ -36,13 +46,19 @@ mod spaces;
 mod stop;
 mod stops;
 mod symbols;
+mod taken;
 mod turn;
 mod turned;
 mod units;
 
+pub use document_error::DocError;
+pub use documents::read_document;
 pub use formula::read_formula;
+pub use outside_cause::OutsideCause;
 pub use read_error::ReadError;
 pub use role::{Amount, Bar, NucleusKind, Role, Side, Simple, role_of};
 
+#[cfg(test)]
+mod document_tests;
 #[cfg(test)]
 mod tests;

@@ -14,8 +14,9 @@ pub record MacroDefinition : Type 0 where
   pub body : List Token
 
 -- a { must follow so many parameters; it is left
-abbrev pub after_parameters : ℕ → Token → List Token → Read ℕ
-after_parameters count t rest = if is_open t then Got count (t ∷ rest) else Fault 33 (length rest + 1)
+abbrev pub after_parameters : ℕ → List Token → Read ℕ
+after_parameters count [] = Fault 33 0
+after_parameters count (t ∷ rest) = if is_open t then Got count (t ∷ rest) else Fault 33 (length rest + 1)
 
 -- # where fewer than nine parameters stand before
 abbrev pub is_parameter : ℕ → Token → Bool
@@ -24,11 +25,11 @@ is_parameter count t = is_hash t && nat_lt count 9
 -- #1#2 and so on in order, up to #9
 abbrev pub parameters : ℕ → List Token → Read ℕ
 parameters count [] = Fault 33 0
-parameters count (t ∷ []) = if is_parameter count t then Fault 33 0 else after_parameters count t []
+parameters count (t ∷ []) = if is_parameter count t then Fault 33 0 else after_parameters count (t ∷ [])
 parameters count (t ∷ u ∷ rest) =
     elim (is_parameter count t) [
       | true ↦ elim (character_code u.kind == 49 + count) [ true ↦ parameters (count + 1) rest | false ↦ Fault 33 (length rest + 1) ]
-      | false ↦ after_parameters count t (u ∷ rest)
+      | false ↦ after_parameters count (t ∷ u ∷ rest)
     ]
 
 abbrev pub checked_body : List ℕ → ℕ → ℕ → Taken → Option ℕ → Read MacroDefinition
@@ -46,8 +47,12 @@ abbrev pub definition_body : List ℕ → ℕ → List Token → Read MacroDefin
 definition_body name params [] = Fault 33 0
 definition_body name params (t ∷ rest) = definition_body_in name params (length rest) (group 0 rest)
 
+-- the definition of a name
+abbrev pub definition_of_name : List ℕ → List Token → Read MacroDefinition
+definition_of_name name rest = then_read (parameters 0 rest) (definition_body name)
+
 abbrev pub definition_by_kind : TokenKind → List Token → Read MacroDefinition
-definition_by_kind (Control name) rest = then_read (parameters 0 rest) (definition_body name)
+definition_by_kind (Control name) rest = definition_of_name name rest
 definition_by_kind (Char c) rest = Fault 33 (length rest + 1)
 definition_by_kind Space rest = Fault 33 (length rest + 1)
 

@@ -2,6 +2,7 @@
 use Rattle.std.specs.Prelude.{ℕ, zero, suc, ◌+◌, ◌-◌, ◌==◌, nat_lt, Bool, true, false, ◌&&◌, ◌||◌, List, [], ◌∷◌, ◌++◌, length, Option, Some, None, Result, Ok, Err, if◌then◌else◌, codes}
 use Rattle.std.specs.Str.{bytes_eq}
 use Rattle.mt_token.specs.declared.token.Token.{Token}
+use Rattle.mt_token.specs.declared.token.TokenError.{TokenError}
 use Rattle.mt_token.specs.declared.token.TokenKind.{TokenKind}
 use Rattle.mt_token.specs.declared.token.TokenKind.TheVariants.{Control, Char, Space}
 use Rattle.mt_macro.specs.declared.definition.MacroError.{MacroError}
@@ -12,7 +13,11 @@ use Rattle.mt_macro.specs.Expansion.{Expansion, Expanded, OverBudget, NoArgument
 use Rattle.mt_scaled.specs.declared.unit.Units.{Units}
 use Rattle.mt_plain.specs.CodeTables.{CodeTables}
 use Rattle.mt_reader.specs.Parts.{Read, Got, Fault}
+use Rattle.mt_reader.specs.declared.outside_role.OutsideRole.{OutsideRole}
+use Rattle.mt_reader.specs.declared.outside_role.OutsideRole.TheVariants.{Passed, Defines, SetsMathCode, SetsDelimiterCode, BeginsFormula, EndsPage, EndsDocument, Misplaced}
+use Rattle.mt_rules.specs.Sequence.{Sequence}
 use Rattle.mt_rules.specs.declared.document.Formula.{Formula}
+use Rattle.mt_rules.specs.declared.document.Tag.{Tag}
 use Rattle.mt_reader.specs.Formulas.{Reading, Reads, ReadFault, reading}
 use Rattle.mt_reader.specs.documents.Definitions.{MacroDefinition, macro_definition}
 use Rattle.mt_reader.specs.documents.Assignments.{math_code_assignment, delcode_assignment}
@@ -27,14 +32,23 @@ pub record DocumentState : Type 0 where
   pub count : ℕ
   pub total : ℕ
 
+-- nothing read yet
+abbrev pub start_state : CodeTables → Table → DocumentState
+start_state tables macros = record { tables = tables; macros = macros; pages = []; page = []; count = 0; total = 0 }
+
 -- why a document is refused; n is the number of the formula that is being read, or of the next one
 pub data DocumentFault : Type 0 where
+  -- the source has no tokens
+  NotLexed : (cause : TokenError) → DocumentFault
   -- a token outside of formulas, by its place
   Outside : (n : ℕ) (cause : ℕ) (place : ℕ) → DocumentFault
   NotExpanded : (n : ℕ) (outcome : Expansion) → DocumentFault
   NotRead : (n : ℕ) (cause : ℕ) (place : ℕ) → DocumentFault
   TooManyTokens : (n : ℕ) (count : ℕ) → DocumentFault
   TooManyPages : (count : ℕ) → DocumentFault
+
+abbrev pub DocumentAnswer : Type 0
+DocumentAnswer = Result (List (List Formula)) DocumentFault
 
 -- what becomes of a token and those after it
 pub data Turn : Type 0 where
@@ -45,16 +59,6 @@ pub data Turn : Type 0 where
   StopsOutside : (n : ℕ) (cause : ℕ) (left : ℕ) → Turn
 
 -- what a token is outside of formulas, whatever its name is defined as
-pub data OutsideRole : Type 0 where
-  Passed : OutsideRole
-  Defines : OutsideRole
-  SetsMathCode : OutsideRole
-  SetsDelimiterCode : OutsideRole
-  BeginsFormula : OutsideRole
-  EndsPage : OutsideRole
-  EndsDocument : OutsideRole
-  Misplaced : OutsideRole
-
 abbrev pub outside_name_role : List ℕ → OutsideRole
 outside_name_role name =
     if bytes_eq name (codes "par") then Passed
@@ -106,12 +110,16 @@ is_empty_page (e ∷ es) = false
 abbrev pub is_page_limit : DocumentState → Bool
 is_page_limit s = is_empty_page s.page && (length s.pages == 5000)
 
+-- after a formula, with which so many tokens are read
+abbrev pub with_formula : DocumentState → Bool → ℕ → Sequence → Option Tag → DocumentState
+with_formula s display total body tag =
+    let formula : Formula = record { number = s.count + 1; display = display; body = body; tag = tag } in
+    record s { page = s.page ++ formula ∷ []; count = s.count + 1; total = total }
+
 module _ (units : Units) where
   abbrev pub after_reading : DocumentState → Bool → ℕ → List Token → Reading → Turn
   after_reading s display total rest (ReadFault cause place) = Stops (NotRead (s.count + 1) cause place)
-  after_reading s display total rest (Reads body tag) =
-      let formula : Formula = record { number = s.count + 1; display = display; body = body; tag = tag } in
-      Goes (record s { page = s.page ++ formula ∷ []; count = s.count + 1; total = total }) rest
+  after_reading s display total rest (Reads body tag) = Goes (with_formula s display total body tag) rest
 
   abbrev pub after_expansion : DocumentState → Bool → List Token → Expansion → Turn
   after_expansion s display rest (Expanded list) =
@@ -144,9 +152,6 @@ module _ (units : Units) where
   turn_by s rest EndsDocument = Ends s
   turn_by s rest Misplaced = outside_fault s 31 (length rest + 1)
 
-  abbrev pub DocumentAnswer : Type 0
-  DocumentAnswer = Result (List (List Formula)) DocumentFault
-
   module _ (length_of_all : ℕ) where
     abbrev pub turn_answer : (DocumentState → List Token → DocumentAnswer) → Turn → DocumentAnswer
     turn_answer again (Goes s rest) = again s rest
@@ -166,10 +171,6 @@ module _ (units : Units) where
   -- the pages, where this has been read before; each turn takes a token, so this many are enough
   abbrev pub document_from : DocumentState → List Token → DocumentAnswer
   document_from s tokens = pages_from (length tokens) (length tokens) s tokens
-
-  -- nothing read yet
-  abbrev pub start_state : CodeTables → Table → DocumentState
-  start_state tables macros = record { tables = tables; macros = macros; pages = []; page = []; count = 0; total = 0 }
 
   -- the pages of a document, or why it is refused
   abbrev pub document : CodeTables → Table → List Token → DocumentAnswer

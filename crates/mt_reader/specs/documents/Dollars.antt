@@ -15,6 +15,10 @@ begins_with_dollar (t ∷ rest) = is_math_shift_token t
 abbrev pub ends_formula : Bool → Token → List Token → Bool
 ends_formula display t rest = is_math_shift_token t && (not display || begins_with_dollar rest)
 
+-- the tokens after a formula's end, by those after its first dollar there
+abbrev pub after_end : Bool → List Token → List Token
+after_end display rest = if display then drop 1 rest else rest
+
 -- a formula up to its end outside of all groups, where so many groups are open; none without an end, or where a } closes no group
 abbrev pub up_to_end : Bool → ℕ → List Token → Option Taken
 up_to_end display level [] = None
@@ -22,7 +26,7 @@ up_to_end display level (t ∷ rest) =
     elim ((level == 0) && is_close t) [
       | true ↦ None
       | false ↦ elim ((level == 0) && ends_formula display t rest) [
-        | true ↦ Some (record { argument = []; after = if display then drop 1 rest else rest })
+        | true ↦ Some (record { argument = []; after = after_end display rest })
         | false ↦ onto t (up_to_end display (level_after level t) rest)
       ]
     ]

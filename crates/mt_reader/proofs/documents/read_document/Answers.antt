@@ -1,0 +1,10 @@
+use Rattle.std.proofs.Common.{sym, subst, ◌≤◌, length}
+use Rattle.mt_reader.specs.documents.Refusals.{IsDocument}
+use Rattle.mt_reader.proofs.Sourcing.{document_same, few_tokens}
+use Rattle.mt_reader.proofs.documents.read_document.Goals as goal
+
+pub document_of-requires-clause-tokens : goal.document_of-requires-clause-tokens
+document_of-requires-clause-tokens c = subst (λ l. length l ≤ 4194304) (sym c.as_slice.ensures) (few_tokens c.in-Ok.list _ c.in-Ok.ensures.too_long c.in-Ok.ensures.ordered)
+
+pub returns-in-Ok-clause-is : goal.returns-in-Ok-clause-is
+returns-in-Ok-clause-is c = subst (IsDocument c.document_of.result) (sym (document_same c.args.units c.args.bytes.now c.in-Ok.list _ c.in-Ok.ensures.is c.as_slice.ensures)) c.document_of.ensures.is

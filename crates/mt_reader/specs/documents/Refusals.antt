@@ -1,0 +1,50 @@
+-- What a source is answered (`IsDocument`).
+use Rattle.std.specs.Prelude.{◌≡◌, ℕ, List, Result, Ok, Err, ⊤}
+use Rattle.mt_macro.specs.declared.expansion.ExpandError.{ExpandError}
+use Rattle.mt_macro.specs.declared.expansion.ExpandError.TheVariants.{Budget, MissingArgument, Unbalanced as UnbalancedList, TooLong, OutOfMemory as NoMemoryToExpand}
+use Rattle.mt_macro.specs.Expansion.{OverBudget, NoArgument, NoPartner, ListTooLong}
+use Rattle.mt_rules.specs.declared.document.Formula.{Formula}
+use Rattle.mt_reader.specs.declared.read_error.ReadError.{ReadError}
+use Rattle.mt_reader.specs.declared.read_error.ReadError.TheVariants.{UnknownName, DoubleScript, TwoFractions, BadDelimiter, Unbalanced, MisplacedLimits, MissingField, BadNumber, BadDimension, MisplacedNumber, TooDeep, OutOfMemory as NoMemoryToRead}
+use Rattle.mt_reader.specs.declared.document_error.DocError.{DocError}
+use Rattle.mt_reader.specs.declared.document_error.DocError.TheVariants.{Source, Outside, Expand, Read, Total, Pages, OutOfMemory}
+use Rattle.mt_reader.specs.documents.Causes.{outside_number}
+use Rattle.mt_reader.specs.documents.Documents.{DocumentAnswer, NotLexed, Outside as RefusedOutside, NotExpanded, NotRead, TooManyTokens, TooManyPages}
+
+-- formula n is not expanded, for this cause
+abbrev pub IsExpandRefusal : ℕ → ExpandError → DocumentAnswer → Type 0
+IsExpandRefusal n (Budget steps length) answer = answer ≡ Err (NotExpanded n (OverBudget steps length))
+IsExpandRefusal n (MissingArgument place) answer = answer ≡ Err (NotExpanded n (NoArgument place))
+IsExpandRefusal n (UnbalancedList place) answer = answer ≡ Err (NotExpanded n (NoPartner place))
+IsExpandRefusal n TooLong answer = answer ≡ Err (NotExpanded n ListTooLong)
+IsExpandRefusal n NoMemoryToExpand answer = ⊥
+
+-- formula n is not read, for this cause
+abbrev pub IsReadRefusal : ℕ → ReadError → DocumentAnswer → Type 0
+IsReadRefusal n (UnknownName place) answer = answer ≡ Err (NotRead n 1 place)
+IsReadRefusal n (DoubleScript place) answer = answer ≡ Err (NotRead n 2 place)
+IsReadRefusal n (TwoFractions place) answer = answer ≡ Err (NotRead n 3 place)
+IsReadRefusal n (BadDelimiter place) answer = answer ≡ Err (NotRead n 4 place)
+IsReadRefusal n (Unbalanced place) answer = answer ≡ Err (NotRead n 5 place)
+IsReadRefusal n (MisplacedLimits place) answer = answer ≡ Err (NotRead n 6 place)
+IsReadRefusal n (MissingField place) answer = answer ≡ Err (NotRead n 7 place)
+IsReadRefusal n (BadNumber place) answer = answer ≡ Err (NotRead n 8 place)
+IsReadRefusal n (BadDimension place) answer = answer ≡ Err (NotRead n 9 place)
+IsReadRefusal n (MisplacedNumber place) answer = answer ≡ Err (NotRead n 10 place)
+IsReadRefusal n (TooDeep place) answer = answer ≡ Err (NotRead n 11 place)
+IsReadRefusal n NoMemoryToRead answer = ⊥
+
+-- the answer is this refusal, or memory ran out
+abbrev pub IsRefusal : DocError → DocumentAnswer → Type 0
+IsRefusal (Source cause) answer = answer ≡ Err (NotLexed cause)
+IsRefusal (Outside n place cause) answer = answer ≡ Err (RefusedOutside n (outside_number cause) place)
+IsRefusal (Expand n cause) answer = IsExpandRefusal n cause answer
+IsRefusal (Read n cause) answer = IsReadRefusal n cause answer
+IsRefusal (Total n count) answer = answer ≡ Err (TooManyTokens n count)
+IsRefusal (Pages count) answer = answer ≡ Err (TooManyPages count)
+IsRefusal OutOfMemory answer = ⊤
+
+-- the result is this answer, or memory ran out
+abbrev pub IsDocument : Result (List (List Formula)) DocError → DocumentAnswer → Type 0
+IsDocument (Ok pages) answer = answer ≡ Ok pages
+IsDocument (Err e) answer = IsRefusal e answer

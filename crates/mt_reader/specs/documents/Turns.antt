@@ -1,0 +1,93 @@
+-- What a turn of a document leaves.
+use Rattle.std.specs.Prelude.{◌≡◌, ℕ, ◌+◌, ◌-◌, ◌*◌, ◌≤◌, Bool, List, [], length, Result, Ok, Err, ⊤}
+use Rattle.std.specs.Borrow.{Bor}
+use Rattle.mt_token.specs.declared.token.Token.{Token}
+use Rattle.mt_macro.specs.Table.{Table}
+use Rattle.mt_plain.specs.CodeTables.{CodeTables}
+use Rattle.mt_reader.specs.Parts.{Read}
+use Rattle.mt_reader.specs.declared.part.Fault.{Fault as FaultFields}
+use Rattle.mt_macro.specs.declared.expansion.ExpandError.{ExpandError}
+use Rattle.mt_macro.specs.declared.expansion.ExpandError.TheVariants.{OutOfMemory as NoMemoryToExpand}
+use Rattle.mt_reader.specs.declared.read_error.ReadError.{ReadError}
+use Rattle.mt_reader.specs.declared.read_error.ReadError.TheVariants.{OutOfMemory as NoMemoryToRead}
+use Rattle.mt_reader.specs.declared.document_turn.AfterTurn.{AfterTurn}
+use Rattle.mt_reader.specs.declared.document_turn.AfterTurn.TheVariants.{Left, Ended}
+use Rattle.mt_reader.specs.declared.document_error.DocError.{DocError}
+use Rattle.mt_reader.specs.declared.document_error.DocError.TheVariants.{Expand, Read as NotReadError, OutOfMemory}
+use Rattle.mt_reader.specs.declared.document_state.DocumentState.{DocumentState as StateFields}
+use Rattle.mt_reader.specs.documents.Documents.{DocumentState, DocumentAnswer, Turn, Goes, Ends, Stops, StopsOutside, Outside}
+use Rattle.mt_reader.specs.documents.Refusals.{IsRefusal}
+use Rattle.mt_reader.specs.documents.Lent.{Assigns}
+use Rattle.mt_reader.specs.documents.Weights.{dollars, page_weight, pages_weight}
+
+-- what has been read
+abbrev pub state_of : StateFields → DocumentState
+state_of s = record {
+  tables = s.codes;
+  macros = s.macros;
+  pages = s.pages.items;
+  page = s.page.items;
+  count = s.count;
+  total = s.total;
+}
+
+abbrev pub changes_macros : DocumentState → Table → DocumentState
+changes_macros s macros = record s { macros = macros }
+
+abbrev pub changes_tables : DocumentState → CodeTables → DocumentState
+changes_tables s tables = record s { tables = tables }
+
+-- the new state and the tokens after the assignment are what is read, and nothing but the codes changes
+abbrev pub SetsTables : Result (Bor (List Token)) FaultFields → DocumentState → DocumentState → Read CodeTables → Type 0
+SetsTables result old new read = Assigns result new.tables read × (new ≡ changes_tables old new.tables)
+
+-- the refusal of a turn, where a source has so many tokens
+abbrev pub refusal_of : ℕ → Turn → DocumentAnswer
+refusal_of whole (Goes s rest) = Ok []
+refusal_of whole (Ends s) = Ok []
+refusal_of whole (Stops refusal) = Err refusal
+refusal_of whole (StopsOutside n cause left) = Err (Outside n cause (whole - left))
+
+-- the result and the new state are those of this turn
+abbrev pub Turns : Result AfterTurn DocError → StateFields → ℕ → Turn → Type 0
+Turns (Ok (Left rest)) new whole turn = turn ≡ Goes (state_of new) rest.now
+Turns (Ok Ended) new whole turn = turn ≡ Ends (state_of new)
+Turns (Err e) new whole turn = IsRefusal e (refusal_of whole turn)
+
+-- why formula n is not expanded; want of memory is no cause of its own
+abbrev pub expand_error : ℕ → ExpandError → DocError
+expand_error n NoMemoryToExpand = OutOfMemory
+expand_error n cause = Expand n cause
+
+abbrev pub read_error : ℕ → ReadError → DocError
+read_error n NoMemoryToRead = OutOfMemory
+read_error n cause = NotReadError n cause
+
+-- the formulas that are read, each display counted twice
+abbrev pub state_weight : StateFields → ℕ
+state_weight s = pages_weight s.pages.items + page_weight s.page.items
+
+-- one more formula at most, which has at least two tokens, four in a display
+pub record IsSpent (old new : StateFields) (tokens rest : List Token) : Type 0 where
+  pub falls : length rest ≤ length tokens
+  pub count : new.count ≤ old.count + 1
+  pub total : new.total ≤ 1000000
+  pub weight : 2 * state_weight new + length rest ≤ 2 * state_weight old + length tokens + 1
+
+-- one more formula, and these tokens after it
+pub record IsReadOne (old new : StateFields) (display : Bool) (tokens left : List Token) : Type 0 where
+  pub rest : left ≡ tokens
+  pub count : new.count ≡ old.count + 1
+  pub total : new.total ≤ 1000000
+  pub weight : state_weight new ≡ state_weight old + dollars display
+
+abbrev pub ReadsOne : Result AfterTurn DocError → StateFields → StateFields → Bool → List Token → Type 0
+ReadsOne (Ok (Left rest)) old new display tokens = IsReadOne old new display tokens rest.now
+ReadsOne (Ok Ended) old new display tokens = ⊥
+ReadsOne (Err e) old new display tokens = ⊤
+
+-- what a turn takes for what it reads, of its first token and these
+abbrev pub Spends : Result AfterTurn DocError → StateFields → StateFields → List Token → Type 0
+Spends (Ok (Left rest)) old new tokens = IsSpent old new tokens rest.now
+Spends (Ok Ended) old new tokens = state_weight new ≡ state_weight old
+Spends (Err e) old new tokens = ⊤

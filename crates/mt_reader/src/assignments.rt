@@ -1,0 +1,104 @@
+//! Assignments of codes (The TeXbook, chapter 17).
+ghost use Rattle.std.specs.Prelude.{◌≡◌, ◌≤◌, length, true, IfOk};
+ghost use Rattle.mt_plain.specs.CodeTables.{is_delcode};
+ghost use Rattle.mt_reader.specs.documents.Assignments.{after_equals, code_or_none, delimiter_value, math_code_assignment, delcode_assignment};
+ghost use Rattle.mt_reader.specs.documents.Lent.{Assigns};
+ghost use Rattle.mt_reader.specs.Meets.{Meets};
+
+use crate::numbers::{number_to, whole_number};
+use crate::part::{Fault, Part, ReadCause};
+use crate::spaces::{after_spaces, character_code};
+use mt_plain::Codes;
+use mt_token::Token;
+
+/// The greatest character.
+const MAX_CHARACTER: u32 = 127;
+
+/// The greatest math code.
+const MAX_MATH_CODE: u32 = 32_768;
+
+/// The greatest delimiter code.
+const MAX_DELCODE: i64 = 16_777_215;
+
+// The tokens after `=` and Spaces, where one stands.
+fn after_equals<'a>(tokens: &'a [Token]) -> &'a [Token]
+    ensures is { result.now ≡ after_equals tokens.now }
+    ensures falls { length result.now ≤ length tokens.now }
+{
+    match tokens {
+        [token, rest @ ..] if character_code(token) == b'=' => after_spaces(rest),
+        _ => tokens,
+    }
+}
+
+// A code of delimiters, which stands where so many tokens are left; a negative number means that there is none.
+fn code_or_none<'a>(first: usize, n: i64, rest: &'a [Token]) -> Result<Part<'a, Option<u32>>, Fault>
+    ensures is { Meets result (code_or_none first n rest.now) }
+    ensures falls { IfOk result (λ part. length part.rest.now ≤ length rest.now) }
+    ensures code { IfOk result (λ part. is_delcode part.value ≡ true) }
+{
+    if n < 0 {
+        return Ok(Part { value: None, rest });
+    }
+    if n <= MAX_DELCODE {
+        return Ok(Part {
+            value: Some(n as u32),
+            rest,
+        });
+    }
+    Err(Fault {
+        cause: ReadCause::BadNumber,
+        left: first,
+    })
+}
+
+fn delimiter_value<'a>(tokens: &'a [Token]) -> Result<Part<'a, Option<u32>>, Fault>
+    ensures is { Meets result (delimiter_value tokens.now) }
+    ensures falls { IfOk result (λ part. length part.rest.now ≤ length tokens.now) }
+    ensures code { IfOk result (λ part. is_delcode part.value ≡ true) }
+{
+    match whole_number(tokens) {
+        Ok(part) => code_or_none(tokens.len(), part.value, part.rest),
+        Err(fault) => Err(fault),
+    }
+}
+
+/// Gives a character a math code, by the tokens after `\\mathcode`, and hands out those after it.
+pub fn assign_math_code<'a>(codes: &mut Codes, tokens: &'a [Token]) -> Result<&'a [Token], Fault>
+    ensures is { Assigns result codes.new (math_code_assignment codes.old tokens.now) }
+    ensures falls { IfOk result (λ rest. length rest.now ≤ length tokens.now) }
+{
+    match number_to(MAX_CHARACTER, tokens) {
+        Ok(character) => {
+            let code = after_equals(after_spaces(character.rest));
+            match number_to(MAX_MATH_CODE, code) {
+                Ok(value) => {
+                    codes.set_math_code(character.value as u8, value.value as u16);
+                    Ok(value.rest)
+                }
+                Err(fault) => Err(fault),
+            }
+        }
+        Err(fault) => Err(fault),
+    }
+}
+
+/// Gives a character a delimiter code or none, by the tokens after `\\delcode`, and hands out those after it.
+pub fn assign_delcode<'a>(codes: &mut Codes, tokens: &'a [Token]) -> Result<&'a [Token], Fault>
+    ensures is { Assigns result codes.new (delcode_assignment codes.old tokens.now) }
+    ensures falls { IfOk result (λ rest. length rest.now ≤ length tokens.now) }
+{
+    match number_to(MAX_CHARACTER, tokens) {
+        Ok(character) => {
+            let code = after_equals(after_spaces(character.rest));
+            match delimiter_value(code) {
+                Ok(value) => {
+                    codes.set_delcode(character.value as u8, value.value);
+                    Ok(value.rest)
+                }
+                Err(fault) => Err(fault),
+            }
+        }
+        Err(fault) => Err(fault),
+    }
+}

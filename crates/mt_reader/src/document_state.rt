@@ -1,0 +1,178 @@
+//! What has been read of a document.
+ghost use Rattle.std.specs.Prelude.{◌≡◌, ◌≤◌, ◌<◌, ◌+◌, ◌-◌, ◌^◌, ◌==◌, ◌&&◌, length, nat_lt, pos, IfOk, OnOk, OnErr};
+ghost use Rattle.mt_scaled.specs.Number.{Within};
+ghost use Rattle.mt_plain.specs.CodeTables.{plain_codes};
+ghost use Rattle.mt_plain.specs.PlainMacros.{plain_table};
+ghost use Rattle.mt_macro.specs.Definition.{define, Answers};
+ghost use Rattle.mt_macro.specs.Expansion.{Expands, expansion};
+ghost use Rattle.mt_reader.specs.Answers.{ReadsAs};
+ghost use Rattle.mt_reader.specs.Formulas.{reading};
+ghost use Rattle.mt_reader.specs.documents.Assignments.{math_code_assignment, delcode_assignment};
+ghost use Rattle.mt_reader.specs.documents.Documents.{start_state, document_pages, after_page_end, is_page_limit, with_formula};
+ghost use Rattle.mt_reader.specs.documents.Turns.{state_of, SetsTables, changes_macros};
+
+use crate::assignments::{assign_delcode, assign_math_code};
+use crate::definitions::MacroDefinition;
+use crate::formula::read_formula;
+use crate::part::Fault;
+use crate::read_error::ReadError;
+use mt_macro::{ExpandError, MacroError, Macros, expand};
+use mt_plain::{CodeError, Codes, plain_macros};
+use mt_rules::{Document, Formula, MathList, Page, Tag};
+use mt_scaled::{Items, Units};
+use mt_token::{Token, TokenList};
+use std::alloc::{AllocError, Global};
+use std::mem;
+
+/// The greatest number of pages.
+const MAX_PAGES: usize = 5_000;
+
+/// What has been read of a document: the codes and macros, the pages that are ended, the formulas of the page that is
+/// not, how many formulas there are, and how many tokens they had after expansion.
+#[derive(Drop)]
+pub struct DocumentState {
+    codes: Codes,
+    macros: Macros,
+    pages: Vec<Page>,
+    page: Vec<Formula>,
+    count: u32,
+    total: u64,
+}
+
+impl DocumentState {
+    /// Nothing is read; the codes and macros are those of plain TeX.
+    pub fn start(alloc: Global) -> Result<DocumentState, CodeError>
+        ensures { IfOk result (λ state. state_of state ≡ start_state plain_codes plain_table) }
+    {
+        let codes = Codes::plain(alloc)?;
+        let macros = plain_macros(alloc)?;
+        Ok(DocumentState {
+            codes,
+            macros,
+            pages: Vec::new(alloc),
+            page: Vec::new(alloc),
+            count: 0,
+            total: 0,
+        })
+    }
+
+    /// The number of the next formula.
+    pub fn next(&self) -> u32
+        requires { self.now.count < 2 ^ 32 - 1 }
+        ensures { result ≡ self.now.count + 1 }
+    {
+        self.count + 1
+    }
+
+    /// Whether the next formula would begin a page too many.
+    pub fn is_page_limit(&self) -> bool
+        ensures { result ≡ is_page_limit (state_of self.now) }
+    {
+        self.page.is_empty() && self.pages.len() == MAX_PAGES
+    }
+
+    /// Puts in a definition. After an error all is as before.
+    pub fn define(&mut self, definition: &MacroDefinition<'_>) -> Result<(), MacroError>
+        requires { length definition.now.body.now ≤ 2 ^ 32 }
+        ensures is { Answers result self.new.macros
+            (define self.old.macros definition.now.name.now definition.now.params definition.now.body.now) }
+        ensures others { state_of self.new ≡ changes_macros (state_of self.old) self.new.macros }
+    {
+        self.macros
+            .define(definition.name, definition.params, definition.body)
+    }
+
+    /// Gives a character a math code, by the tokens after `\mathcode`, and hands out those after it.
+    pub fn assign_math_code<'a>(&mut self, tokens: &'a [Token]) -> Result<&'a [Token], Fault>
+        ensures is { SetsTables result (state_of self.old) (state_of self.new)
+            (math_code_assignment self.old.codes tokens.now) }
+        ensures falls { IfOk result (λ rest. length rest.now ≤ length tokens.now) }
+    {
+        assign_math_code(&mut self.codes, tokens)
+    }
+
+    /// Gives a character a delimiter code or none, by the tokens after `\delcode`, and hands out those after it.
+    pub fn assign_delcode<'a>(&mut self, tokens: &'a [Token]) -> Result<&'a [Token], Fault>
+        ensures is { SetsTables result (state_of self.old) (state_of self.new)
+            (delcode_assignment self.old.codes tokens.now) }
+        ensures falls { IfOk result (λ rest. length rest.now ≤ length tokens.now) }
+    {
+        assign_delcode(&mut self.codes, tokens)
+    }
+
+    /// The tokens of a formula without macros.
+    pub fn expand(&self, alloc: Global, tokens: &[Token]) -> Result<TokenList, ExpandError>
+        ensures is { Expands result (expansion self.now.macros tokens.now) }
+        ensures short { IfOk result (λ list. length list ≤ 50000) }
+    {
+        expand(alloc, &self.macros, tokens)
+    }
+
+    /// How many tokens all formulas have after expansion, with these.
+    pub fn total_with(&self, list: &TokenList) -> u64
+        requires total { self.now.total ≤ 1000000 }
+        requires list { length list.now ≤ 50000 }
+        ensures { result ≡ self.now.total + length list.now }
+    {
+        self.total + list.len() as u64
+    }
+
+    /// What a formula is, by its tokens without macros.
+    pub fn read(
+        &self,
+        alloc: Global,
+        units: Units,
+        display: bool,
+        list: &TokenList,
+    ) -> Result<(MathList, Option<Tag>), ReadError>
+        requires length { length list.now ≤ 2 ^ 31 }
+        requires em { Within (2 ^ 31) units.em }
+        requires ex { Within (2 ^ 31) units.ex }
+        ensures { ReadsAs result (reading self.now.codes units display list.now) }
+    {
+        read_formula(alloc, &self.codes, units, display, list.as_slice())
+    }
+
+    /// Puts a formula on the page, after which all formulas have so many tokens after expansion.
+    pub fn push(
+        &mut self,
+        display: bool,
+        body: MathList,
+        tag: Option<Tag>,
+        total: u64,
+    ) -> Result<(), AllocError>
+        requires { self.old.count < 2 ^ 32 - 1 }
+        ensures { OnOk result (state_of self.new ≡ with_formula (state_of self.old) display total body tag) }
+    {
+        let formula = Formula {
+            number: self.count + 1,
+            display,
+            body,
+            tag,
+        };
+        self.page.push(formula)?;
+        self.count += 1;
+        self.total = total;
+        Ok(())
+    }
+
+    /// Ends the page; without formulas it is none.
+    pub fn end_page(&mut self, alloc: Global) -> Result<(), AllocError>
+        ensures { OnOk result (state_of self.new ≡ after_page_end (state_of self.old)) }
+    {
+        if !self.page.is_empty() {
+            let page = mem::replace(&mut self.page, Vec::new(alloc));
+            self.pages.push(Items::from_vec(page))?;
+        }
+        Ok(())
+    }
+
+    /// The pages, where the document ends.
+    pub fn into_document(self, alloc: Global) -> Result<Document, AllocError>
+        ensures { IfOk result (λ pages. pages ≡ document_pages (state_of self)) }
+    {
+        let mut last = self;
+        last.end_page(alloc)?;
+        Ok(Document::from_vec(last.pages))
+    }
+}

@@ -1,0 +1,300 @@
+//! What becomes of a token outside of formulas, and of those after it.
+ghost use Rattle.std.specs.Prelude.{◌≡◌, ℕ, ◌≤◌, ◌<◌, ◌+◌, ◌-◌, ◌^◌, length};
+ghost use Rattle.mt_scaled.specs.Number.{Within};
+ghost use Rattle.mt_reader.specs.documents.Definitions.{macro_definition};
+ghost use Rattle.mt_reader.specs.documents.Assignments.{math_code_assignment, delcode_assignment};
+ghost use Rattle.mt_reader.specs.documents.Documents.{after_definition, after_assignment, after_reading, after_expansion, formula_turn, after_page_end, is_page_limit, turn_by, outside_role, Goes};
+ghost use Rattle.mt_macro.specs.Expansion.{Expanded, expansion};
+ghost use Rattle.mt_reader.specs.Formulas.{reading};
+ghost use Rattle.mt_reader.specs.documents.Turns.{state_of, Turns, Spends, ReadsOne, expand_error, read_error};
+
+use crate::definitions::macro_definition;
+use crate::document_error::DocError;
+use crate::document_state::DocumentState;
+use crate::dollars::{begins_display, between_dollars};
+use crate::outside_cause::OutsideCause;
+use crate::outside_role::{OutsideRole, outside_role};
+use crate::read_error::ReadError;
+use crate::taken::Taken;
+use mt_macro::{ExpandError, MacroError};
+use mt_scaled::Units;
+use mt_token::{Token, TokenList};
+use std::alloc::Global;
+
+/// The greatest number of tokens of all formulas after expansion.
+const MAX_TOTAL: u64 = 1_000_000;
+
+/// The page that no formula begins.
+const PAGE_TOO_MANY: u32 = 5_001;
+
+/// What is left after a turn.
+#[derive(Clone, Copy)]
+pub enum AfterTurn<'a> {
+    /// These tokens.
+    Left(&'a [Token]),
+    /// Nothing, where the document ends.
+    Ended,
+}
+
+// A fault outside of formulas, where so many of the source's tokens are left.
+fn outside(state: &DocumentState, whole: usize, cause: OutsideCause, left: usize) -> DocError
+    requires count { state.now.count < 2 ^ 32 - 1 }
+    requires whole { whole < 2 ^ 32 }
+    ensures { result ≡ DocError.Outside (state.now.count + 1) (whole - left) cause }
+{
+    DocError::Outside {
+        n: state.next(),
+        place: whole.saturating_sub(left) as u32,
+        cause,
+    }
+}
+
+// What becomes of `\def` and the tokens after it.
+fn definition_turn<'a>(
+    state: &mut DocumentState,
+    whole: usize,
+    tokens: &'a [Token],
+) -> Result<AfterTurn<'a>, DocError>
+    requires count { state.old.count < 2 ^ 32 - 1 }
+    requires total { state.old.total ≤ 1000000 }
+    requires whole { whole < 2 ^ 32 }
+    requires tokens { length tokens.now < whole }
+    ensures is { Turns result state.new whole
+        (after_definition (state_of state.old) (length tokens.now + 1) (macro_definition tokens.now)) }
+    ensures spends { Spends result state.old state.new tokens.now }
+{
+    match macro_definition(tokens) {
+        Ok(part) => match state.define(&part.value) {
+            Ok(()) => Ok(AfterTurn::Left(part.rest)),
+            Err(MacroError::OutOfMemory) => Err(DocError::OutOfMemory),
+            Err(_) => {
+                let left = tokens.len() + 1;
+                Err(outside(state, whole, OutsideCause::TooManyNames, left))
+            }
+        },
+        Err(fault) => Err(outside(state, whole, fault.cause, fault.left)),
+    }
+}
+
+// What becomes of `\mathcode` and the tokens after it.
+fn math_code_turn<'a>(
+    state: &mut DocumentState,
+    whole: usize,
+    tokens: &'a [Token],
+) -> Result<AfterTurn<'a>, DocError>
+    requires count { state.old.count < 2 ^ 32 - 1 }
+    requires total { state.old.total ≤ 1000000 }
+    requires whole { whole < 2 ^ 32 }
+    requires tokens { length tokens.now < whole }
+    ensures is { Turns result state.new whole (after_assignment (state_of state.old) (length tokens.now + 1)
+        (math_code_assignment state.old.codes tokens.now)) }
+    ensures spends { Spends result state.old state.new tokens.now }
+{
+    match state.assign_math_code(tokens) {
+        Ok(rest) => Ok(AfterTurn::Left(rest)),
+        Err(_) => {
+            let left = tokens.len() + 1;
+            Err(outside(state, whole, OutsideCause::BadAssignment, left))
+        }
+    }
+}
+
+// What becomes of `\delcode` and the tokens after it.
+fn delcode_turn<'a>(
+    state: &mut DocumentState,
+    whole: usize,
+    tokens: &'a [Token],
+) -> Result<AfterTurn<'a>, DocError>
+    requires count { state.old.count < 2 ^ 32 - 1 }
+    requires total { state.old.total ≤ 1000000 }
+    requires whole { whole < 2 ^ 32 }
+    requires tokens { length tokens.now < whole }
+    ensures is { Turns result state.new whole (after_assignment (state_of state.old) (length tokens.now + 1)
+        (delcode_assignment state.old.codes tokens.now)) }
+    ensures spends { Spends result state.old state.new tokens.now }
+{
+    match state.assign_delcode(tokens) {
+        Ok(rest) => Ok(AfterTurn::Left(rest)),
+        Err(_) => {
+            let left = tokens.len() + 1;
+            Err(outside(state, whole, OutsideCause::BadAssignment, left))
+        }
+    }
+}
+
+// Why a formula is not expanded.
+fn expand_error(n: u32, cause: ExpandError) -> DocError
+    ensures { result ≡ expand_error n cause }
+{
+    match cause {
+        ExpandError::OutOfMemory => DocError::OutOfMemory,
+        cause => DocError::Expand { n, cause },
+    }
+}
+
+// Why a formula is not read.
+fn read_error(n: u32, cause: ReadError) -> DocError
+    ensures { result ≡ read_error n cause }
+{
+    match cause {
+        ReadError::OutOfMemory => DocError::OutOfMemory,
+        cause => DocError::Read { n, cause },
+    }
+}
+
+// Reads a formula without macros, with which all formulas have so many tokens.
+fn read_expanded<'a>(
+    alloc: Global,
+    units: Units,
+    state: &mut DocumentState,
+    display: bool,
+    list: &TokenList,
+    total: u64,
+    rest: &'a [Token],
+) -> Result<AfterTurn<'a>, DocError>
+    requires em { Within (2 ^ 31) units.em }
+    requires ex { Within (2 ^ 31) units.ex }
+    requires count { state.old.count < 2 ^ 32 - 1 }
+    requires list { length list.now ≤ 50000 }
+    requires total { total ≤ 1000000 }
+    ensures is { (whole : ℕ) → Turns result state.new whole (after_reading units (state_of state.old) display total
+        rest.now (reading state.old.codes units display list.now)) }
+    ensures reads { ReadsOne result state.old state.new display rest.now }
+{
+    match state.read(alloc, units, display, list) {
+        Ok((body, tag)) => match state.push(display, body, tag, total) {
+            Ok(()) => Ok(AfterTurn::Left(rest)),
+            Err(_) => Err(DocError::OutOfMemory),
+        },
+        Err(cause) => Err(read_error(state.next(), cause)),
+    }
+}
+
+// Counts the tokens of a formula without macros, and reads it.
+fn count_expanded<'a>(
+    alloc: Global,
+    units: Units,
+    state: &mut DocumentState,
+    display: bool,
+    list: &TokenList,
+    rest: &'a [Token],
+) -> Result<AfterTurn<'a>, DocError>
+    requires em { Within (2 ^ 31) units.em }
+    requires ex { Within (2 ^ 31) units.ex }
+    requires count { state.old.count < 2 ^ 32 - 1 }
+    requires total { state.old.total ≤ 1000000 }
+    requires list { length list.now ≤ 50000 }
+    ensures is { (whole : ℕ) → Turns result state.new whole
+        (after_expansion units (state_of state.old) display rest.now (Expanded list.now)) }
+    ensures reads { ReadsOne result state.old state.new display rest.now }
+{
+    let total = state.total_with(list);
+    if total > MAX_TOTAL {
+        return Err(DocError::Total {
+            n: state.next(),
+            count: total,
+        });
+    }
+    read_expanded(alloc, units, state, display, list, total, rest)
+}
+
+// Expands a formula, counts its tokens and reads it.
+fn formula_between<'a>(
+    alloc: Global,
+    units: Units,
+    state: &mut DocumentState,
+    display: bool,
+    taken: Taken<'a>,
+) -> Result<AfterTurn<'a>, DocError>
+    requires em { Within (2 ^ 31) units.em }
+    requires ex { Within (2 ^ 31) units.ex }
+    requires count { state.old.count < 2 ^ 32 - 1 }
+    requires total { state.old.total ≤ 1000000 }
+    ensures is { (whole : ℕ) → Turns result state.new whole (after_expansion units (state_of state.old) display
+        taken.entry.after.now (expansion state.old.macros taken.entry.argument.now)) }
+    ensures reads { ReadsOne result state.old state.new display taken.entry.after.now }
+{
+    match state.expand(alloc, taken.argument) {
+        Ok(list) => count_expanded(alloc, units, state, display, &list, taken.after),
+        Err(cause) => Err(expand_error(state.next(), cause)),
+    }
+}
+
+// What becomes of `$` and the tokens after it.
+fn formula_turn<'a>(
+    alloc: Global,
+    units: Units,
+    state: &mut DocumentState,
+    whole: usize,
+    tokens: &'a [Token],
+) -> Result<AfterTurn<'a>, DocError>
+    requires em { Within (2 ^ 31) units.em }
+    requires ex { Within (2 ^ 31) units.ex }
+    requires count { state.old.count < 2 ^ 32 - 1 }
+    requires total { state.old.total ≤ 1000000 }
+    requires whole { whole < 2 ^ 32 }
+    requires tokens { length tokens.now < whole }
+    ensures is { Turns result state.new whole
+        (formula_turn units (state_of state.old) tokens.now (is_page_limit (state_of state.old))) }
+    ensures spends { Spends result state.old state.new tokens.now }
+{
+    if state.is_page_limit() {
+        return Err(DocError::Pages(PAGE_TOO_MANY));
+    }
+    match between_dollars(tokens) {
+        Some(taken) => formula_between(alloc, units, state, begins_display(tokens), taken),
+        None => {
+            let left = tokens.len() + 1;
+            Err(outside(state, whole, OutsideCause::OpenFormula, left))
+        }
+    }
+}
+
+// What becomes of `\eject` and the tokens after it.
+fn page_turn<'a>(
+    alloc: Global,
+    state: &mut DocumentState,
+    tokens: &'a [Token],
+) -> Result<AfterTurn<'a>, DocError>
+    requires total { state.old.total ≤ 1000000 }
+    ensures is { (whole : ℕ) → Turns result state.new whole
+        (Goes (after_page_end (state_of state.old)) tokens.now) }
+    ensures spends { Spends result state.old state.new tokens.now }
+{
+    state.end_page(alloc)?;
+    Ok(AfterTurn::Left(tokens))
+}
+
+/// What becomes of a token outside of formulas and of those after it, in a source of so many tokens.
+pub fn document_turn<'a>(
+    alloc: Global,
+    units: Units,
+    state: &mut DocumentState,
+    whole: usize,
+    token: &Token,
+    tokens: &'a [Token],
+) -> Result<AfterTurn<'a>, DocError>
+    requires em { Within (2 ^ 31) units.em }
+    requires ex { Within (2 ^ 31) units.ex }
+    requires count { state.old.count < 2 ^ 32 - 1 }
+    requires total { state.old.total ≤ 1000000 }
+    requires whole { whole < 2 ^ 32 }
+    requires tokens { length tokens.now < whole }
+    ensures is { Turns result state.new whole
+        (turn_by units (state_of state.old) tokens.now (outside_role token.now.kind)) }
+    ensures spends { Spends result state.old state.new tokens.now }
+{
+    match outside_role(token) {
+        OutsideRole::Passed => Ok(AfterTurn::Left(tokens)),
+        OutsideRole::Defines => definition_turn(state, whole, tokens),
+        OutsideRole::SetsMathCode => math_code_turn(state, whole, tokens),
+        OutsideRole::SetsDelimiterCode => delcode_turn(state, whole, tokens),
+        OutsideRole::BeginsFormula => formula_turn(alloc, units, state, whole, tokens),
+        OutsideRole::EndsPage => page_turn(alloc, state, tokens),
+        OutsideRole::EndsDocument => Ok(AfterTurn::Ended),
+        OutsideRole::Misplaced => {
+            let left = tokens.len() + 1;
+            Err(outside(state, whole, OutsideCause::Misplaced, left))
+        }
+    }
+}
