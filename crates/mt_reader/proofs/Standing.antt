@@ -116,15 +116,6 @@ module _ (tables : CodeTables) (units : Units) where
     is = lower frames left (length rest) _ whole h (subst (λ (x : Read Sequence). Unwinds tables units frames left x whole) e u);
   }
 
-  -- a token that gives items, and another atom at hand
-  pub moved : (whole : Read Sequence) (frames : List Frame) (l new : OpenList) (ts after : List Token) (items : Sequence) (hand : Option AtomValue) (family : Option ℕ) → Stands tables units whole frames l ts
-      → ((again : StretchReader) → turn tables units again l.depth l.family (hand_of l.hand) ts ≡ items_before items (again l.depth family hand after))
-      → Becomes items hand family l new → length after < length ts → Stands tables units whole frames new after
-  moved whole frames l new ts after items hand family g e b h =
-      let u = turning whole frames l ts g in
-      stood whole frames new u.n u.m (length ts) after _ (omega (arith, h, u.enough)) (omega (arith, h, u.enough_later)) u.is
-      (ap (λ r. then_read r (list_with tables units (stretch tables units u.m) l)) (e (stretch tables units u.n)) ∙ becomes_list u.n u.m items hand family l new after b) (omega (arith, h))
-
   -- a token at fault
   pub fault_at : (whole : Read Sequence) (frames : List Frame) (l : OpenList) (ts : List Token) (cause at : ℕ) → Stands tables units whole frames l ts → ((again : StretchReader) → turn tables units again l.depth l.family (hand_of l.hand) ts ≡ Fault cause at) → whole ≡ Fault cause (at + behind frames)
   fault_at whole frames l ts cause at g e =
@@ -144,22 +135,6 @@ module _ (tables : CodeTables) (units : Units) where
       ∙ (ap (λ d. then_read (stretch tables units n d family hand ts) (list_with tables units (stretch tables units n) new)) (sym b.is_depth)
       ∙ (ap (λ f. then_read (stretch tables units n new.depth f hand ts) (list_with tables units (stretch tables units n) new)) (sym b.is_family)
       ∙ ap (λ h. then_read (stretch tables units n new.depth new.family h ts) (list_with tables units (stretch tables units n) new)) (sym b.is_hand)))
-
-  -- a token that opens a list
-  pub opens : (whole : Read Sequence) (frames : List Frame) (l new : OpenList) (owner : Owner) (ts inside : List Token) (items : Sequence) (hand : Option AtomValue) (depth : ℕ) (family : Option ℕ) (ending : Ending) (k : ℕ) → Stands tables units whole frames l ts
-      → ((again : StretchReader) → turn tables units again l.depth l.family (hand_of l.hand) ts ≡ then_read (shifted (behind_owner owner) (list_after tables units again items hand ending depth family inside)) (owned tables units again l.depth l.family (hand_of l.hand) k owner))
-      → Begins items hand depth family ending new → left_after owner (length inside) < k → length inside < length ts → left_after owner (length inside) < length ts → Stands tables units whole (record { owner = owner; list = l } ∷ frames) new inside
-  opens whole frames l new owner ts inside items hand depth family ending k g e b low h left =
-      let u = turning whole frames l ts g in
-      let first = subst (λ (r : Read Stretch). Unwinds tables units frames (length ts) (then_read r (list_with tables units (stretch tables units u.m) l)) whole) (e (stretch tables units u.n)) u.is in
-      let second = subst (λ (r : Read Sequence). Unwinds tables units frames (length ts) (resumed tables units u.n u.m k (record { owner = owner; list = l }) r) whole) (begun_list u.n items hand depth family ending new inside b) first in
-      record {
-        turns = u.n;
-        later = u.n;
-        enough = omega (arith, h, u.enough);
-        enough_later = omega (arith, h, u.enough);
-        is = (u.n, omega (arith, left, u.enough), u.m, omega (arith, left, u.enough_later), k, low, lower frames (length ts) (left_after owner (length inside)) _ whole (omega (arith, left)) second);
-      }
 
   -- a list ends where no item stands
   pub finishing : (whole : Read Sequence) (frames : List Frame) (l : OpenList) (ts : List Token) → Stands tables units whole frames l ts
@@ -197,27 +172,6 @@ module _ (tables : CodeTables) (units : Units) where
   pub resumed_fault : (whole : Read Sequence) (f : Frame) (fs : List Frame) (all : Sequence) (ts : List Token) (cause at : ℕ) → Resuming tables units whole f fs all ts → ((k : ℕ) → left_after f.owner (length ts) < k → Gives f k all ts (λ again. Fault cause at)) → whole ≡ Fault cause (at + behind fs)
   resumed_fault whole f fs all ts cause at u e =
       faulted fs (left_after f.owner (length ts)) cause at whole (subst (λ (r : Read Stretch). Unwinds tables units fs (left_after f.owner (length ts)) (then_read r (list_with tables units (stretch tables units u.m) f.list)) whole) (e u.k u.enough_rows (stretch tables units u.n)) u.is)
-
-  -- another list opens in the list of the frame
-  pub record Reopens (f : Frame) (k : ℕ) (all : Sequence) (ts : List Token) (owner : Owner) (inside : List Token) (items : Sequence) (hand : Option AtomValue) (depth : ℕ) (family : Option ℕ) (ending : Ending) : Type 0 where
-    pub rows : ℕ
-    pub enough : left_after owner (length inside) < rows
-    pub is : Gives f k all ts (λ again. then_read (shifted (behind_owner owner) (list_after tables units again items hand ending depth family inside)) (owned tables units again f.list.depth f.list.family (hand_of f.list.hand) rows owner))
-
-  pub resumed_open : (whole : Read Sequence) (f : Frame) (fs : List Frame) (all : Sequence) (ts inside : List Token) (new : OpenList) (owner : Owner) (items : Sequence) (hand : Option AtomValue) (depth : ℕ) (family : Option ℕ) (ending : Ending) → Resuming tables units whole f fs all ts
-      → ((k : ℕ) → left_after f.owner (length ts) < k → Reopens f k all ts owner inside items hand depth family ending) → Begins items hand depth family ending new
-      → length inside ≤ left_after f.owner (length ts) → left_after owner (length inside) ≤ left_after f.owner (length ts) → Stands tables units whole (record { owner = owner; list = f.list } ∷ fs) new inside
-  resumed_open whole f fs all ts inside new owner items hand depth family ending u e b h left =
-      let o = e u.k u.enough_rows in
-      let first = subst (λ (r : Read Stretch). Unwinds tables units fs (left_after f.owner (length ts)) (then_read r (list_with tables units (stretch tables units u.m) f.list)) whole) (o.is (stretch tables units u.n)) u.is in
-      let second = subst (λ (r : Read Sequence). Unwinds tables units fs (left_after f.owner (length ts)) (resumed tables units u.n u.m o.rows (record { owner = owner; list = f.list }) r) whole) (begun_list u.n items hand depth family ending new inside b) first in
-      record {
-        turns = u.n;
-        later = u.n;
-        enough = omega (arith, h, u.enough);
-        enough_later = omega (arith, h, u.enough);
-        is = (u.n, omega (arith, left, u.enough), u.m, omega (arith, left, u.enough_later), o.rows, o.enough, lower fs (left_after f.owner (length ts)) (left_after owner (length inside)) _ whole left second);
-      }
 
   -- a fraction word divides a list
   divided_list : (m : ℕ) (head : FractionHead) (l new : OpenList) (rest : List Token) → Divides head l new
