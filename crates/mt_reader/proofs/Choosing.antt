@@ -14,7 +14,7 @@ use Rattle.mt_reader.specs.declared.inner_items.InnerItems.{InnerItems}
 use Rattle.mt_reader.specs.declared.open_list.OpenList.{OpenList}
 use Rattle.mt_reader.specs.Role.{is_open_brace}
 use Rattle.mt_reader.specs.Parts.{Read, Got, Fault, then_read, opening, after_spaces}
-use Rattle.mt_reader.specs.Lists.{StretchReader, Stretch, list}
+use Rattle.mt_reader.specs.Lists.{StretchReader, list}
 use Rattle.mt_reader.specs.machine.OpenLists.{hand_of, inner_sequence, Begins}
 use Rattle.mt_reader.specs.machine.Frames.{owned, choice_with, shifted}
 use Rattle.mt_reader.specs.machine.Resumes.{ResumesChoice}

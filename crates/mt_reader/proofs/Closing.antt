@@ -1,10 +1,10 @@
 -- A list in another one ends, by what it is read for.
-use Rattle.std.proofs.Common.{◌≡◌, ℕ, ◌+◌, ◌*◌, ◌≤◌, List, length, Result, Ok, Err, Some, refl, sym, ap, subst, ◌∙◌, arith}
+use Rattle.std.proofs.Common.{◌≡◌, ℕ, ◌+◌, ◌≤◌, List, length, Result, Ok, Err, Some, refl, sym, ap, subst, ◌∙◌, arith}
 use Rattle.std.specs.Prelude.{drop, IfOk}
 use Rattle.std.specs.Borrow.{Bor}
 use Rattle.mt_token.specs.declared.token.Token.{Token}
 use Rattle.mt_scaled.specs.declared.unit.Units.{Units}
-use Rattle.mt_rules.specs.Sequence.{Sequence, End, ListPart}
+use Rattle.mt_rules.specs.Sequence.{Sequence, ListPart}
 use Rattle.mt_plain.specs.CodeTables.{CodeTables}
 use Rattle.mt_reader.specs.declared.frame.Frame.{Frame}
 use Rattle.mt_reader.specs.declared.frame.Owner.{Owner}
@@ -21,7 +21,7 @@ use Rattle.mt_reader.specs.Atoms.{InGroup, nucleus_atom, nucleus_of, with_script
 use Rattle.mt_reader.specs.Items.{put_atom, put_script}
 use Rattle.mt_reader.specs.machine.OpenLists.{hand_of}
 use Rattle.mt_reader.specs.machine.Frames.{left_after}
-use Rattle.mt_reader.specs.machine.Remaining.{due, remaining}
+use Rattle.mt_reader.specs.machine.Remaining.{remaining}
 use Rattle.mt_reader.specs.machine.Resumes.{ResumesNucleus, ResumesScript, ResumesArgument}
 use Rattle.mt_reader.specs.machine.Stands.{Stands, behind}
 use Rattle.mt_reader.specs.machine.Turned.{Resuming, Resumes}

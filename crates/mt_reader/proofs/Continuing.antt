@@ -1,18 +1,15 @@
 -- Lists that go on after what was read of one of their items.
-use Rattle.std.proofs.Common.{◌≡◌, ℕ, zero, suc, ◌+◌, ◌<◌, ◌≤◌, Bool, true, false, List, [], ◌∷◌, length, Option, None, refl, sym, ap, subst, ◌∙◌, arith}
-use Rattle.std.specs.Prelude.{drop, ⊤}
+use Rattle.std.proofs.Common.{◌≡◌, ℕ, ◌+◌, ◌<◌, ◌≤◌, List, ◌∷◌, length, Option, ap, subst, ◌∙◌, arith}
 use Rattle.mt_token.specs.declared.token.Token.{Token}
 use Rattle.mt_scaled.specs.declared.unit.Units.{Units}
-use Rattle.mt_rules.specs.declared.kind.Kind.TheVariants.{Vcenter}
-use Rattle.mt_rules.specs.Sequence.{Sequence, End, Rows, NoRows, MoreRows, RowsPart}
-use Rattle.mt_rules.specs.Rows.{rows_of}
+use Rattle.mt_rules.specs.Sequence.{Sequence}
 use Rattle.mt_plain.specs.CodeTables.{CodeTables}
 use Rattle.mt_reader.specs.declared.action.Action.{Action}
 use Rattle.mt_reader.specs.declared.ending.Ending.{Ending}
 use Rattle.mt_reader.specs.declared.frame.Frame.{Frame}
 use Rattle.mt_reader.specs.declared.frame.Owner.{Owner}
 use Rattle.mt_reader.specs.declared.open_list.OpenList.{OpenList}
-use Rattle.mt_reader.specs.Parts.{Read, Got, Fault, then_read}
+use Rattle.mt_reader.specs.Parts.{Read, Fault, then_read}
 use Rattle.mt_reader.specs.Atoms.{AtomValue}
 use Rattle.mt_reader.specs.Lists.{StretchReader, Stretch, items_before, list_after}
 use Rattle.mt_reader.specs.Formulas.{stretch}

@@ -19,7 +19,6 @@ use Rattle.mt_reader.specs.declared.open_list.OpenList.{OpenList}
 use Rattle.mt_reader.specs.Parts.{Read, Got, Fault, then_read}
 use Rattle.mt_reader.specs.Delimiters.{delimiter}
 use Rattle.mt_reader.specs.Atoms.{append, plain_atom}
-use Rattle.mt_reader.specs.Lists.{Stretch}
 use Rattle.mt_reader.specs.Items.{put_atom}
 use Rattle.mt_reader.specs.Groups.{between_boundaries}
 use Rattle.mt_reader.specs.machine.Facts.{stands_inside, is_inside}

@@ -1,5 +1,5 @@
 -- The reading of a formula, of a list and perhaps of another one at its side.
-use Rattle.std.proofs.Common.{◌≡◌, ℕ, ◌+◌, ◌-◌, ◌*◌, ◌^◌, ◌<◌, ◌≤◌, Bool, List, [], ◌∷◌, length, min, get_or, take, drop, Option, Some, None, Result, Ok, Err, refl, sym, ap, subst, ◌∙◌, arith}
+use Rattle.std.proofs.Common.{◌≡◌, ℕ, ◌+◌, ◌-◌, ◌*◌, ◌^◌, ◌<◌, ◌≤◌, Bool, List, [], ◌∷◌, length, get_or, take, drop, Some, None, Ok, Err, sym, ap, subst, ◌∙◌, arith}
 use Rattle.mt_token.specs.declared.token.Token.{Token}
 use Rattle.mt_scaled.specs.declared.unit.Units.{Units}
 use Rattle.mt_rules.specs.Sequence.{Sequence, End}
@@ -12,7 +12,7 @@ use Rattle.mt_reader.specs.declared.open_list.OpenList.{OpenList}
 use Rattle.mt_reader.specs.declared.part.Fault.{Fault as FaultFields}
 use Rattle.mt_reader.specs.declared.part.Part.{Part}
 use Rattle.mt_reader.specs.declared.progress.Progress.{Progress}
-use Rattle.mt_reader.specs.declared.progress.Progress.TheVariants.{Open, Whole}
+use Rattle.mt_reader.specs.declared.progress.Progress.TheVariants.{Whole}
 use Rattle.mt_reader.specs.declared.read_error.ReadError.{ReadError}
 use Rattle.mt_reader.specs.declared.stop.Stop.{Stop}
 use Rattle.mt_reader.specs.declared.stop.Stop.TheVariants.{Fault as AtFault, OutOfMemory}
@@ -21,7 +21,7 @@ use Rattle.mt_reader.specs.Counts.{list_items, formula_items}
 use Rattle.mt_reader.specs.Role.{role_of}
 use Rattle.mt_reader.specs.Parts.{Read, Got, Fault, then_read}
 use Rattle.mt_reader.specs.Lists.{list}
-use Rattle.mt_reader.specs.Formulas.{FormulaParts, Reading, Reads, ReadFault, reading_of, is_at_left, body_ending, stretch, with_tag, formula, reading}
+use Rattle.mt_reader.specs.Formulas.{FormulaParts, Reads, ReadFault, reading_of, is_at_left, body_ending, stretch, with_tag, formula, reading}
 use Rattle.mt_reader.specs.Meets.{cause_number}
 use Rattle.mt_reader.specs.machine.OpenLists.{inner_sequence, Begins}
 use Rattle.mt_reader.specs.machine.Progressing.{Progressed}

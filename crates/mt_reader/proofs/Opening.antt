@@ -1,6 +1,6 @@
 -- Actions that open a list: a group more may be open there, and the list stands in the one round it.
-use Rattle.std.proofs.Common.{◌≡◌, ℕ, ◌+◌, ◌<◌, ◌≤◌, Bool, true, false, List, [], ◌∷◌, length, Option, None, refl, sym, ap, subst, ◌∙◌, arith, true≢false}
-use Rattle.std.specs.Prelude.{⊤, ℤ, nat_lt, if◌then◌else◌}
+use Rattle.std.proofs.Common.{◌≡◌, ℕ, ◌+◌, ◌<◌, Bool, true, false, List, [], ◌∷◌, length, Option, None, refl, sym, ap, subst, arith, true≢false}
+use Rattle.std.specs.Prelude.{⊤, nat_lt, if◌then◌else◌}
 use Rattle.std.proofs.lemmas.Bool.{ltb-true}
 use Rattle.mt_token.specs.declared.token.Token.{Token}
 use Rattle.mt_scaled.specs.declared.unit.Units.{Units}
@@ -16,7 +16,6 @@ use Rattle.mt_reader.specs.declared.open_list.OpenList.{OpenList}
 use Rattle.mt_reader.specs.declared.role.Amount.{Amount}
 use Rattle.mt_reader.specs.declared.role.Amount.TheVariants.{MuSkip, MuKern, Skip, Kern}
 use Rattle.mt_reader.specs.declared.role.NucleusKind.{NucleusKind}
-use Rattle.mt_reader.specs.declared.role.NucleusKind.TheVariants.{Radical, Accent}
 use Rattle.mt_reader.specs.declared.role.Side.{Side}
 use Rattle.mt_reader.specs.declared.role.Side.TheVariants.{Up}
 use Rattle.mt_reader.specs.declared.role.Role.{Role}
@@ -27,9 +26,9 @@ use Rattle.mt_reader.specs.Numbers.{math_code, delimiter_number, whole_number}
 use Rattle.mt_reader.specs.Dimensions.{dimension, glue}
 use Rattle.mt_reader.specs.Delimiters.{delimiter}
 use Rattle.mt_reader.specs.Atoms.{AtomValue, is_free, is_op}
-use Rattle.mt_reader.specs.Lists.{StretchReader, Stretch, list}
+use Rattle.mt_reader.specs.Lists.{StretchReader, list}
 use Rattle.mt_reader.specs.machine.OpenLists.{hand_of, Begins}
-use Rattle.mt_reader.specs.machine.Actions.{field_start_at, field_start_here, field_start, filled, script_filled, nucleus_action, script_action, amount_action, fence_action, action, action_here, performed}
+use Rattle.mt_reader.specs.machine.Actions.{field_start_at, field_start_here, field_start, filled, script_filled, nucleus_action, script_action, amount_action, action, action_here, performed}
 use Rattle.mt_reader.specs.machine.Frames.{owned, behind_owner, left_after, shifted}
 use Rattle.mt_reader.specs.machine.Openings.{opens_list, opened_owner, opened_ending}
 use Rattle.mt_reader.specs.machine.Stands.{Stands}

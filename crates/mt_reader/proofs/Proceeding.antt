@@ -19,8 +19,7 @@ use Rattle.mt_reader.specs.declared.stop.Stop.TheVariants.{Fault as AtFault, Out
 use Rattle.mt_reader.specs.declared.stops.ListStop.TheVariants.{Ends, Divides as DividesAt}
 use Rattle.mt_reader.specs.Parts.{Read, Got, Fault, then_read}
 use Rattle.mt_reader.specs.Atoms.{append, hand_items}
-use Rattle.mt_reader.specs.Lists.{Stretch, list, fraction_head, denominator}
-use Rattle.mt_reader.specs.Items.{turn}
+use Rattle.mt_reader.specs.Lists.{Stretch, fraction_head, denominator}
 use Rattle.mt_reader.specs.Formulas.{stretch}
 use Rattle.mt_reader.specs.Meets.{cause_number}
 use Rattle.mt_reader.specs.machine.Actions.{action_here, performed, spent}

@@ -1,10 +1,10 @@
 -- How much there is still to read where lists open and end.
-use Rattle.std.proofs.Common.{◌≡◌, ℕ, ◌+◌, ◌*◌, ◌<◌, ◌≤◌, List, ◌∷◌, length, sym, subst, arith}
+use Rattle.std.proofs.Common.{◌≡◌, ℕ, ◌+◌, ◌<◌, ◌≤◌, List, ◌∷◌, sym, subst, arith}
 use Rattle.mt_reader.specs.declared.frame.Frame.{Frame}
 use Rattle.mt_reader.specs.declared.frame.Owner.{Owner}
 use Rattle.mt_reader.specs.declared.frame.Owner.TheVariants.{Argument}
 use Rattle.mt_reader.specs.machine.Frames.{left_after}
-use Rattle.mt_reader.specs.machine.Remaining.{due, remaining}
+use Rattle.mt_reader.specs.machine.Remaining.{remaining}
 
 -- a list opens, and a token is taken
 pub pushed_remaining : (outer frames : List Frame) (f : Frame) (less left : ℕ) → frames ≡ f ∷ outer → left_after f.owner 0 ≡ 0 → less < left → remaining frames less ≤ remaining outer left

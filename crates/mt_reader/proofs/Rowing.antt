@@ -14,7 +14,7 @@ use Rattle.mt_reader.specs.declared.frame.Owner.TheVariants.{Row}
 use Rattle.mt_reader.specs.declared.open_list.OpenList.{OpenList}
 use Rattle.mt_reader.specs.declared.role.Role.{Role}
 use Rattle.mt_reader.specs.declared.role.Role.TheVariants.{CloseBrace, HboxWord}
-use Rattle.mt_reader.specs.Role.{role_of, is_open_brace, is_math_shift, is_close_brace}
+use Rattle.mt_reader.specs.Role.{role_of, is_open_brace}
 use Rattle.mt_reader.specs.Parts.{Read, Got, Fault, then_read, opening, after_spaces}
 use Rattle.mt_reader.specs.Atoms.{plain_atom}
 use Rattle.mt_reader.specs.Lists.{StretchReader, Stretch, list}
@@ -22,7 +22,7 @@ use Rattle.mt_reader.specs.Rows.{closing, row, next_row, next_row_at, rows_here_
 use Rattle.mt_reader.specs.Items.{put_atom}
 use Rattle.mt_reader.specs.machine.OpenLists.{hand_of, Begins}
 use Rattle.mt_reader.specs.machine.Actions.{performed}
-use Rattle.mt_reader.specs.machine.Frames.{append_rows, rows_then, owned, shifted}
+use Rattle.mt_reader.specs.machine.Frames.{append_rows, rows_then, shifted}
 use Rattle.mt_reader.specs.machine.Resumes.{ResumesRows}
 use Rattle.mt_reader.specs.machine.Stands.{Stands, behind}
 use Rattle.mt_reader.specs.machine.Turned.{Performing, Resuming}

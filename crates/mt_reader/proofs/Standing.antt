@@ -17,7 +17,7 @@ use Rattle.mt_reader.specs.Items.{turn}
 use Rattle.mt_reader.specs.Formulas.{stretch}
 use Rattle.mt_reader.specs.machine.OpenLists.{items_of, hand_of, numerator_of, Begins, Becomes, Divides}
 use Rattle.mt_reader.specs.machine.Frames.{owned, behind_owner, left_after, shifted}
-use Rattle.mt_reader.specs.machine.Stands.{finished, list_with, listed, resumed, Unwinds, Stands, behind}
+use Rattle.mt_reader.specs.machine.Stands.{finished, list_with, listed, Unwinds, Stands, behind}
 use Rattle.mt_reader.specs.machine.Progressing.{Finishing, Finishes}
 use Rattle.mt_reader.specs.machine.Turned.{Resuming}
 use Rattle.mt_reader.proofs.Inside.{append_append}

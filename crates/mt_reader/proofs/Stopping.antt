@@ -3,7 +3,6 @@ use Rattle.std.proofs.Common.{◌≡◌, ℕ, ◌+◌, Bool, true, false, List, 
 use Rattle.std.specs.Prelude.{if◌then◌else◌}
 use Rattle.mt_token.specs.declared.token.Token.{Token}
 use Rattle.mt_scaled.specs.declared.unit.Units.{Units}
-use Rattle.mt_rules.specs.Sequence.{Sequence}
 use Rattle.mt_plain.specs.CodeTables.{CodeTables}
 use Rattle.mt_reader.specs.declared.ending.Ending.{Ending}
 use Rattle.mt_reader.specs.declared.open_list.OpenList.{OpenList}

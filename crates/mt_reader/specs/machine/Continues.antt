@@ -17,7 +17,7 @@ use Rattle.mt_reader.specs.Parts.{Read, Got, Fault, then_read, opening, after_sp
 use Rattle.mt_reader.specs.Atoms.{plain_atom}
 use Rattle.mt_reader.specs.Lists.{StretchReader, Stretch}
 use Rattle.mt_reader.specs.Groups.{brace_group}
-use Rattle.mt_reader.specs.Rows.{RowsReader, rows_from}
+use Rattle.mt_reader.specs.Rows.{rows_from}
 use Rattle.mt_reader.specs.Items.{put_atom}
 use Rattle.mt_reader.specs.Formulas.{stretch}
 use Rattle.mt_reader.specs.machine.OpenLists.{hand_of}

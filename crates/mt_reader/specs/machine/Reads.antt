@@ -3,9 +3,7 @@ use Rattle.std.specs.Prelude.{◌≡◌, ℕ, ◌+◌, ◌-◌, ◌^◌, min, Li
 use Rattle.mt_token.specs.declared.token.Token.{Token}
 use Rattle.mt_rules.specs.Sequence.{Sequence}
 use Rattle.mt_reader.specs.declared.frame.Frame.{Frame}
-use Rattle.mt_reader.specs.declared.part.Fault.{Fault as FaultFields}
 use Rattle.mt_reader.specs.declared.part.Part.{Part}
-use Rattle.mt_reader.specs.declared.part.ReadCause.{ReadCause}
 use Rattle.mt_reader.specs.declared.stop.Stop.{Stop}
 use Rattle.mt_reader.specs.declared.stop.Stop.TheVariants.{Fault as AtFault, OutOfMemory}
 use Rattle.mt_reader.specs.Parts.{Read, Got, Fault}

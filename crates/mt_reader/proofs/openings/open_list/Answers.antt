@@ -1,7 +1,6 @@
 use Rattle.std.proofs.Common.{◌+◌, ◌∷◌, ◌∙◌, None, ap, length, reverse, subst}
 use Rattle.mt_rules.specs.Sequence.{End}
 use Rattle.mt_reader.specs.declared.ending.Ending.{Ending}
-use Rattle.mt_reader.specs.declared.frame.Frame.{Frame}
 use Rattle.mt_reader.specs.declared.frame.Owner.{Owner}
 use Rattle.mt_reader.specs.machine.OpenLists.{Begins}
 use Rattle.mt_reader.specs.machine.Openings.{opened_owner}

@@ -1,7 +1,5 @@
-use Rattle.std.proofs.Common.{ap, sym, ◌∙◌}
+use Rattle.std.proofs.Common.{ap, ◌∙◌}
 use Rattle.mt_rules.specs.Sequence.{ListPart}
-use Rattle.mt_reader.specs.Atoms.{append, hand_items}
-use Rattle.mt_reader.specs.machine.OpenLists.{items_of, hand_of, finished_items}
 use Rattle.mt_reader.proofs.Priming.{all_primes}
 use Rattle.mt_reader.proofs.primes.prime_field.Goals as goal
 

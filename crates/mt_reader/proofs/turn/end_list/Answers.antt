@@ -1,8 +1,7 @@
-use Rattle.std.proofs.Common.{◌<◌, length, sym, subst}
-use Rattle.std.specs.Prelude.{reverse, ◌∷◌}
+use Rattle.std.proofs.Common.{length}
+use Rattle.std.specs.Prelude.{reverse}
 use Rattle.mt_reader.specs.machine.OpenLists.{inner_sequence}
 use Rattle.mt_reader.specs.machine.Progressing.{Ended}
-use Rattle.mt_reader.specs.machine.Remaining.{remaining}
 use Rattle.mt_reader.specs.machine.Turned.{Resuming}
 use Rattle.mt_reader.proofs.Proceeding.{ended_whole, ended_resumes, progressed_stop, closed_less}
 use Rattle.mt_reader.proofs.turn.end_list.Goals as goal
