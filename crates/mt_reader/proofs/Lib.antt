@@ -33,6 +33,8 @@ mod Defining
 mod Expanding
 -- the loop over the tokens of a document
 mod DocumentLoop
+-- what holds of each formula of a document
+mod DocumentFormulas
 -- the tokens of a source
 mod Sourcing
 -- parts take tokens, and never give any back

@@ -6,7 +6,7 @@ ghost use Rattle.mt_plain.specs.PlainMacros.{plain_table};
 ghost use Rattle.mt_reader.specs.documents.Documents.{document};
 ghost use Rattle.mt_reader.specs.documents.Sources.{source_document};
 ghost use Rattle.mt_reader.specs.documents.Refusals.{IsDocument};
-ghost use Rattle.mt_reader.specs.documents.Weights.{pages_weight};
+ghost use Rattle.mt_reader.specs.documents.Weights.{pages_weight, HaveFewItems};
 
 use crate::document_error::DocError;
 use crate::document_state::DocumentState;
@@ -38,7 +38,8 @@ fn document_of(alloc: Global, units: Units, tokens: &[Token]) -> Result<Document
 
 /// The document of a source: its formulas, page by page, read with plain TeX's codes and macros and with those that the
 /// source sets and defines before them (The TeXbook, chapters 20 and 24). A page without formulas is none. `units` are
-/// what `em` and `ex` stand for, in scaled points.
+/// what `em` and `ex` stand for, in scaled points. The formulas are together at most 2^21, each display counted twice,
+/// and each has at most 200,000 items at all levels.
 ///
 /// # Errors
 ///
@@ -49,6 +50,7 @@ pub fn read_document(alloc: Global, units: Units, bytes: &[u8]) -> Result<Docume
     requires ex { Within (2 ^ 31) units.ex }
     ensures is { IsDocument result (source_document units bytes.now) }
     ensures few { IfOk result (λ pages. pages_weight pages ≤ 2 ^ 21) }
+    ensures items { IfOk result HaveFewItems }
 {
     match tokens(alloc, bytes) {
         Ok(list) => document_of(alloc, units, list.as_slice()),
