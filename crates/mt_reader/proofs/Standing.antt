@@ -137,16 +137,6 @@ module _ (tables : CodeTables) (units : Units) where
       ∙ ap (λ h. then_read (stretch tables units n new.depth new.family h ts) (list_with tables units (stretch tables units n) new)) (sym b.is_hand)))
 
   -- a list ends where no item stands
-  pub finishing : (whole : Read Sequence) (frames : List Frame) (l : OpenList) (ts : List Token) → Stands tables units whole frames l ts
-      → ((again : StretchReader) → turn tables units again l.depth l.family (hand_of l.hand) ts ≡ Got (record { items = hand_items (hand_of l.hand); family = l.family }) ts) → Finishing tables units whole frames l ts
-  finishing whole frames l ts g e =
-      let u = turning whole frames l ts g in
-      record {
-        m = u.m;
-        enough = u.enough_later;
-        is = subst (λ (r : Read Stretch). Unwinds tables units frames (length ts) (then_read r (list_with tables units (stretch tables units u.m) l)) whole) (e (stretch tables units u.n)) u.is;
-      }
-
   pub finish_fault : (whole : Read Sequence) (frames : List Frame) (l : OpenList) (ts : List Token) (cause at : ℕ) → Finishing tables units whole frames l ts → Finishes tables units l ts (λ again. Fault cause at) → whole ≡ Fault cause (at + behind frames)
   finish_fault whole frames l ts cause at u e = faulted frames (length ts) cause at whole (subst (λ (r : Read Sequence). Unwinds tables units frames (length ts) r whole) (e (stretch tables units u.m)) u.is)
 

@@ -32,9 +32,6 @@ module _ (tables : CodeTables) (units : Units) where
     finished_end None s = refl
     finished_end (Some n) s = refl
 
-  abbrev last_stretch : OpenList → Stretch
-  last_stretch l = record { items = hand_items (hand_of l.hand); family = l.family }
-
   -- the list ends with the tokens
   pub ends_with : (l : OpenList) (again : StretchReader) → ends_with_tokens l.ending ≡ true → list_with tables units again l (record { items = hand_items (hand_of l.hand); family = l.family }) [] ≡ Got (all_items l) []
   ends_with l again e = finished_end again l.ending l.depth (numerator_of l) _ ∙ ap (λ b. if b then Got (all_items l) [] else Fault 5 0) e
