@@ -1,13 +1,17 @@
-//! Parts of a formula that are set by rules of their own: lines over and under a body, accents, and
-//! rows centred on the axis (The TeXbook, Appendix G, rules 8 to 10 and 12; tex.web §734 to §742).
+//! Parts of a formula that are set by rules of their own: lines over and under a body, accents, rows
+//! centred on the axis, and how far numerator and denominator of a fraction are shifted (The
+//! TeXbook, Appendix G, rules 8 to 10, 12 and 15; tex.web §734 to §746).
 #![tactic(auto)]
 
 mod accents;
 mod centred;
 mod lines;
+mod shifts;
 #[cfg(test)]
 mod tests;
 
 pub use accents::accent_box;
 pub use centred::vcenter_box;
 pub use lines::{overline_box, underline_box};
+pub use mt_rules::Shifts;
+pub use shifts::fraction_shifts;

@@ -1,14 +1,16 @@
 //! Parts of the example fonts, reckoned by hand.
 ghost use Rattle.std.specs.Prelude.{All, IfOk, IsOk, IsTrue, length, ◌≡◌, ◌≤◌, ◌+◌, ◌^◌};
+ghost use Rattle.mt_scaled.specs.Number.{Within, max_dimen};
 ghost use Rattle.mt_family.specs.ListFacts.{IsFontLine};
 ghost use Rattle.mt_family.specs.SetValue.{AreLoaded};
 ghost use Rattle.mt_rules.specs.Symbols.{find_symbol};
 
-use crate::{accent_box, overline_box, underline_box, vcenter_box};
+use crate::{Shifts, accent_box, fraction_shifts, overline_box, underline_box, vcenter_box};
 use mt_box::{Extents, Packed, Place, glyph_box, places};
 use mt_family::{FontLine, FontSet, Fonts, Size, read_font_list};
-use mt_rules::{PackedList, Symbol};
+use mt_rules::{PackedList, Style, Symbol};
 use mt_samples::{Toy, toy_list, toy_tfm};
+use mt_scaled::in_range;
 use mt_tfm::read_tfm;
 use std::alloc::{AllocError, Global};
 use std::process::Abort;
@@ -191,5 +193,44 @@ fn two_rows_about_the_axis(rt: HostRuntime) -> Result<(), Fail> {
         v: 393212,
     };
     assert_eq!(rt; page.as_slice(), [glyph(-393220), second].as_slice());
+    Ok(())
+}
+
+fn in_range_or_zero(sp: i64) -> i64
+    ensures { Within max_dimen result }
+{
+    if in_range(sp) { sp } else { 0 }
+}
+
+// What a box of no width reaches.
+#[tactic(auto, using(std::proofs::lemmas::Int::ints))]
+fn reach(height: i64, depth: i64) -> Extents
+    ensures height { Within (2 ^ 40) result.height }
+    ensures depth { Within (2 ^ 40) result.depth }
+{
+    Extents {
+        width: 0,
+        height: in_range_or_zero(height),
+        depth: in_range_or_zero(depth),
+    }
+}
+
+#[test]
+fn shifts_of_fractions(rt: HostRuntime) -> Result<(), Fail> {
+    let fonts = toy_fonts(&rt, rt.alloc())?;
+    // the gap lacks 81921 of seven rules; half of an odd lack is rounded up
+    let shifts = fraction_shifts(&fonts, Style::D, 0, reach(0, 368640), reach(327681, 0));
+    let want = Shifts {
+        up: 491521,
+        down: 491521,
+    };
+    assert!(rt; shifts == want);
+    // the gap above the rule lacks 61440 of three rules, the one below it nothing
+    let shifts = fraction_shifts(&fonts, Style::D, 40960, reach(0, 204800), reach(327680, 0));
+    let want = Shifts {
+        up: 512000,
+        down: 450560,
+    };
+    assert!(rt; shifts == want);
     Ok(())
 }
