@@ -59,4 +59,6 @@ pub use read_error::ReadError;
 pub use role::{Amount, Bar, NucleusKind, Role, Side, Simple, role_of};
 
 #[cfg(test)]
+mod document_tests;
+#[cfg(test)]
 mod tests;
