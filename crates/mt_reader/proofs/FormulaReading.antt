@@ -17,7 +17,8 @@ use Rattle.mt_reader.specs.declared.read_error.ReadError.{ReadError}
 use Rattle.mt_reader.specs.declared.stop.Stop.{Stop}
 use Rattle.mt_reader.specs.declared.stop.Stop.TheVariants.{Fault as AtFault, OutOfMemory}
 use Rattle.mt_reader.specs.Answers.{IsFault}
-use Rattle.mt_reader.specs.Counts.{list_items, formula_items}
+use Rattle.mt_rules.specs.Modest.{list_items}
+use Rattle.mt_reader.specs.Counts.{formula_items}
 use Rattle.mt_reader.specs.Role.{role_of}
 use Rattle.mt_reader.specs.Parts.{Read, Got, Fault, then_read}
 use Rattle.mt_reader.specs.Lists.{list}

@@ -37,7 +37,8 @@ use Rattle.mt_reader.specs.Primes.{followed_by, primes, after_primes, braced_arg
 use Rattle.mt_reader.specs.Rows.{closing, row, RowsReader, next_row_at, next_row, rows_here_at, first_rows, later_rows, rows_from, rows}
 use Rattle.mt_reader.specs.Items.{amount_item, put_atom, put_item, put_nucleus, put_script, at_script, at_prime, at_limits, at_token, turn}
 use Rattle.mt_reader.specs.Formulas.{stretch, FormulaParts, Reading, Reads, ReadFault, reading_of, is_at_left, body_ending, with_tag, formula, reading}
-use Rattle.mt_reader.specs.Counts.{list_items, element_items, part_items, rows_items, formula_items}
+use Rattle.mt_rules.specs.Modest.{list_items, element_items, part_items, rows_items}
+use Rattle.mt_reader.specs.Counts.{formula_items}
 use Rattle.mt_reader.proofs.Short.{Within, within_next, within_if, within_more, none, Shortens, spaces_short, blanks_short, drop_short, whole_number_short, number_to_short, delimiter_short, opening_takes, dimension_short, glue_short}
 use Rattle.mt_reader.proofs.Bounds.{append_items, stretch_items, hand_count, items_before_within, atom_count, group_count, filling_count, filling_part_count, script_count, limits_count, prime_count, IsBounded, list_after_within, list_within, with_four, brace_group_within}
 

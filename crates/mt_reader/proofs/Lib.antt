@@ -42,6 +42,9 @@ mod Short
 -- a formula has at most four items for each of its tokens: lists, and then all else
 mod Bounds
 mod ItemBounds
+-- and its nesting and its amounts are bounded
+mod Fitting
+mod Nesting
 -- the reading of a formula, of a list and perhaps of another one at its side
 mod FormulaReading
 -- what worked formulas are written with

@@ -3,7 +3,7 @@ ghost use Rattle.std.specs.Prelude.{◌≡◌, ◌≤◌, ◌^◌, ◌+◌, ◌*
 ghost use Rattle.mt_scaled.specs.Number.{Within};
 ghost use Rattle.mt_reader.specs.Parts.{Read};
 ghost use Rattle.mt_reader.specs.Answers.{IsFault, ReadsAs};
-ghost use Rattle.mt_reader.specs.Counts.{formula_items};
+ghost use Rattle.mt_reader.specs.Counts.{formula_items, IsModestFormula};
 ghost use Rattle.mt_reader.specs.Meets.{cause_number};
 ghost use Rattle.mt_reader.specs.Formulas.{FormulaParts, ReadFault, reading_of, is_at_left, body_ending, stretch, formula, reading};
 ghost use Rattle.mt_reader.specs.machine.Reads.{HasFault, ReadsFormula};
@@ -124,6 +124,7 @@ pub fn read_formula(
     requires ex { Within (2 ^ 31) units.ex }
     ensures is { ReadsAs result (reading codes.now units display list.now) }
     ensures items { IfOk result (λ formula. formula_items formula ≤ 4 * length list.now + 8) }
+    ensures modest { length list.now ≤ 50000 → IfOk result IsModestFormula }
 {
     match formula_parts(alloc, codes, units, display, list) {
         Ok(formula) => Ok(formula),
