@@ -21,10 +21,11 @@ use Rattle.mt_reader.specs.Formulas.{Reading, Reads, ReadFault, reading}
 use Rattle.mt_reader.specs.documents.Definitions.{MacroDefinition, macro_definition}
 use Rattle.mt_reader.specs.documents.Assignments.{math_code_assignment, delcode_assignment}
 use Rattle.mt_reader.specs.documents.Dollars.{begins_display, between_dollars}
-use Rattle.mt_reader.specs.documents.Documents.{DocumentState, DocumentAnswer, Turn, Goes, Ends, Stops, StopsOutside, TooManyTokens, start_state, with_page, document_pages, with_table, after_definition, after_assignment, is_page_limit, with_formula, after_reading, after_expansion, formula_in, formula_turn, turn_by, turn_answer, outside_role, pages_from, document}
+use Rattle.mt_reader.specs.documents.Documents.{DocumentState, DocumentAnswer, Turn, Goes, Ends, Stops, StopsOutside, TooManyTokens, start_state, with_page, with_table, after_definition, after_assignment, is_page_limit, after_reading, after_expansion, formula_in, formula_turn, turn_by, turn_answer, outside_role, pages_from, document}
 use Rattle.mt_reader.specs.documents.Refusals.{IsDocument}
-use Rattle.mt_reader.specs.documents.Weights.{HasFewItems, HaveFewItems}
+use Rattle.mt_reader.specs.documents.Weights.{HasFewItems, HaveFewItems, HasModestLists, IsModestDocument}
 use Rattle.mt_reader.proofs.ItemBounds.{HasAtMost, reading_bound}
+use Rattle.mt_reader.proofs.Nesting.{formula_modest}
 use Rattle.mt_reader.proofs.Expanding.{expanded_short}
 
 module _ (P : Formula → Type 0) (units : Units) where
@@ -121,3 +122,9 @@ few_items units tables display list body tag n few e = omega (arith, few, subst 
 
 pub formulas_few : (units : Units) (tables : CodeTables) (macros : Table) (tokens : List Token) (result : Result (List (List Formula)) DocError) → IsDocument result (document units tables macros tokens) → IfOk result HaveFewItems
 formulas_few units tables macros tokens result e = all_formulas HasFewItems units (few_items units) tables macros tokens result e
+
+modest : (units : Units) → HoldsOfRead HasModestLists units
+modest units tables display list body tag n few e = formula_modest tables units display list (body, tag) e few
+
+pub formulas_modest : (units : Units) (tables : CodeTables) (macros : Table) (tokens : List Token) (result : Result (List (List Formula)) DocError) → IsDocument result (document units tables macros tokens) → IfOk result IsModestDocument
+formulas_modest units tables macros tokens result e = all_formulas HasModestLists units (modest units) tables macros tokens result e

@@ -1,11 +1,10 @@
 -- Lists whose nesting is at most a bound and whose amounts are below 2^30 in size (`Fits`).
-use Rattle.std.proofs.Common.{◌≡◌, ℕ, zero, suc, ◌+◌, ◌*◌, ◌≤◌, refl, sym, Bool, true, false, true≢false, List, [], ◌∷◌, length, Option, Some, None, arith}
+use Rattle.std.proofs.Common.{◌≡◌, ℕ, zero, suc, ◌+◌, ◌*◌, ◌≤◌, refl, sym, Bool, true, false, true≢false, List, length, Option, Some, None, arith}
 use Rattle.std.proofs.lemmas.Int.{ints}
 use Rattle.std.specs.Prelude.{ℤ, pos, negsuc, nat_abs, nat_le, ◌==◌, ◌&&◌, ◌||◌, max, ⊤, if◌then◌else◌, codes}
 use Rattle.mt_token.specs.declared.token.Token.{Token}
 use Rattle.mt_token.specs.declared.token.TokenKind.{TokenKind}
 use Rattle.mt_token.specs.declared.token.TokenKind.TheVariants.{Control, Char, Space as SpaceKind}
-use Rattle.mt_scaled.specs.declared.unit.Unit.{Unit as Measure}
 use Rattle.mt_scaled.specs.declared.unit.Units.{Units}
 use Rattle.mt_scaled.specs.Number.{max_dimen}
 use Rattle.mt_rules.specs.declared.class.Class.TheVariants.{Ord}

@@ -35,6 +35,8 @@ mod Expanding
 mod DocumentLoop
 -- what holds of each formula of a document
 mod DocumentFormulas
+-- how many pages a document has
+mod Pages
 -- the tokens of a source
 mod Sourcing
 -- parts take tokens, and never give any back

@@ -10,8 +10,8 @@ use Rattle.mt_rules.specs.declared.kind.Limits.{Limits as WhereLimits}
 use Rattle.mt_rules.specs.declared.symbol.Delim.{Delim}
 use Rattle.mt_rules.specs.declared.symbol.Glue.{Glue}
 use Rattle.mt_rules.specs.declared.document.Tag.{Tag}
-use Rattle.mt_rules.specs.Sequence.{Sequence, Element, Part, Rows, End, More, ChoiceElement, LeftElement, RightElement, MuSpaceElement, SpaceElement, MuKernElement, KernElement, EmptyPart, SymbolPart, ListPart, RowsPart, NoRows, MoreRows}
-use Rattle.mt_rules.specs.Modest.{list_items, list_nesting, element_nesting, rows_nesting, IsAmount, GlueAmounts, ListAmounts, ElementAmounts, RowsAmounts, IsModestList}
+use Rattle.mt_rules.specs.Sequence.{Sequence, Element, Part, Rows, End, More, ChoiceElement, RightElement, MuSpaceElement, SpaceElement, MuKernElement, KernElement, ListPart, RowsPart, MoreRows}
+use Rattle.mt_rules.specs.Modest.{list_items, IsAmount, GlueAmounts, IsModestList}
 use Rattle.mt_plain.specs.CodeTables.{CodeTables}
 use Rattle.mt_reader.specs.declared.role.NucleusKind.{NucleusKind}
 use Rattle.mt_reader.specs.declared.role.NucleusKind.TheVariants.{Radical, Accent}
@@ -23,7 +23,7 @@ use Rattle.mt_reader.specs.declared.role.Amount.TheVariants.{MuSkip, MuKern, Ski
 use Rattle.mt_reader.specs.declared.role.Role.TheVariants.{Blank, MathCode, CharWord, DelimiterWord, Prime, Script, OpenBrace, CloseBrace, Nucleus, RadicalWord, AccentWord, VcenterWord, HboxWord, LeftWord, LimitsWord, FractionWord, ChoiceWord, AmountWord, ItemWord, FamilyWord, Unknown}
 use Rattle.mt_reader.specs.declared.role.Simple.{Simple}
 use Rattle.mt_reader.specs.declared.role.Simple.TheVariants.{Style, MuSpace, Space, MuKern as SimpleMuKern, Kern as SimpleKern, Nonscript}
-use Rattle.mt_reader.specs.Role.{role_of, simple_element, nucleus_kind, is_open_brace, is_left, is_math_shift, is_close_brace, is_superscript}
+use Rattle.mt_reader.specs.Role.{role_of, simple_element, nucleus_kind, is_open_brace, is_left, is_math_shift, is_superscript}
 use Rattle.mt_reader.specs.Parts.{Read, Got, Fault, then_read, after_spaces, after_blanks, opening}
 use Rattle.mt_reader.specs.Numbers.{whole_number, math_code, delimiter_number}
 use Rattle.mt_reader.specs.Dimensions.{dimension, glue}
@@ -40,7 +40,7 @@ use Rattle.mt_reader.specs.Primes.{followed_by, primes, after_primes, braced_arg
 use Rattle.mt_reader.specs.Rows.{closing, row, RowsReader, next_row_at, next_row, rows_here_at, first_rows, later_rows, rows_from, rows}
 use Rattle.mt_reader.specs.Items.{amount_item, put_atom, put_item, put_nucleus, put_script, at_script, at_prime, at_limits, at_token, turn}
 use Rattle.mt_reader.specs.Formulas.{stretch, FormulaParts, Reading, Reads, ReadFault, reading_of, is_at_left, body_ending, with_tag, formula, reading}
-use Rattle.mt_reader.specs.Counts.{tag_items, formula_items, IsModestTag, IsModestFormula}
+use Rattle.mt_reader.specs.Counts.{tag_items, IsModestTag, IsModestFormula}
 use Rattle.mt_reader.proofs.Short.{Within, within_more, none, fraction_head_short}
 use Rattle.mt_reader.proofs.Bounds.{stretch_items, hand_count, IsBounded}
 use Rattle.mt_reader.proofs.ItemBounds.{HasAtMost, stretch_within, reading_bound}

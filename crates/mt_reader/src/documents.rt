@@ -6,7 +6,7 @@ ghost use Rattle.mt_plain.specs.PlainMacros.{plain_table};
 ghost use Rattle.mt_reader.specs.documents.Documents.{document};
 ghost use Rattle.mt_reader.specs.documents.Sources.{source_document};
 ghost use Rattle.mt_reader.specs.documents.Refusals.{IsDocument};
-ghost use Rattle.mt_reader.specs.documents.Weights.{pages_weight, HaveFewItems};
+ghost use Rattle.mt_reader.specs.documents.Weights.{pages_weight, HaveFewItems, IsModestDocument};
 
 use crate::document_error::DocError;
 use crate::document_state::DocumentState;
@@ -39,7 +39,7 @@ fn document_of(alloc: Global, units: Units, tokens: &[Token]) -> Result<Document
 /// The document of a source: its formulas, page by page, read with plain TeX's codes and macros and with those that the
 /// source sets and defines before them (The TeXbook, chapters 20 and 24). A page without formulas is none. `units` are
 /// what `em` and `ex` stand for, in scaled points. The formulas are together at most 2^21, each display counted twice,
-/// and each has at most 200,000 items at all levels.
+/// and each has at most 200,000 items at all levels. There are at most 5,000 pages.
 ///
 /// # Errors
 ///
@@ -51,6 +51,8 @@ pub fn read_document(alloc: Global, units: Units, bytes: &[u8]) -> Result<Docume
     ensures is { IsDocument result (source_document units bytes.now) }
     ensures few { IfOk result (λ pages. pages_weight pages ≤ 2 ^ 21) }
     ensures items { IfOk result HaveFewItems }
+    ensures pages { IfOk result (λ pages. length pages ≤ 5000) }
+    ensures modest { IfOk result IsModestDocument }
 {
     match tokens(alloc, bytes) {
         Ok(list) => document_of(alloc, units, list.as_slice()),

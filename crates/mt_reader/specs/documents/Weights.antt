@@ -1,7 +1,8 @@
--- How many formulas a document has, each display counted twice (`pages_weight`), and how many items each (`HaveFewItems`).
+-- How many formulas a document has, each display counted twice (`pages_weight`), and how great each of them is
+-- (`HaveFewItems`, `IsModestDocument`).
 use Rattle.std.specs.Prelude.{ℕ, ◌≤◌, Bool, List, All, sum_by, if◌then◌else◌}
 use Rattle.mt_rules.specs.declared.document.Formula.{Formula}
-use Rattle.mt_reader.specs.Counts.{formula_items}
+use Rattle.mt_reader.specs.Counts.{formula_items, IsModestFormula}
 
 -- so many dollars stand at each side of it
 abbrev pub dollars : Bool → ℕ
@@ -22,3 +23,10 @@ HasFewItems f = formula_items (f.body, f.tag) ≤ 200000
 
 abbrev pub HaveFewItems : List (List Formula) → Type 0
 HaveFewItems pages = All (All HasFewItems) pages
+
+-- body and number of each formula can be set within bounds
+abbrev pub HasModestLists : Formula → Type 0
+HasModestLists f = IsModestFormula (f.body, f.tag)
+
+abbrev pub IsModestDocument : List (List Formula) → Type 0
+IsModestDocument pages = All (All HasModestLists) pages

@@ -2,7 +2,8 @@ use Rattle.std.proofs.Common.{sym, subst, ◌≤◌, length}
 use Rattle.mt_reader.specs.documents.Refusals.{IsDocument}
 use Rattle.mt_plain.specs.CodeTables.{plain_codes}
 use Rattle.mt_plain.specs.PlainMacros.{plain_table}
-use Rattle.mt_reader.proofs.DocumentFormulas.{formulas_few}
+use Rattle.mt_reader.proofs.DocumentFormulas.{formulas_few, formulas_modest}
+use Rattle.mt_reader.proofs.Pages.{pages_few}
 use Rattle.mt_reader.proofs.Sourcing.{document_same, few_tokens}
 use Rattle.mt_reader.proofs.documents.read_document.Goals as goal
 
@@ -14,3 +15,9 @@ returns-in-Ok-clause-is c = subst (IsDocument c.document_of.result) (sym (docume
 
 pub returns-in-Ok-clause-items : goal.returns-in-Ok-clause-items
 returns-in-Ok-clause-items c = formulas_few c.args.units plain_codes plain_table _ c.document_of.result c.document_of.ensures.is
+
+pub returns-in-Ok-clause-pages : goal.returns-in-Ok-clause-pages
+returns-in-Ok-clause-pages c = pages_few c.args.units plain_codes plain_table _ c.document_of.result c.document_of.ensures.is
+
+pub returns-in-Ok-clause-modest : goal.returns-in-Ok-clause-modest
+returns-in-Ok-clause-modest c = formulas_modest c.args.units plain_codes plain_table _ c.document_of.result c.document_of.ensures.is
