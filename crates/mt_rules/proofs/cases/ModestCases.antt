@@ -1,7 +1,7 @@
 -- Modest lists, worked.
 use Rattle.std.proofs.Common.{◌≡◌, refl, arith}
 use Rattle.std.proofs.lemmas.Int.{ints}
-use Rattle.std.specs.Prelude.{pos, None, Some}
+use Rattle.std.specs.Prelude.{pos, Some}
 use Rattle.mt_rules.specs.declared.class.Class.TheVariants.{Ord}
 use Rattle.mt_rules.specs.declared.kind.Kind.TheVariants.{Plain, Vcenter}
 use Rattle.mt_rules.specs.declared.kind.Limits.TheVariants.{Default}
