@@ -10,3 +10,7 @@ pub mod Accenting
 pub mod Finding
 -- lines one below another
 pub mod Lining
+-- faults of the steps of a part
+pub mod Faults
+-- a body under a radical sign
+pub mod UnderSign

@@ -1,13 +1,12 @@
 -- A rule over a body and under it: the columns, and what packing them answers.
-use Rattle.std.proofs.Common.{◌≡◌, ◌^◌, List, [], ◌∷◌, ◌++◌, ℤ, pos, neg_ℤ, ◌+ℤ◌, ◌-ℤ◌, ◌*ℤ◌, refl, arith, sym, ◌∙◌, ap, w64, to_z, of_z}
-use Rattle.std.proofs.lemmas.Int.{ints, clamps}
+use Rattle.std.proofs.Common.{◌≡◌, ◌^◌, List, [], ◌∷◌, ◌++◌, ℤ, pos, neg_ℤ, ◌+ℤ◌, ◌-ℤ◌, ◌*ℤ◌, refl, arith, ◌∙◌, ap, w64, to_z, of_z}
+use Rattle.std.proofs.lemmas.Int.{ints}
 use Rattle.std.specs.Int.{int_max}
-use Rattle.std.specs.Prelude.{Result, Ok, Err, Option, Some, None, IfOk}
+use Rattle.std.specs.Prelude.{Result, Ok}
 use Rattle.mt_scaled.specs.Number.{Within, max_dimen}
 use Rattle.mt_family.specs.SetValue.{SetValue}
 use Rattle.mt_family.specs.declared.size.Size.{Size}
 use Rattle.mt_box.specs.Layout.{BoxValue, Layout}
-use Rattle.mt_box.specs.Extents.{ExtentsInRange, first_out}
 use Rattle.mt_box.specs.Columns.{EntryValue, EntryBox, EntryKern, EntryRule, stack, rule_places}
 use Rattle.mt_box.proofs.Equalities.{extents_eq, layout_eq}
 use Rattle.mt_rules.specs.declared.part_error.PartError.{PartError}

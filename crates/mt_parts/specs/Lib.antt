@@ -2,3 +2,5 @@
 pub mod Accented
 -- lines one below another as a column
 pub mod LineColumns
+-- a body under a rule
+pub mod RuledBodies

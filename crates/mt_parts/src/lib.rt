@@ -1,11 +1,12 @@
-//! Parts of a formula that are set by rules of their own: lines over and under a body, accents, rows
-//! centred on the axis, and how far numerator and denominator of a fraction are shifted (The
-//! TeXbook, Appendix G, rules 8 to 10, 12 and 15; tex.web §734 to §746).
+//! Parts of a formula that are set by rules of their own: radicals, lines over and under a body,
+//! accents, rows centred on the axis, and how far numerator and denominator of a fraction are
+//! shifted (The TeXbook, Appendix G, rules 8 to 12 and 15; tex.web §734 to §746).
 #![tactic(auto)]
 
 mod accents;
 mod centred;
 mod lines;
+mod radical;
 mod shifts;
 #[cfg(test)]
 mod tests;
@@ -14,4 +15,5 @@ pub use accents::accent_box;
 pub use centred::vcenter_box;
 pub use lines::{overline_box, underline_box};
 pub use mt_rules::Shifts;
+pub use radical::radical_box;
 pub use shifts::fraction_shifts;

@@ -63,9 +63,9 @@ pub fn underline_box(
     part_answer(vpack(alloc, column, extents.height))
 }
 
-// The width of a rule over or under a body.
+/// The width of a rule over or under a body.
 #[tactic(auto, using(std::proofs::lemmas::Int::ints, std::proofs::lemmas::Int::clamps))]
-fn rule_width(body: Extents) -> Length
+pub fn rule_width(body: Extents) -> Length
     requires { ExtentsInRange body }
     ensures is { result.sp ≡ int_max (pos 0) body.width }
     ensures in_range { Within max_dimen result.sp }

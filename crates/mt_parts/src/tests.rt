@@ -5,16 +5,23 @@ ghost use Rattle.mt_family.specs.ListFacts.{IsFontLine};
 ghost use Rattle.mt_family.specs.SetValue.{AreLoaded};
 ghost use Rattle.mt_rules.specs.Symbols.{find_symbol};
 
-use crate::{Shifts, accent_box, fraction_shifts, overline_box, underline_box, vcenter_box};
+use crate::{
+    Shifts, accent_box, fraction_shifts, overline_box, radical_box, underline_box, vcenter_box,
+};
 use mt_box::{Extents, Packed, Place, glyph_box, places};
 use mt_family::{FontLine, FontSet, Fonts, Size, read_font_list};
-use mt_rules::{PackedList, Style, Symbol};
+use mt_rules::{Delim, PackedList, Style, Symbol};
 use mt_samples::{Toy, toy_list, toy_tfm};
 use mt_scaled::in_range;
 use mt_tfm::read_tfm;
 use std::alloc::{AllocError, Global};
 use std::process::Abort;
 use std::test::Fail;
+
+const SIGN: Delim = Delim {
+    small: Symbol { fam: 2, code: 112 },
+    large: Symbol { fam: 3, code: 112 },
+};
 
 fn toy_of(name: &[u8]) -> Toy {
     match name {
@@ -232,5 +239,41 @@ fn shifts_of_fractions(rt: HostRuntime) -> Result<(), Fail> {
         down: 450560,
     };
     assert!(rt; shifts == want);
+    Ok(())
+}
+
+#[test]
+fn a_root_of_negative_depth(rt: HostRuntime) -> Result<(), Fail> {
+    let alloc = rt.alloc();
+    let fonts = toy_fonts(&rt, alloc)?;
+    let extents = Extents {
+        width: 327680,
+        height: 204800,
+        depth: -122880,
+    };
+    let minus = glyph_box(alloc, 6, 0, extents).expect(&rt, "a minus");
+    let body = radical_box(alloc, &fonts, Style::Tc, SIGN, minus).expect(&rt, "a root");
+    let page = places(alloc, &body, 0, body.extents().height, 3).expect(&rt, "three places");
+    let want = [
+        Place::Glyph {
+            font: 6,
+            code: 112,
+            h: 0,
+            v: 81920,
+        },
+        Place::Rule {
+            h: 327680,
+            v: 81920,
+            height: 40960,
+            width: 327680,
+        },
+        Place::Glyph {
+            font: 6,
+            code: 0,
+            h: 327680,
+            v: 578560,
+        },
+    ];
+    assert_eq!(rt; page.as_slice(), want.as_slice());
     Ok(())
 }
