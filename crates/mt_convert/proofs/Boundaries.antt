@@ -1,5 +1,5 @@
 -- The box of a boundary.
-use Rattle.std.proofs.Common.{◌≡◌, ℤ, ap, sym, ◌∙◌, subst, refl, ◌-ℤ◌}
+use Rattle.std.proofs.Common.{◌≡◌, ℤ, ap, sym, ◌∙◌, ◌-ℤ◌}
 use Rattle.std.specs.Prelude.{Ok, Err}
 use Rattle.mt_scaled.specs.Number.{half_of}
 use Rattle.mt_family.specs.declared.size.Size.{Size}
@@ -9,7 +9,7 @@ use Rattle.mt_box.specs.Rows.{PieceBox}
 use Rattle.mt_rules.specs.declared.part_error.PartError.{PartError}
 use Rattle.mt_rules.specs.declared.part_error.PartError.TheVariants.{Overflow as PartOverflow, TooTall as PartTooTall, OutOfMemory as NoPartMemory}
 use Rattle.mt_rules.specs.declared.symbol.Delim.{Delim}
-use Rattle.mt_rules.specs.Setting.{Setting, ◌>>=◌}
+use Rattle.mt_rules.specs.Setting.{◌>>=◌}
 use Rattle.mt_rules.specs.Parameters.{axis_height}
 use Rattle.mt_rules.specs.Delimiters.{delimiter, piece_on_axis}
 use Rattle.mt_delim.specs.RaisedBoxes.{RaisedAnswers}

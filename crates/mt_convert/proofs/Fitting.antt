@@ -1,9 +1,9 @@
 -- Rows whose numbers and levels are small enough for a packer.
-use Rattle.std.proofs.Common.{w64, to_z, of_z, FitsSigned, ◌≡◌, ℕ, ◌≤◌, ◌+◌, ◌^◌, List, [], ◌∷◌, ◌++◌, ap, sym, ◌∙◌, refl, arith, subst, ℤ}
+use Rattle.std.proofs.Common.{w64, to_z, of_z, FitsSigned, ◌≡◌, ℕ, ◌≤◌, List, [], ◌∷◌, ◌++◌, ap, sym, ◌∙◌, arith, subst, ℤ}
 use Rattle.std.proofs.lemmas.Int.{ints}
 use Rattle.std.specs.Prelude.{Result, Ok, Err, OnOk, IfOk}
 use Rattle.mt_box.specs.declared.piece.Piece.{Piece}
-use Rattle.mt_box.specs.Rows.{IsMeasurable, AllMeasurable, level_of_piece, row_level}
+use Rattle.mt_box.specs.Rows.{IsMeasurable, AllMeasurable, level_of_piece}
 use Rattle.mt_rules.proofs.Appends.{row_level-append}
 use Rattle.mt_convert.specs.declared.fault.SetFault.{SetFault}
 use Rattle.mt_convert.specs.Halfway.{RowFits}

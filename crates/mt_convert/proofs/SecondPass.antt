@@ -1,5 +1,5 @@
 -- The second pass, item by item.
-use Rattle.std.proofs.Common.{◌≡◌, ℕ, ◌≤◌, ◌+◌, ◌*◌, ◌^◌, List, [], ◌∷◌, length, ap, sym, ◌∙◌, refl, arith, subst, ℤ, None}
+use Rattle.std.proofs.Common.{◌≡◌, ℕ, ◌≤◌, ◌+◌, ◌*◌, ◌^◌, List, [], ◌∷◌, length, ap, sym, ◌∙◌, arith, subst, ℤ, None}
 use Rattle.std.specs.Prelude.{Ok}
 use Rattle.mt_family.specs.declared.size.Size.{Size}
 use Rattle.mt_family.specs.SetValue.{SetValue}
