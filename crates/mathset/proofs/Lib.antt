@@ -6,9 +6,11 @@ pub mod StepLemmas
 pub mod PureLemmas
 -- the fonts of a list, one after another
 pub mod FontLemmas
--- the walks over the tokens of a source
-pub mod SymbolLemmas
--- the glyphs of symbols, their row, and the places of the row
-pub mod RowLemmas
+-- a formula of few items at all levels has few at its outermost level
+pub mod ItemLemmas
+-- the glyphs of a formula, their row, and the places of the row
+pub mod PageLemmas
 -- the parts of a log line, one after another
 pub mod LogPartLemmas
+-- small sources
+mod Worked

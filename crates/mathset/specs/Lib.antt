@@ -12,16 +12,18 @@ pub mod Steps
 pub mod Outcome
 -- a step that reads a file
 pub mod Reads
--- how many bytes and symbols are taken
+-- how many bytes are taken
 pub mod Limits
 -- the steps that read the fonts
 pub mod FontSteps
 -- a source set in its fonts
 pub mod Typeset
--- the symbols of a source
-pub mod Symbols
--- the row of the symbols' glyphs, and its page
-pub mod Rows
+-- the document of a source
+pub mod Documents
+-- what is built of a formula so far
+pub mod Built
+-- the pages of a source
+pub mod Pages
 -- the line of a refusal
 pub mod Log
 -- the numbers of statuses

@@ -8,7 +8,3 @@ max_list = 65536
 -- the most bytes of a TFM file: its head can speak of no more
 abbrev pub max_tfm : ℕ
 max_tfm = 131068
-
--- the most symbols of a formula
-abbrev pub max_symbols : ℕ
-max_symbols = 50000

@@ -4,7 +4,7 @@ pub mod Steps
 pub mod Runs
 -- the parts of a log line
 pub mod LogParts
--- the kinds of tokens
-pub mod Tokens
 -- the words that names of files are
 pub mod Words
+-- formulas of few items
+pub mod Formulas

@@ -1,0 +1,140 @@
+//! The pages of a document: the page of each formula.
+ghost use Rattle.std.specs.Prelude.{◌≡◌, ◌≤◌, ◌^◌, ◌∷◌, [], All, IfOk, flat_map, length, None, Ok};
+ghost use Rattle.mt_box.specs.Layout.{layout_of};
+ghost use Rattle.mt_box.specs.Rows.{AllModest};
+ghost use Rattle.mt_dvi.specs.Limits.{max_places};
+ghost use Rattle.mt_dvi.specs.Writable.{IsWritable};
+ghost use Rattle.mt_dvi.specs.Refusal.{refusal_of};
+ghost use Rattle.mathset.specs.inner.Steps.{IsPure};
+ghost use Rattle.mathset.specs.inner.Formulas.{IsFew};
+ghost use Rattle.mathset.specs.Pages.{document_pages, formula_pages, formulas_pages, pack_refusal, page_places, page_result, place_refusal, row_page};
+
+use crate::built::{only_glyphs, row_of};
+use crate::status::{Much, Status};
+use mt_box::{PackError, Packed, PageList, PlaceError, PlaceList, Row, hpack, places};
+use mt_dvi::MAX_PLACES;
+use mt_family::FontSet;
+use mt_rules::{Document, Formula};
+use mt_scaled::Items;
+use std::alloc::{AllocError, Global};
+
+fn pack_refusal(n: u32, error: PackError) -> Status
+    ensures { result ≡ pack_refusal n error }
+{
+    match error {
+        PackError::Overflow(value) => Status::Overflow {
+            n,
+            value: i128::from(value),
+        },
+        PackError::OutOfMemory => Status::OutOfMemory,
+    }
+}
+
+fn place_refusal(n: u32, error: PlaceError) -> Status
+    ensures { result ≡ place_refusal n error }
+{
+    match error {
+        PlaceError::OutOfRange(value) => Status::Overflow { n, value },
+        PlaceError::TooMany => Status::TooMuch {
+            kind: Much::Places,
+            count: MAX_PLACES + 1,
+        },
+        PlaceError::OutOfMemory => Status::OutOfMemory,
+    }
+}
+
+// The places of a box whose left end is at 0 and whose top is at 0.
+fn page_places(alloc: Global, n: u32, body: &Packed) -> Result<PlaceList, Status>
+    ensures is { IsPure (page_result n (page_places (layout_of body.now))) result }
+    ensures few { IfOk result (λ page. length page ≤ max_places) }
+{
+    match places(alloc, body, 0, body.extents().height, MAX_PLACES) {
+        Ok(page) => Ok(page),
+        Err(error) => Err(place_refusal(n, error)),
+    }
+}
+
+// The page of formula n, of which this is the row.
+fn row_page(alloc: Global, n: u32, row: Row) -> Result<PlaceList, Status>
+    requires few { length row ≤ 2 ^ 21 }
+    requires modest { AllModest row }
+    ensures is { IsPure (row_page n row) result }
+    ensures few { IfOk result (λ page. length page ≤ max_places) }
+{
+    match hpack(alloc, row) {
+        Ok(body) => page_places(alloc, n, &body),
+        Err(error) => Err(pack_refusal(n, error)),
+    }
+}
+
+fn one_page(alloc: Global, page: PlaceList) -> Result<PageList, Status>
+    ensures { IsPure (Ok (page ∷ [])) result }
+{
+    let mut pages = Vec::new(alloc);
+    pages.push(page)?;
+    Ok(Items::from_vec(pages))
+}
+
+// The one page of a formula behind which these stand.
+fn formula_pages(
+    alloc: Global,
+    fonts: &FontSet,
+    formula: &Formula,
+    others: &[Formula],
+) -> Result<PageList, Status>
+    requires { IsFew formula.now }
+    ensures is { IsPure (formula_pages fonts.now formula.now others.now) result }
+    ensures writable { IfOk result (λ pages. All (λ page. All (IsWritable fonts.now) page) pages) }
+    ensures few_places { IfOk result (λ pages. refusal_of pages ≡ None) }
+{
+    let n = formula.number;
+    let glyphs = only_glyphs(alloc, fonts, formula, others)?;
+    let row = row_of(alloc, n, glyphs.as_slice())?;
+    let page = row_page(alloc, n, row)?;
+    one_page(alloc, page)
+}
+
+fn formulas_pages(alloc: Global, fonts: &FontSet, formulas: &[Formula]) -> Result<PageList, Status>
+    requires { All IsFew formulas.now }
+    ensures is { IsPure (formulas_pages fonts.now formulas.now) result }
+    ensures writable { IfOk result (λ pages. All (λ page. All (IsWritable fonts.now) page) pages) }
+    ensures few_places { IfOk result (λ pages. refusal_of pages ≡ None) }
+{
+    match formulas {
+        [] => Ok(Items::from_vec(Vec::new(alloc))),
+        [formula, others @ ..] => formula_pages(alloc, fonts, formula, others),
+    }
+}
+
+// The formulas of a document, in order.
+fn formulas_of(alloc: Global, document: Document) -> Result<Vec<Formula>, AllocError>
+    ensures { IfOk result (λ formulas. formulas.items ≡ flat_map (λ page. page) document) }
+{
+    let mut formulas = Vec::new(alloc);
+    for page in document.into_vec() {
+        formulas.append(&mut page.into_vec())?;
+    }
+    Ok(formulas)
+}
+
+/// The pages of a document: none, or the one of its only formula. The characters of a formula stand side by side from
+/// h = 0 on, with the top of their row at v = 0, each in the text font of its family.
+///
+/// # Errors
+///
+/// Those of [`only_glyphs`], for a formula that is not built. Else `Overflow` with the first of these that is out of
+/// range: the width, height and depth of each glyph, in order; those of the row; the coordinates of each glyph, in
+/// order. `OutOfMemory` where memory ran out.
+pub fn document_pages(
+    alloc: Global,
+    fonts: &FontSet,
+    document: Document,
+) -> Result<PageList, Status>
+    requires { All (λ page. All IsFew page) document }
+    ensures is { IsPure (document_pages fonts.now document) result }
+    ensures writable { IfOk result (λ pages. All (λ page. All (IsWritable fonts.now) page) pages) }
+    ensures few_places { IfOk result (λ pages. refusal_of pages ≡ None) }
+{
+    let formulas = formulas_of(alloc, document)?;
+    formulas_pages(alloc, fonts, &formulas)
+}
