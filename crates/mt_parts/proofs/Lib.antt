@@ -14,3 +14,7 @@ pub mod Lining
 pub mod Faults
 -- a body under a radical sign
 pub mod UnderSign
+-- a fraction: the columns of numerator and denominator
+pub mod Fractioned
+-- a fraction step by step
+pub mod FractionSteps

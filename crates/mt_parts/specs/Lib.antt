@@ -4,3 +4,5 @@ pub mod Accented
 pub mod LineColumns
 -- a body under a rule
 pub mod RuledBodies
+-- a layout with another width
+pub mod Widths

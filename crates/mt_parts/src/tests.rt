@@ -6,7 +6,8 @@ ghost use Rattle.mt_family.specs.SetValue.{AreLoaded};
 ghost use Rattle.mt_rules.specs.Symbols.{find_symbol};
 
 use crate::{
-    Shifts, accent_box, fraction_shifts, overline_box, radical_box, underline_box, vcenter_box,
+    Shifts, accent_box, fraction_box, fraction_shifts, overline_box, radical_box, underline_box,
+    vcenter_box,
 };
 use mt_box::{Extents, Packed, Place, glyph_box, places};
 use mt_family::{FontLine, FontSet, Fonts, Size, read_font_list};
@@ -17,6 +18,11 @@ use mt_tfm::read_tfm;
 use std::alloc::{AllocError, Global};
 use std::process::Abort;
 use std::test::Fail;
+
+const NO_DELIMITER: Delim = Delim {
+    small: Symbol { fam: 0, code: 0 },
+    large: Symbol { fam: 0, code: 0 },
+};
 
 const SIGN: Delim = Delim {
     small: Symbol { fam: 2, code: 112 },
@@ -272,6 +278,62 @@ fn a_root_of_negative_depth(rt: HostRuntime) -> Result<(), Fail> {
             code: 0,
             h: 327680,
             v: 578560,
+        },
+    ];
+    assert_eq!(rt; page.as_slice(), want.as_slice());
+    Ok(())
+}
+
+// A letter of the toy italic at the script size, as a box.
+fn small_letter(rt: &impl Abort, alloc: Global, code: u8) -> Packed
+    ensures { result.level ≡ 1 }
+{
+    let extents = Extents {
+        width: 229376,
+        height: 229376,
+        depth: 0,
+    };
+    glyph_box(alloc, 4, code, extents).expect(rt, "a letter")
+}
+
+// A letter over a letter, with a rule 3sp thick: half of 3 is 2, so the denominator stands 1sp higher than
+// its shift says.
+#[test]
+fn a_rule_of_odd_thickness(rt: HostRuntime) -> Result<(), Fail> {
+    let alloc = rt.alloc();
+    let fonts = toy_fonts(&rt, alloc)?;
+    let num = small_letter(&rt, alloc, 97);
+    let den = small_letter(&rt, alloc, 98);
+    let body = fraction_box(
+        alloc,
+        &fonts,
+        Style::T,
+        3,
+        NO_DELIMITER,
+        NO_DELIMITER,
+        num,
+        den,
+    )
+    .expect(&rt, "a fraction");
+    let page = places(alloc, &body, 0, body.extents().height, 3).expect(&rt, "three places");
+    let want = [
+        Place::Glyph {
+            font: 4,
+            code: 97,
+            h: 78643,
+            v: 229376,
+        },
+        Place::Rule {
+            h: 78643,
+            v: 311297,
+            height: 3,
+            width: 229376,
+        },
+        Place::Glyph {
+            font: 4,
+            code: 98,
+            h: 78643,
+            v: 720895,
         },
     ];
     assert_eq!(rt; page.as_slice(), want.as_slice());
