@@ -1,9 +1,10 @@
 -- The symbol of an accent is found, and what the call answers by its character.
-use Rattle.std.proofs.Common.{◌≡◌, ℕ, ℤ, ◌+ℤ◌, ◌-ℤ◌, ◌∷◌, List, refl, arith, sym, ◌∙◌, ap, subst, Some, Bool, true, false, if◌then◌else◌, slice_get, unwrap_or, ◌^◌, w64, to_z, of_z}
+use Rattle.std.proofs.Common.{◌≡◌, ℕ, ℤ, ◌+ℤ◌, ◌-ℤ◌, ◌∷◌, List, refl, arith, sym, ◌∙◌, ap, subst, Some, Bool, true, false, if◌then◌else◌, slice_get, unwrap_or, ◌^◌, w64, to_z, of_z, lit<}
 use Rattle.std.proofs.lemmas.Int.{ints}
 use Rattle.std.specs.Int.{int_max, int_min}
 use Rattle.std.specs.Prelude.{Result, Ok, Err, IsOk, IsTrue, ⊤}
-use Rattle.mt_scaled.specs.Number.{Within, max_dimen, half_of}
+use Rattle.mt_scaled.specs.Number.{Within, half_of}
+use Rattle.mt_scaled.proofs.Products.{kept}
 use Rattle.mt_tfm.specs.Font.{Metrics, exists, width_of, height_of, depth_of, italic_of, param_of}
 use Rattle.mt_family.specs.declared.size.Size.{Size}
 use Rattle.mt_family.specs.SetValue.{SetValue, number_in}
@@ -108,10 +109,7 @@ accent_fails fonts n k start code m skew plain body (PartOverflow value) same f 
 accent_fails fonts n k start code m skew plain body (PartTooTall count) same f c h = fails fonts n k start code m skew plain body (TooTall count) same f c h
 accent_fails fonts n k start code m skew plain body NoPartMemory same f c h = tt
 
--- ---- the numbers of the call come through unchanged
+-- ---- a number of the call comes through unchanged
 
-pub width_kept : (x : ℤ) → Within max_dimen x → to_z w64 (of_z w64 x) ≡ x
-width_kept x h = omega (arith, ints, h.low, h.high)
-
-pub skew_kept : (x : ℤ) → Within (2 ^ 38) x → to_z w64 (of_z w64 x) ≡ x
-skew_kept x h = omega (arith, ints, h.low, h.high)
+pub number_kept : (x : ℤ) → Within (2 ^ 40) x → to_z w64 (of_z w64 x) ≡ x
+number_kept x h = kept (2 ^ 40) x h (lit< tt)

@@ -2,7 +2,7 @@
 use Rattle.std.proofs.Common.{◌≡◌, ◌^◌, List, [], ◌∷◌, ◌++◌, ℤ, pos, neg_ℤ, ◌+ℤ◌, ◌-ℤ◌, ◌*ℤ◌, refl, arith, sym, ◌∙◌, ap, subst, lit<, w64, to_z, of_z}
 use Rattle.std.proofs.lemmas.Int.{ints, clamps}
 use Rattle.std.specs.Int.{int_max}
-use Rattle.std.specs.Prelude.{Result, Ok, Err}
+use Rattle.std.specs.Prelude.{Result}
 use Rattle.mt_scaled.specs.Number.{Within, half_of, max_dimen}
 use Rattle.mt_scaled.proofs.Products.{kept}
 use Rattle.mt_family.specs.SetValue.{SetValue}
@@ -20,11 +20,9 @@ use Rattle.mt_rules.specs.Calls.{PartAnswers}
 use Rattle.mt_rules.specs.Fractions.{shifts_with_rule, shifts_without_rule, layout_with_rule, layout_without_rule}
 use Rattle.mt_rules.proofs.Stacks.{rule_opened}
 use Rattle.mt_parts.specs.Widths.{layout_of_width}
+use Rattle.mt_parts.proofs.Clamps.{two_clamps}
 
 -- ---- the widths of the columns
-
-two_clamps : (x : ℤ) → int_max (pos 0) (int_max (pos 0) x) ≡ int_max (pos 0) x
-two_clamps x = omega (arith, ints, clamps)
 
 width_of_equals : (a : ℤ) → int_max (a +ℤ pos 0) (int_max (pos 0) (int_max (a +ℤ pos 0) (pos 0))) ≡ int_max (pos 0) a
 width_of_equals a = omega (arith, ints, clamps)

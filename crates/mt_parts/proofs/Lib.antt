@@ -8,6 +8,8 @@ pub mod Widest
 pub mod Accenting
 -- the symbol of an accent, and its character
 pub mod Finding
+-- small facts of clamps and halves
+pub mod Clamps
 -- lines one below another
 pub mod Lining
 -- faults of the steps of a part

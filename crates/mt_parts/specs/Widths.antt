@@ -1,6 +1,5 @@
 -- A layout with another width (`layout_of_width`).
 use Rattle.std.specs.Prelude.{ℤ}
-use Rattle.mt_box.specs.declared.extents.Extents.{Extents}
 use Rattle.mt_box.specs.Layout.{Layout}
 
 abbrev pub layout_of_width : ℤ → Layout → Layout

@@ -1,5 +1,5 @@
 //! An accent over a nucleus (The TeXbook, Appendix G, rule 12; tex.web §738 to §742).
-ghost use Rattle.std.specs.Prelude.{◌≡◌, ◌≤◌, ◌<◌, ◌^◌, ◌+◌, ◌+ℤ◌, ◌-ℤ◌, ◌≤ℤ◌, ◌&&◌, ◌∷◌, [], ℕ, length, max, neg_ℤ, pos, int_le, IfOk, IsOk, IsTrue, Ok};
+ghost use Rattle.std.specs.Prelude.{◌≡◌, ◌≤◌, ◌<◌, ◌^◌, ◌+◌, ◌*◌, ◌+ℤ◌, ◌-ℤ◌, ◌≤ℤ◌, ◌&&◌, ◌∷◌, [], ℕ, length, max, neg_ℤ, pos, int_le, IfOk, IsOk, IsTrue, Ok};
 ghost use Rattle.std.specs.Int.{int_max, int_min};
 ghost use Rattle.mt_scaled.specs.Number.{Within, half_of};
 ghost use Rattle.mt_tfm.specs.Font.{exists, width_of, italic_of, param_of};
@@ -13,20 +13,24 @@ ghost use Rattle.mt_rules.specs.Symbols.{find_symbol, extents_without_italic};
 ghost use Rattle.mt_rules.specs.Accents;
 ghost use Rattle.mt_parts.specs.Accented.{accented_layout};
 
+use crate::shifts::half_of_length;
 use mt_box::{Extents, PackError, Packed, Piece, Row, first_out, glyph_box, hpack, with_extents};
 use mt_family::{FontSet, Size};
 use mt_rules::{PartError, Symbol};
-use mt_scaled::{Length, half};
+use mt_scaled::Length;
 use mt_tfm::Font;
 use std::alloc::{AllocError, Global};
 
-/// A nucleus with an accent over it. `plain` is what the nucleus reaches without its scripts, in
-/// range, and the body has those that belong under the accent. `skew` moves the accent to the
-/// right, and is at most 2^38 in size. The accent's symbol is found at this size.
+/// A nucleus with an accent over it. `plain` is what the nucleus reaches without its scripts, and
+/// the body has those that belong under the accent. `skew` moves the accent to the right. It and
+/// the width and the height of `plain` are at most 2^40 in size. The body's level is at most
+/// 2^20 - 4. The accent's symbol is found at this size.
 ///
 /// The accent is the symbol's character, or one of its next larger ones: as far along as they
 /// exist and are not wider than `plain`. With its italic correction it stands in the middle of that
-/// width. The width and the depth are those of the body. The body's level is at most 2^20 - 4.
+/// width. It is raised by its own depth, and by as much as `plain` is higher than the x-height of
+/// the accent's font, where it is. The width and the depth are those of the body; the height is the
+/// body's, or that of the accent's top where it is higher.
 ///
 /// Refused with `Overflow` of the first extent out of range of the accent's glyph, and then of the
 /// whole; and with `OutOfMemory`.
@@ -41,8 +45,9 @@ pub fn accent_box(
     body: Packed,
 ) -> Result<Packed, PartError>
     requires found { IsOk (find_symbol fonts.now size accent) }
-    requires skew { Within (2 ^ 38) skew }
-    requires plain { ExtentsInRange plain }
+    requires skew { Within (2 ^ 40) skew }
+    requires plain_width { Within (2 ^ 40) plain.width }
+    requires plain_height { Within (2 ^ 40) plain.height }
     requires level { body.level + 4 ≤ 2 ^ 20 }
     ensures is { (n : ℕ) → find_symbol fonts.now size accent ≡ Ok n
         → PartAnswers result (Accents.accent fonts.now n accent.code skew plain (layout_of body)) }
@@ -57,9 +62,9 @@ pub fn accent_box(
     };
     let code = widest_code(font, Length { sp: plain.width }, accent.code);
     let glyph = accent_glyph(alloc, number, font, code)?;
-    let x = shift_of_accent(Length { sp: skew }, plain, width_with_italic(font, code));
-    let y = raise_of_accent(x_height(font), plain, body.extents(), glyph.extents());
-    accented_box(alloc, x, y, glyph, body)
+    let to_middle = shift_to_middle(plain, width_with_italic(font, code));
+    let y = raise_of_accent(x_height_of(font), plain, body.extents(), glyph.extents());
+    accented_box(alloc, Length { sp: skew }, to_middle, y, glyph, body)
 }
 
 // The last character of the chain of next larger ones before one that is wider, or does not exist.
@@ -117,47 +122,34 @@ fn width_with_italic(font: &Font, code: u8) -> Length
 }
 
 // The height of the small letters of the accent's font.
-fn x_height(font: &Font) -> Length
+fn x_height_of(font: &Font) -> Length
     ensures is { result.sp ≡ param_of font.now 5 }
     ensures small { Within (2 ^ 31) result.sp }
 {
     Length { sp: font.param(5) }
 }
 
-// How far to the right the accent stands.
-#[tactic(auto, using(std::proofs::lemmas::Int::ints))]
-fn shift_of_accent(skew: Length, plain: Extents, width: Length) -> Length
-    requires skew { Within (2 ^ 38) skew.sp }
-    requires plain { ExtentsInRange plain }
+// How far to the right a width starts that stands in the middle of another.
+fn shift_to_middle(plain: Extents, width: Length) -> Length
+    requires plain { Within (2 ^ 40) plain.width }
     requires width { Within (2 ^ 32) width.sp }
-    ensures is { result.sp ≡ skew.sp +ℤ half_of (plain.width -ℤ width.sp) }
-    ensures small { Within (2 ^ 39) result.sp }
+    ensures is { result.sp ≡ half_of (plain.width -ℤ width.sp) }
+    ensures small { Within (3 * 2 ^ 38) result.sp }
 {
     let room = Length { sp: plain.width }.minus(width);
-    skew.plus(half_of_length(room))
-}
-
-#[tactic(auto, using(std::proofs::lemmas::Int::ints))]
-fn half_of_length(length: Length) -> Length
-    requires { Within (2 ^ 33) length.sp }
-    ensures is { result.sp ≡ half_of length.sp }
-    ensures small { Within (2 ^ 33) result.sp }
-{
-    Length {
-        sp: half(length.sp),
-    }
+    half_of_length(room)
 }
 
 // How far the accent's baseline is above the body's. It is at least the accent's depth.
 #[tactic(auto, using(std::proofs::lemmas::Int::ints, std::proofs::lemmas::Int::clamps))]
 fn raise_of_accent(x_height: Length, plain: Extents, body: Extents, accent: Extents) -> Length
     requires x_height { Within (2 ^ 31) x_height.sp }
-    requires plain { ExtentsInRange plain }
+    requires plain { Within (2 ^ 40) plain.height }
     requires body { ExtentsInRange body }
     requires accent { ExtentsInRange accent }
     ensures is { result.sp ≡ (body.height -ℤ (int_min plain.height x_height.sp
         +ℤ (body.height -ℤ plain.height))) +ℤ accent.depth }
-    ensures small { Within (2 ^ 34) result.sp }
+    ensures small { Within (2 ^ 42) result.sp }
     ensures low { accent.depth ≤ℤ result.sp }
 {
     let height = Length { sp: body.height };
@@ -176,17 +168,19 @@ fn lesser(a: Length, b: Length) -> Length
 // The accent to the right of the body's reference point and above it, then the body.
 fn accented_box(
     alloc: Global,
-    x: Length,
+    skew: Length,
+    to_middle: Length,
     y: Length,
     accent: Packed,
     body: Packed,
 ) -> Result<Packed, PartError>
-    requires x { Within (2 ^ 39) x.sp }
-    requires y { Within (2 ^ 34) y.sp }
+    requires skew { Within (2 ^ 40) skew.sp }
+    requires to_middle { Within (3 * 2 ^ 38) to_middle.sp }
+    requires y { Within (2 ^ 42) y.sp }
     requires low { accent.extents.depth ≤ℤ y.sp }
     requires accent_level { accent.level ≡ 1 }
     requires level { body.level + 4 ≤ 2 ^ 20 }
-    ensures is { PartAnswers result (make_box (accented_layout x.sp y.sp
+    ensures is { PartAnswers result (make_box (accented_layout (skew.sp +ℤ to_middle.sp) y.sp
         (layout_of accent) (layout_of body))) }
     ensures level { IfOk result (λ b. b.level ≡ max body.level 1 + 1) }
     ensures in_range { IfOk result (λ b. ExtentsInRange b.extents) }
@@ -195,7 +189,7 @@ fn accented_box(
     if let Some(value) = first_out(extents) {
         return Err(PartError::Overflow(value));
     }
-    let row = accented_row(alloc, x, y, accent, body)?;
+    let row = accented_row(alloc, skew, to_middle, y, accent, body)?;
     match hpack(alloc, row) {
         Ok(packed) => Ok(with_extents(packed, extents)),
         Err(PackError::Overflow(_)) => unreachable!(),
@@ -203,9 +197,10 @@ fn accented_box(
     }
 }
 
+// What the whole is to reach.
 #[tactic(auto, using(std::proofs::lemmas::Int::ints, std::proofs::lemmas::Int::clamps))]
 fn accented_extents(y: Length, accent: Extents, body: Extents) -> Extents
-    requires y { Within (2 ^ 34) y.sp }
+    requires y { Within (2 ^ 42) y.sp }
     requires accent { ExtentsInRange accent }
     requires body { ExtentsInRange body }
     ensures width { result.width ≡ body.width }
@@ -220,48 +215,63 @@ fn accented_extents(y: Length, accent: Extents, body: Extents) -> Extents
     }
 }
 
-// The row of the accent and the body, as wide as the body.
+// The row of the accent and the body, as wide as the body. The skew and the shift to the middle
+// are kerns of their own, since their sum may be greater than a packer takes.
 fn accented_row(
     alloc: Global,
-    x: Length,
+    skew: Length,
+    to_middle: Length,
     y: Length,
     accent: Packed,
     body: Packed,
 ) -> Result<Row, AllocError>
-    requires x { Within (2 ^ 39) x.sp }
+    requires skew { Within (2 ^ 40) skew.sp }
+    requires to_middle { Within (3 * 2 ^ 38) to_middle.sp }
     requires y { Within (2 ^ 34) y.sp }
     requires accent_level { accent.level ≡ 1 }
     requires level { body.level + 4 ≤ 2 ^ 20 }
     ensures is { IfOk result (λ row. piece_values row
-        ≡ PieceKern x.sp ∷ PieceBox y.sp (layout_of accent)
-        ∷ PieceKern (neg_ℤ (x.sp +ℤ accent.extents.width))
+        ≡ PieceKern skew.sp ∷ PieceKern to_middle.sp ∷ PieceBox y.sp (layout_of accent)
+        ∷ PieceKern (neg_ℤ (to_middle.sp +ℤ accent.extents.width)) ∷ PieceKern (neg_ℤ skew.sp)
         ∷ PieceBox (pos 0) (layout_of body) ∷ []) }
     ensures modest { IfOk result AllModest }
-    ensures few { IfOk result (λ row. length row ≡ 4) }
+    ensures few { IfOk result (λ row. length row ≡ 6) }
     ensures level { IfOk result (λ row. row_level row ≡ max body.level 1 + 1) }
 {
-    let back = back_to_start(x, accent.extents());
+    let from_end = back_to_start(to_middle, accent.extents());
+    let from_skew = negative_of(skew);
     let pieces = vec![in alloc;
-        Piece::Kern(x.sp),
+        Piece::Kern(skew.sp),
+        Piece::Kern(to_middle.sp),
         Piece::Boxed {
             raise: y.sp,
             body: accent,
         },
-        Piece::Kern(back.sp),
+        Piece::Kern(from_end.sp),
+        Piece::Kern(from_skew.sp),
         Piece::Boxed { raise: 0, body },
     ]?;
     Ok(Row::from_vec(pieces))
 }
 
-// From the accent's right end back to where its row starts.
+// From the accent's right end back to before the shift to the middle.
 #[tactic(auto, using(std::proofs::lemmas::Int::ints))]
-fn back_to_start(x: Length, accent: Extents) -> Length
-    requires x { Within (2 ^ 39) x.sp }
+fn back_to_start(to_middle: Length, accent: Extents) -> Length
+    requires to_middle { Within (3 * 2 ^ 38) to_middle.sp }
     requires accent { ExtentsInRange accent }
-    ensures is { result.sp ≡ neg_ℤ (x.sp +ℤ accent.width) }
+    ensures is { result.sp ≡ neg_ℤ (to_middle.sp +ℤ accent.width) }
     ensures small { Within (2 ^ 40) result.sp }
 {
     Length {
-        sp: -(x.sp + accent.width),
+        sp: -(to_middle.sp + accent.width),
     }
+}
+
+#[tactic(auto, using(std::proofs::lemmas::Int::ints))]
+fn negative_of(length: Length) -> Length
+    requires { Within (2 ^ 40) length.sp }
+    ensures is { result.sp ≡ neg_ℤ length.sp }
+    ensures small { Within (2 ^ 40) result.sp }
+{
+    Length { sp: -length.sp }
 }

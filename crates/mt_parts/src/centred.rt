@@ -21,7 +21,7 @@ use std::alloc::{AllocError, Global};
 
 // How far baselines are apart: 12pt (plain TeX's \baselineskip).
 const BASELINE_SKIP: Length = Length { sp: 786432 };
-// The gap where none would be left between two lines: 1pt (plain TeX's \lineskip).
+// The gap where it would be negative: 1pt (plain TeX's \lineskip, with a \lineskiplimit of 0pt).
 const LINE_SKIP: Length = Length { sp: 65536 };
 
 // Lines in a column, and how far it reaches from its top to its bottom.
@@ -38,11 +38,11 @@ struct LinesSoFar {
     depth: Option<Length>,
 }
 
-/// Rows one below another, the middle of the whole on the axis. Baselines are 12pt apart; where no
-/// space would be left between two rows, 1pt is.
+/// Rows one below another, the middle of the whole on the axis. Baselines are 12pt apart; where the
+/// gap between two rows would be negative, it is 1pt.
 ///
 /// There are at most 2^20 rows, and the level of each is at most 2^20 - 4. The level of the box is
-/// one more than the greatest of theirs.
+/// one more than the greatest of theirs, and 1 without rows.
 ///
 /// Refused with `Overflow` of the height or the depth of the whole that is out of range, and with
 /// `OutOfMemory`.

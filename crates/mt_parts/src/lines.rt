@@ -18,8 +18,8 @@ use std::alloc::{AllocError, Global};
 /// The body with a rule over it. The gap between them is three times the rule's thickness, and the space above the
 /// rule is as high as it is thick. The body's level is at most 2^20 - 4.
 ///
-/// Refused with `Overflow` of the first number out of range: the rule's width, its thickness, then an extent of the
-/// whole; and with `OutOfMemory`.
+/// Refused with `Overflow` of the first number out of range: the rule's thickness, then an extent of the whole; and with
+/// `OutOfMemory`. The rule's width is in range, since the body's is.
 #[tactic(auto, unfolding(mt_rules::specs::Lines::overline))]
 pub fn overline_box(
     alloc: Global,
@@ -42,8 +42,8 @@ pub fn overline_box(
 /// The body with a rule under it. The gap between them is three times the rule's thickness, and the space below the
 /// rule is as high as it is thick. The body's level is at most 2^20 - 4.
 ///
-/// Refused with `Overflow` of the first number out of range: the rule's width, its thickness, then an extent of the
-/// whole; and with `OutOfMemory`.
+/// Refused with `Overflow` of the first number out of range: the rule's thickness, then an extent of the whole; and with
+/// `OutOfMemory`. The rule's width is in range, since the body's is.
 #[tactic(auto, unfolding(mt_rules::specs::Lines::underline))]
 pub fn underline_box(
     alloc: Global,

@@ -19,10 +19,11 @@ use mt_rules::{Delim, PartError, Style, part_answer, test_rule};
 use mt_scaled::Length;
 use std::alloc::{AllocError, Global};
 
-/// The body beside a radical sign and under its rule. The rule is as thick as the sign is high, and so is the space
-/// above it. The gap between body and rule is at least as high as a rule of the font is thick and a quarter more: of
-/// |x_height| in display style, of that thickness else. The sign is a delimiter for what body, gap and rule reach
-/// together; where it is deeper than body and gap, the gap grows by half of that. The body's level is at most 2^20 - 4.
+/// The body beside a radical sign and under its rule. The rule is as thick as the sign is high, and the space above it
+/// is as high. The least gap between body and rule is as high as a rule of the font is thick, and a quarter more: of
+/// |x_height| in display style, of that thickness else. The sign is a delimiter for what the body, the least gap and a
+/// rule of the font reach together. Where the sign is deeper than body and least gap reach, half of the difference is
+/// added to the gap. The body's level is at most 2^20 - 4.
 ///
 /// Refused as by [`delimiter_box`] of the sign; then with `Overflow` of the first extent out of range, of body and rule
 /// together, then of the whole; and with `OutOfMemory`. The rule's width and thickness are those of boxes in range.
@@ -42,8 +43,8 @@ pub fn radical_box(
     let wanted = sign_size(fonts, style, extents);
     let raised = delimiter_box(alloc, fonts, sign, style.size(), wanted.sp)?;
     let sign_extents = raised.body.extents();
-    let height = bottom_of_rule(fonts, style, extents, sign_extents);
-    let nucleus = under_rule(alloc, height, sign_extents, body)?;
+    let height = bottom_over_body(fonts, style, extents, sign_extents);
+    let nucleus = nucleus_under_rule(alloc, height, sign_extents, body)?;
     let row = row_of_sign(alloc, height, raised.body, nucleus)?;
     part_answer(hpack(alloc, row))
 }
@@ -102,7 +103,7 @@ fn excess_of(least: Length, body: Extents, sign: Extents) -> Length
 
 // The gap between body and rule.
 #[tactic(auto, using(std::proofs::lemmas::Int::ints, std::proofs::lemmas::Int::clamps))]
-fn clearance_of(fonts: &FontSet, style: Style, body: Extents, sign: Extents) -> Length
+fn gap_over_body(fonts: &FontSet, style: Style, body: Extents, sign: Extents) -> Length
     requires body { ExtentsInRange body }
     requires sign { ExtentsInRange sign }
     ensures is { result.sp ≡ Radicals.clearance fonts.now style body sign }
@@ -115,17 +116,17 @@ fn clearance_of(fonts: &FontSet, style: Style, body: Extents, sign: Extents) -> 
 
 // How high the bottom of the rule is above the body's baseline.
 #[tactic(auto, using(std::proofs::lemmas::Int::ints))]
-fn bottom_of_rule(fonts: &FontSet, style: Style, body: Extents, sign: Extents) -> Length
+fn bottom_over_body(fonts: &FontSet, style: Style, body: Extents, sign: Extents) -> Length
     requires body { ExtentsInRange body }
     requires sign { ExtentsInRange sign }
     ensures is { result.sp ≡ body.height +ℤ Radicals.clearance fonts.now style body sign }
     ensures small { Within (2 ^ 38) result.sp }
 {
-    Length { sp: body.height }.plus(clearance_of(fonts, style, body, sign))
+    Length { sp: body.height }.plus(gap_over_body(fonts, style, body, sign))
 }
 
 // The body under a rule that is as thick as the sign is high, and as much space above the rule.
-fn under_rule(
+fn nucleus_under_rule(
     alloc: Global,
     height: Length,
     sign: Extents,
@@ -141,7 +142,7 @@ fn under_rule(
     test_rule(rule_width(extents).sp, sign.height)?;
     let gap = gap_under(height, extents);
     let column = column_under_rule(alloc, sign, gap, body)?;
-    part_answer(vpack(alloc, column, top_over(height, sign).sp))
+    part_answer(vpack(alloc, column, top_with_space(height, sign).sp))
 }
 
 #[tactic(auto, using(std::proofs::lemmas::Int::ints))]
@@ -156,7 +157,7 @@ fn gap_under(height: Length, body: Extents) -> Length
 
 // How high the space above the rule reaches.
 #[tactic(auto, using(std::proofs::lemmas::Int::ints))]
-fn top_over(height: Length, sign: Extents) -> Length
+fn top_with_space(height: Length, sign: Extents) -> Length
     requires height { Within (2 ^ 38) height.sp }
     requires sign { ExtentsInRange sign }
     ensures is { result.sp ≡ height.sp +ℤ (pos 2 *ℤ sign.height) }

@@ -20,17 +20,17 @@ pub returns-in_err-nucleus-clause-is : goal.returns-in_err-nucleus-clause-is
 returns-in_err-nucleus-clause-is c =
     let p = err_from_is_err_and c.from_residual-in_err-nucleus.result c.from_residual-in_err-nucleus.ensures.1 in
     rw (p.1, p.2)
-    (nucleus_fault c.args.fonts.now c.args.style c.args.sign (layout_of c.args.body) (layout_of c.in_ok-raised.raised.body) _ c.bottom_of_rule-height.result.sp c.in_err-nucleus.field-0.0
+    (nucleus_fault c.args.fonts.now c.args.style c.args.sign (layout_of c.args.body) (layout_of c.in_ok-raised.raised.body) _ c.bottom_over_body-height.result.sp c.in_err-nucleus.field-0.0
     (kept (2 ^ 34) _ c.sign_size-wanted.ensures.small (lit< tt) ∙ rw c.extents-extents.ensures.is at c.sign_size-wanted.ensures.is)
-    (rw (c.extents-extents.ensures.is, c.extents-sign_extents.ensures.is) at c.bottom_of_rule-height.ensures.is)
+    (rw (c.extents-extents.ensures.is, c.extents-sign_extents.ensures.is) at c.bottom_over_body-height.ensures.is)
     (rw c.size.ensures at c.in_ok-raised.ensures.is)
     (rw c.extents-sign_extents.ensures.is at c.in_err-nucleus.ensures.is))
 
 pub returns-clause-is : goal.returns-clause-is
 returns-clause-is c =
-    radical_answers c.args.fonts.now c.args.style c.args.sign (layout_of c.args.body) (layout_of c.in_ok-raised.raised.body) (layout_of c.in_ok-nucleus.nucleus) _ c.bottom_of_rule-height.result.sp (piece_values c.in_ok-row.row) _
+    radical_answers c.args.fonts.now c.args.style c.args.sign (layout_of c.args.body) (layout_of c.in_ok-raised.raised.body) (layout_of c.in_ok-nucleus.nucleus) _ c.bottom_over_body-height.result.sp (piece_values c.in_ok-row.row) _
     (kept (2 ^ 34) _ c.sign_size-wanted.ensures.small (lit< tt) ∙ rw c.extents-extents.ensures.is at c.sign_size-wanted.ensures.is)
-    (rw (c.extents-extents.ensures.is, c.extents-sign_extents.ensures.is) at c.bottom_of_rule-height.ensures.is)
+    (rw (c.extents-extents.ensures.is, c.extents-sign_extents.ensures.is) at c.bottom_over_body-height.ensures.is)
     (rw c.size.ensures at c.in_ok-raised.ensures.is)
     (rw c.extents-sign_extents.ensures.is at c.in_ok-nucleus.ensures.is)
     c.in_ok-row.ensures.is (c.part_answer.ensures.is _ c.hpack.ensures.packs)
