@@ -14,7 +14,7 @@ use Rattle.mt_rules.specs.Parameters.{axis_height}
 use Rattle.mt_rules.specs.Delimiters.{delimiter, piece_on_axis}
 use Rattle.mt_delim.specs.RaisedBoxes.{RaisedAnswers}
 use Rattle.mt_convert.specs.declared.fault.SetFault.{SetFault}
-use Rattle.mt_convert.specs.Faults.{FromPart}
+use Rattle.mt_convert.specs.Faults.{FaultFromPart}
 use Rattle.mt_convert.specs.Calls.{SetFails}
 use Rattle.mt_convert.specs.SecondPass.{boundary_piece}
 
@@ -23,7 +23,7 @@ boundary_is fonts size wanted wanted' delim raise raise' body e f g h =
     ap (λ s. s >>= (λ box. Ok (piece_on_axis fonts size box))) (ap (λ w. delimiter fonts delim size w) (sym e) ∙ f)
     ∙ ap (λ r. Ok (PieceBox r (layout_of body))) (sym (h ∙ g))
 
-pub part_fails : (fonts : SetValue) (size : Size) (wanted wanted' : ℤ) (delim : Delim) (error : PartError) (fault : SetFault) → wanted' ≡ wanted → RaisedAnswers (Err error) (delimiter fonts delim size wanted') → FromPart error fault → SetFails fault (boundary_piece fonts size wanted delim)
+pub part_fails : (fonts : SetValue) (size : Size) (wanted wanted' : ℤ) (delim : Delim) (error : PartError) (fault : SetFault) → wanted' ≡ wanted → RaisedAnswers (Err error) (delimiter fonts delim size wanted') → FaultFromPart error fault → SetFails fault (boundary_piece fonts size wanted delim)
 part_fails fonts size wanted wanted' delim (PartOverflow value) fault e h g = rw g (ap (λ s. s >>= (λ box. Ok (piece_on_axis fonts size box))) (ap (λ w. delimiter fonts delim size w) (sym e) ∙ h))
 part_fails fonts size wanted wanted' delim (PartTooTall n) fault e h g = rw g (ap (λ s. s >>= (λ box. Ok (piece_on_axis fonts size box))) (ap (λ w. delimiter fonts delim size w) (sym e) ∙ h))
 part_fails fonts size wanted wanted' delim NoPartMemory fault e h g = rw g tt

@@ -1,10 +1,40 @@
 -- rows that a packer takes
 pub mod Fitting
+-- rows that fit, and their levels packed
+pub mod Packable
+-- what the nuclei of the code keep
+pub mod SetNuclei
+-- rows with scripts
+pub mod SetRows
 -- lists made part by part
 pub mod Appending
 -- boxes of boundaries
 pub mod Boundaries
 -- the second pass, item by item
 pub mod SecondPass
+-- rows whose glyphs exist and whose rules mark something
+pub mod holds
+-- stacks as lists
+pub mod Stacks
+-- what a turn leaves
+pub mod Turning
+-- boundaries stay at the ends
+pub mod Remaining
+-- classes settled from the right
+pub mod Settling
+-- how far atoms reach
+pub mod Reaching
+-- neighbours while a list is set
+pub mod Following
+-- items set in order
+pub mod InOrder
+-- the first pass, turn by turn
+pub mod Going
+-- both passes
+pub mod BothPasses
 -- whole lists in the example fonts, worked
 mod cases
+-- atoms of each kind, and fractions
+pub mod kinds
+-- lists that the tests make
+pub mod TestLists

@@ -15,7 +15,7 @@ use Rattle.mt_convert.specs.declared.half.Half.{Half}
 use Rattle.mt_convert.specs.Current.{opening}
 use Rattle.mt_convert.specs.Halves.{HalfValue, class_to_left}
 use Rattle.mt_convert.specs.Calls.{SetFails}
-use Rattle.mt_convert.specs.Halfway.{half_value, half_values, RowFits, HalfFits, AllFit, AllMeet, MayMeet, count_of, total_of}
+use Rattle.mt_convert.specs.Halfway.{half_value, half_values, RowFits, HalfFits, HalvesFit, AllMeet, MayMeet, count_of, total_of}
 use Rattle.mt_convert.specs.SecondPass.{all_pieces, half_pieces, current_past, row_of_halves, second_pass_of}
 use Rattle.mt_convert.specs.inner.Appending.{behind}
 use Rattle.mt_convert.proofs.Appending.{behind_nil, behind_end, behind_step, behind_err, fails_on}
@@ -26,7 +26,7 @@ pub record SoFar (fonts : SetValue) (size : Size) (wanted : ℤ) (style : Style)
   pub whole_is : all_pieces fonts size wanted (opening style) (half_values whole) ≡ behind (piece_values pieces) (all_pieces fonts size wanted current (half_values rest))
   pub meet : AllMeet current.last (half_values rest)
   pub few : length pieces + total_of rest + 2 * length rest ≤ 2 ^ 21
-  pub fits : (n : ℕ) → 2 ≤ n → AllFit n whole → RowFits n pieces × AllFit n rest
+  pub fits : (n : ℕ) → 2 ≤ n → HalvesFit n whole → RowFits n pieces × HalvesFit n rest
 
 pub so_far_start : (fonts : SetValue) (size : Size) (wanted : ℤ) (style : Style) (whole rest : List Half) (pieces : List Piece) → AllMeet None (half_values whole) → length whole ≤ 2 ^ 19 → total_of whole ≤ 2 ^ 20 → rest ≡ whole → pieces ≡ [] → SoFar fonts size wanted style whole (record { style = style; last = None }) rest pieces
 so_far_start fonts size wanted style whole rest pieces meet few total e g = rw (e, g) (record {
@@ -66,7 +66,7 @@ so_far_end fonts size wanted style whole current rest pieces s eq =
 -- what the finished row keeps
 pub record Finished (whole : List Half) (pieces : List Piece) : Type 0 where
   pub few : length pieces ≤ 2 ^ 21
-  pub fits : (n : ℕ) → 2 ≤ n → AllFit n whole → RowFits n pieces
+  pub fits : (n : ℕ) → 2 ≤ n → HalvesFit n whole → RowFits n pieces
 
 pub finished : (fonts : SetValue) (size : Size) (wanted : ℤ) (style : Style) (whole : List Half) (current : Current) (rest : List Half) (pieces : List Piece) → SoFar fonts size wanted style whole current rest pieces → Finished whole pieces
 finished fonts size wanted style whole current rest pieces s = record { few = omega (arith, s.few); fits = λ n le k. (s.fits n le k).0 }

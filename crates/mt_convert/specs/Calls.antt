@@ -5,6 +5,8 @@ use Rattle.mt_box.specs.Rows.{PieceValue, piece_value, piece_values}
 use Rattle.mt_rules.specs.Setting.{Setting, MissingFamily, MissingChar, SmartLigature, Overflow, TooTall}
 use Rattle.mt_convert.specs.declared.fault.SetFault.{SetFault}
 use Rattle.mt_convert.specs.declared.fault.SetFault.TheVariants as set
+use Rattle.mt_convert.specs.Halves.{Halves}
+use Rattle.mt_convert.specs.Halfway.{HalfwayValue, halves_value}
 
 -- this fault is the first one
 abbrev pub SetFails : {A : Type 0} → SetFault → Setting A → Type 0
@@ -22,3 +24,7 @@ SetsRow (Err fault) setting = SetFails fault setting
 abbrev pub SetsPiece : Result Piece SetFault → Setting PieceValue → Type 0
 SetsPiece (Ok piece) setting = setting ≡ Ok (piece_value piece)
 SetsPiece (Err fault) setting = SetFails fault setting
+
+abbrev pub SetsHalves : Result HalfwayValue SetFault → Setting Halves → Type 0
+SetsHalves (Ok half) setting = setting ≡ Ok (halves_value half)
+SetsHalves (Err fault) setting = SetFails fault setting

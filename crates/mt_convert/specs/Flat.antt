@@ -1,5 +1,5 @@
 -- The flat list of a math list (`flat`): choices are taken, conditional spaces have had their effect, and symbols are joined (The
--- TeXbook, Appendix G, rules 2 to 4 and 14; tex.web, sections 731 and 752).
+-- TeXbook, Appendix G, rules 2 to 4 and 14; tex.web, sections 731, 732 and 752).
 use Rattle.std.specs.Prelude.{ℕ, zero, suc, ℤ, pos, Bool, true, false, if◌then◌else◌, List, [], ◌∷◌, ◌++◌, Option, Some, None}
 use Rattle.mt_tfm.specs.declared.pair.Pair.{Pair}
 use Rattle.mt_tfm.specs.declared.pair.Pair.TheVariants.{None as NoPair, Kern as KernPair, Join as JoinPair, Smart as RefusedPair}
@@ -19,7 +19,8 @@ use Rattle.mt_rules.specs.Nuclei.{SymbolContent, SymbolRole, OrdinarySymbol, Tex
 use Rattle.mt_rules.specs.AtomRow.{AtomContent, FractionContent}
 use Rattle.mt_convert.specs.declared.current.Current.{Current}
 use Rattle.mt_convert.specs.Contents.{ItemContent, AtomItem, FractionItem, LeftItem, RightItem, StyleItem, ChoiceItem, MuSpaceItem, SpaceItem, MuKernItem, KernItem, NonscriptItem, ItemContents, NoItems, MoreItems, append_items}
-use Rattle.mt_convert.specs.Joining.{SymbolPair, pair_with_next, pair_of_fonts}
+use Rattle.mt_convert.specs.declared.joining.SymbolPair.{SymbolPair}
+use Rattle.mt_convert.specs.Joining.{pair_with_next, pair_of_fonts}
 
 -- An item of the flat list. There are no choices and no conditional spaces among them.
 pub data FlatItem : Type 0 where
@@ -54,11 +55,11 @@ current_after current item = record { style = style_after current.style item; la
 -- ---- one turn, at the front of a list
 
 -- the front is passed as items of the flat list, or it is rewritten and looked at again
-pub data Turn : Type 0 where
-  Passes : (items : List FlatItem) (rest : ItemContents) → Turn
-  Rewrites : (rest : ItemContents) → Turn
+pub data FrontTurn : Type 0 where
+  Passes : (items : List FlatItem) (rest : ItemContents) → FrontTurn
+  Rewrites : (rest : ItemContents) → FrontTurn
 
-abbrev pub passes : FlatItem → ItemContents → Turn
+abbrev pub passes : FlatItem → ItemContents → FrontTurn
 passes item rest = Passes (item ∷ []) rest
 
 -- a ligature makes both one ordinary atom of the new character, which has the scripts of the second
@@ -73,14 +74,14 @@ first_as_symbol symbol (MoreItems item rest) = MoreItems (as_symbol symbol item)
 
 -- The first of a pair that is looked up is a symbol of a text; a kern of the pair stands between the two. Where the pair has a ligature
 -- of another kind, setting this atom is refused, so what follows it has no effect.
-abbrev pub pair_turn : SymbolPair → AtomContent → ItemContents → Option Pair → Turn
+abbrev pub pair_turn : SymbolPair → AtomContent → ItemContents → Option Pair → FrontTurn
 pair_turn p a rest None = passes (FlatAtom OrdinarySymbol a) rest
 pair_turn p a rest (Some NoPair) = passes (FlatAtom TextSymbol a) rest
 pair_turn p a rest (Some (KernPair amount)) = Passes (FlatAtom TextSymbol a ∷ FlatKern amount ∷ []) rest
 pair_turn p a rest (Some (JoinPair code)) = Rewrites (first_as_symbol (record { fam = p.fam; code = code }) rest)
 pair_turn p a rest (Some RefusedPair) = passes (FlatAtom (SmartPair p.first p.second) a) rest
 
-abbrev pub atom_turn : SetValue → Size → AtomContent → ItemContents → Option SymbolPair → Turn
+abbrev pub atom_turn : SetValue → Size → AtomContent → ItemContents → Option SymbolPair → FrontTurn
 atom_turn fonts size a rest None = passes (FlatAtom OrdinarySymbol a) rest
 atom_turn fonts size a rest (Some p) = pair_turn p a rest (pair_of_fonts fonts size p)
 
@@ -114,7 +115,7 @@ after_nonscript style rest = if is_display_or_text style then rest else without_
 abbrev pub no_glue : Glue
 no_glue = record { width = pos 0; shrink = pos 0 }
 
-abbrev pub turn : SetValue → Current → ItemContent → ItemContents → Turn
+abbrev pub turn : SetValue → Current → ItemContent → ItemContents → FrontTurn
 turn fonts current (AtomItem a) rest =
     atom_turn fonts (size_of current.style) a rest (pair_with_next current.last a rest)
 turn fonts current (FractionItem f) rest = passes (FlatFraction f) rest
@@ -135,7 +136,7 @@ abbrev pub current_after_all : Current → List FlatItem → Current
 current_after_all current [] = current
 current_after_all current (item ∷ items) = current_after_all (current_after current item) items
 
-abbrev pub flat_by : (Current → ItemContents → List FlatItem) → Current → Turn → List FlatItem
+abbrev pub flat_by : (Current → ItemContents → List FlatItem) → Current → FrontTurn → List FlatItem
 flat_by next current (Passes items rest) = items ++ next (current_after_all current items) rest
 flat_by next current (Rewrites rest) = next current rest
 

@@ -46,9 +46,9 @@ HalfFits most (half.Style style) = ⊤
 HalfFits most (half.Kern amount) = Within (2 ^ 40) amount
 HalfFits most (half.Space glue) = Within (2 ^ 40) glue.width × Within (2 ^ 40) glue.shrink
 
-abbrev pub AllFit : ℕ → List Half → Type 0
-AllFit most [] = ⊤
-AllFit most (h ∷ hs) = HalfFits most h × AllFit most hs
+abbrev pub HalvesFit : ℕ → List Half → Type 0
+HalvesFit most [] = ⊤
+HalvesFit most (h ∷ hs) = HalfFits most h × HalvesFit most hs
 
 -- how many pieces the rows of items have
 abbrev pub count_of : Half → ℕ
@@ -95,7 +95,7 @@ pub record IsHalfway (h : HalfwayValue) : Type 0 where
   pub meet : AllMeet None (half_values h.items)
   pub few : length h.items ≤ 2 ^ 19
   pub total : total_of h.items ≤ 2 ^ 20
-  pub fit : AllFit (2 ^ 16) h.items
+  pub fit : HalvesFit (2 ^ 16) h.items
   pub height_low : pos 0 ≤ℤ h.height
   pub height_high : h.height ≤ℤ pos max_dimen
   pub depth_low : pos 0 ≤ℤ h.depth

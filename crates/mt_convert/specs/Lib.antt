@@ -14,6 +14,8 @@ pub mod FirstPass
 pub mod SecondPass
 -- the row of a list
 pub mod ListRow
+-- rows whose glyphs exist and whose rules mark something
+pub mod Holding
 -- the faults of boxes and parts
 pub mod Faults
 -- what a call answers

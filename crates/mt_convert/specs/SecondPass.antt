@@ -32,13 +32,13 @@ spacing_pieces MediumSpacing unit = glue_piece (spacing_glue MediumSpacing unit)
 spacing_pieces ThickSpacing unit = glue_piece (spacing_glue ThickSpacing unit) ∷ []
 
 -- none before the first atom
-abbrev pub space_between : SetValue → Style → Option Class → Class → List PieceValue
-space_between fonts style None right = []
-space_between fonts style (Some left) right = spacing_pieces (spacing left right style) (math_unit fonts style)
+abbrev pub pieces_between : SetValue → Style → Option Class → Class → List PieceValue
+pieces_between fonts style None right = []
+pieces_between fonts style (Some left) right = spacing_pieces (spacing left right style) (math_unit fonts style)
 
 -- in the style at the atom
 abbrev pub space_before : SetValue → Current → Class → List PieceValue
-space_before fonts current right = space_between fonts current.style current.last right
+space_before fonts current right = pieces_between fonts current.style current.last right
 
 -- ---- the pieces of an item
 

@@ -1,2 +1,24 @@
 -- lists that are made part by part
 pub mod Appending
+-- what an item and a part of a modest list keep
+pub mod Modest
+-- the fields of atoms and fractions
+pub mod Fields
+-- one turn on a list of the code
+pub mod Turns
+-- where boundaries stand in what is left of a list
+pub mod Boundaries
+-- a stack of items as a list
+pub mod Stack
+-- a nucleus of the code
+pub mod Nucleus
+-- the kern of a joined pair
+pub mod Lengths
+-- final classes in the list of the code
+pub mod Settling
+-- what a call inside the crate answers
+pub mod Answers
+-- the nucleus of each kind
+pub mod Kinds
+-- how an atom is built
+pub mod Forms

@@ -19,13 +19,18 @@ use std::alloc::Global;
 
 // The size of the style in which a list begins, and the wanted size of its boundaries.
 #[derive(Clone, Copy)]
-pub(crate) struct Frame {
+pub(crate) struct BoundaryFrame {
     pub(crate) size: Size,
     pub(crate) wanted: Length,
 }
 
 // The frame of a list whose atoms reach so far up and down.
-pub(crate) fn frame_of(fonts: &FontSet, style: Style, height: Length, depth: Length) -> Frame
+pub(crate) fn boundary_frame(
+    fonts: &FontSet,
+    style: Style,
+    height: Length,
+    depth: Length,
+) -> BoundaryFrame
     requires height { Within (2 ^ 30) height.sp }
     requires depth { Within (2 ^ 30) depth.sp }
     ensures size { result.size ≡ size_of style }
@@ -34,7 +39,7 @@ pub(crate) fn frame_of(fonts: &FontSet, style: Style, height: Length, depth: Len
 {
     let size = style.size();
     let axis = axis_height(fonts, size);
-    Frame {
+    BoundaryFrame {
         size,
         wanted: wanted_for(depth.plus(axis).at_least(height.minus(axis))),
     }
@@ -74,7 +79,7 @@ fn share(reach: Length) -> Length
 pub(crate) fn boundary(
     alloc: Global,
     fonts: &FontSet,
-    frame: Frame,
+    frame: BoundaryFrame,
     delim: Delim,
 ) -> Result<Piece, SetFault>
     requires wanted { Within (2 ^ 40) frame.wanted.sp }

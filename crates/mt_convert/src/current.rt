@@ -1,6 +1,11 @@
 //! Where a list has come to.
+ghost use Rattle.std.specs.Prelude.{◌≡◌};
+ghost use Rattle.mt_rules.specs.Classes.{kind_class};
+ghost use Rattle.mt_convert.specs.inner.Turns.{class_behind, current_behind, passed_value, style_behind};
 
-use mt_rules::{Class, Style};
+use crate::passed::Passed;
+use mt_rules::{Class, Kind, Style};
+use mt_spacing::forward;
 
 /// Where a list has come to.
 #[derive(Clone, Copy)]
@@ -10,4 +15,47 @@ pub struct Current {
     /// The class that the last atom before counts as towards its right, if there is one; boundaries
     /// are atoms here.
     pub last: Option<Class>,
+}
+
+impl Current {
+    // Where the list has come to behind this item.
+    pub(crate) fn behind(self, passed: &Passed) -> Current
+        ensures { result ≡ current_behind self (passed_value passed.now) }
+    {
+        Current {
+            style: style_behind(self.style, passed),
+            last: class_behind(self.last, passed),
+        }
+    }
+}
+
+fn style_behind(style: Style, passed: &Passed) -> Style
+    ensures { result ≡ style_behind style (passed_value passed.now) }
+{
+    match passed {
+        Passed::Style(next) => *next,
+        _ => style,
+    }
+}
+
+fn class_behind(last: Option<Class>, passed: &Passed) -> Option<Class>
+    ensures { result ≡ class_behind last (passed_value passed.now) }
+{
+    match passed {
+        Passed::Atom { atom, .. } => Some(forward(last, kind_class(atom.kind))),
+        Passed::Fraction(_) => Some(Class::Inner),
+        Passed::Left(_) => Some(Class::Open),
+        Passed::Right(_) => Some(Class::Close),
+        _ => last,
+    }
+}
+
+// The class of its own of an atom of this kind.
+pub(crate) fn kind_class(kind: Kind) -> Class
+    ensures { result ≡ kind_class kind }
+{
+    match kind {
+        Kind::Plain(class) => class,
+        _ => Class::Ord,
+    }
 }

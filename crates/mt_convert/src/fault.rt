@@ -41,7 +41,7 @@ pub enum SetFault {
         second: u8,
     },
     /// This length, in scaled points, is greater than 2^30 - 1 in size.
-    #[error("a part has an extent of {0}sp")]
+    #[error("a length of {0}sp is out of range")]
     Overflow(i64),
     /// A delimiter would need the repeatable piece of its recipe this many times, which is more
     /// than 2,000.
@@ -64,9 +64,9 @@ impl From<AllocError> for SetFault {
 }
 
 impl From<PackError> for SetFault {
-    ghost use Rattle.mt_convert.specs.Faults.{FromPacking};
+    ghost use Rattle.mt_convert.specs.Faults.{FaultFromPacking};
 
-    ghost from_gives = { FromPacking };
+    ghost from_gives = { FaultFromPacking };
 
     fn from(error: PackError) -> Self {
         match error {
@@ -77,9 +77,9 @@ impl From<PackError> for SetFault {
 }
 
 impl From<PartError> for SetFault {
-    ghost use Rattle.mt_convert.specs.Faults.{FromPart};
+    ghost use Rattle.mt_convert.specs.Faults.{FaultFromPart};
 
-    ghost from_gives = { FromPart };
+    ghost from_gives = { FaultFromPart };
 
     fn from(error: PartError) -> Self {
         match error {

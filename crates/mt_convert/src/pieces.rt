@@ -9,7 +9,7 @@ ghost use Rattle.mt_convert.specs.Halfway.{half_value, count_of, HalfFits, RowFi
 ghost use Rattle.mt_convert.specs.inner.Appending.{AppendsPieces};
 
 use crate::SetFault;
-use crate::boundary::{Frame, boundary};
+use crate::boundary::{BoundaryFrame, boundary};
 use crate::current::Current;
 use crate::half::Half;
 use crate::space::{space_before, space_piece};
@@ -22,7 +22,7 @@ use std::alloc::{AllocError, Global};
 pub(crate) fn push_half(
     alloc: Global,
     fonts: &FontSet,
-    frame: Frame,
+    frame: BoundaryFrame,
     current: Current,
     half: Half,
     pieces: &mut Vec<Piece>,
@@ -75,7 +75,7 @@ fn push_row(
 fn push_boundary(
     alloc: Global,
     fonts: &FontSet,
-    frame: Frame,
+    frame: BoundaryFrame,
     current: Current,
     class: Class,
     delim: Delim,

@@ -1,14 +1,15 @@
-//! The second pass.
+//! The second pass: the rows side by side, with spaces and boundaries (The TeXbook, Appendix G,
+//! rules 19 and 20).
 ghost use Rattle.std.specs.Prelude.{◌≡◌, ◌≤◌, ◌^◌, ℕ, IfOk, length, None};
 ghost use Rattle.mt_scaled.specs.Number.{Within};
 ghost use Rattle.mt_box.specs.Rows.{AllMeasurable, piece_values};
 ghost use Rattle.mt_rules.specs.Setting.{make_row};
 ghost use Rattle.mt_convert.specs.SecondPass.{current_past, row_of_halves, second_pass_of, style_past};
 ghost use Rattle.mt_convert.specs.Calls.{SetsRow};
-ghost use Rattle.mt_convert.specs.Halfway.{half_value, half_values, halves_value, total_of, AllFit, AllMeet, RowFits};
+ghost use Rattle.mt_convert.specs.Halfway.{half_value, half_values, halves_value, total_of, HalvesFit, AllMeet, RowFits};
 
 use crate::SetFault;
-use crate::boundary::{Frame, frame_of};
+use crate::boundary::{BoundaryFrame, boundary_frame};
 use crate::current::Current;
 use crate::half::{Half, HalfList};
 use crate::halfway::Halfway;
@@ -23,9 +24,13 @@ use std::alloc::Global;
 /// of its items side by side, with the spaces between atoms, and the boundaries at the two ends (The
 /// TeXbook, Appendix G, rules 19 and 20; tex.web, sections 760 to 767).
 ///
-/// Refused with `TooTall` of the repeats of a boundary, or with `Overflow` of the first extent out
-/// of range of a boundary's glyphs and box, the left boundary first; then with `Overflow` of the
-/// first extent out of range of the row; and with `OutOfMemory`. The row has at most 2^21 pieces.
+/// The row has at most 2^21 pieces.
+///
+/// # Errors
+///
+/// `TooTall` with the repeats of a boundary, or `Overflow` with the first extent out of range of a
+/// boundary's glyphs and box, the left boundary first; then `Overflow` with the first extent out of
+/// range of the row. `OutOfMemory` where memory ran out.
 pub fn second_pass(
     alloc: Global,
     fonts: &FontSet,
@@ -34,11 +39,11 @@ pub fn second_pass(
 ) -> Result<Row, SetFault>
     ensures is { SetsRow result (second_pass_of fonts.now style (halves_value half)) }
     ensures few { IfOk result (λ row. length row ≤ 2 ^ 21) }
-    ensures fits { IfOk result (λ row. (n : ℕ) → 2 ≤ n → AllFit n half.items → RowFits n row) }
+    ensures fits { IfOk result (λ row. (n : ℕ) → 2 ≤ n → HalvesFit n half.items → RowFits n row) }
 {
     let height = Length { sp: half.height };
     let depth = Length { sp: half.depth };
-    let frame = frame_of(fonts, style, height, depth);
+    let frame = boundary_frame(fonts, style, height, depth);
     join(alloc, fonts, frame, style, half.items)
 }
 
@@ -46,7 +51,7 @@ pub fn second_pass(
 fn join(
     alloc: Global,
     fonts: &FontSet,
-    frame: Frame,
+    frame: BoundaryFrame,
     style: Style,
     items: HalfList,
 ) -> Result<Row, SetFault>
@@ -54,10 +59,10 @@ fn join(
     requires meet { AllMeet None (half_values items) }
     requires few { length items ≤ 2 ^ 19 }
     requires total { total_of items ≤ 2 ^ 20 }
-    requires fit { AllFit (2 ^ 16) items }
+    requires fit { HalvesFit (2 ^ 16) items }
     ensures is { SetsRow result (row_of_halves fonts.now frame.size frame.wanted.sp style (half_values items)) }
     ensures few { IfOk result (λ row. length row ≤ 2 ^ 21) }
-    ensures fits { IfOk result (λ row. (n : ℕ) → 2 ≤ n → AllFit n items → RowFits n row) }
+    ensures fits { IfOk result (λ row. (n : ℕ) → 2 ≤ n → HalvesFit n items → RowFits n row) }
 {
     let mut pieces = Vec::new(alloc);
     let mut current = Current { style, last: None };
@@ -89,7 +94,7 @@ fn style_past(style: Style, half: &Half) -> Style
 }
 
 // The row, tested as it packs.
-fn tested(row: Row) -> Result<Row, SetFault>
+pub(crate) fn tested(row: Row) -> Result<Row, SetFault>
     requires few { length row ≤ 2 ^ 21 }
     requires measurable { AllMeasurable row }
     ensures is { SetsRow result (make_row (piece_values row)) }

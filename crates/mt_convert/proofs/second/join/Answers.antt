@@ -4,7 +4,7 @@ use Rattle.mt_box.specs.Rows.{piece_values}
 use Rattle.mt_box.proofs.Lists.{no_more}
 use Rattle.mt_rules.specs.Setting.{make_row}
 use Rattle.mt_convert.specs.Calls.{SetsRow}
-use Rattle.mt_convert.specs.Halfway.{AllFit, RowFits}
+use Rattle.mt_convert.specs.Halfway.{HalvesFit, RowFits}
 use Rattle.mt_convert.proofs.Fitting.{if_ok_same}
 use Rattle.mt_convert.proofs.SecondPass.{so_far_start, so_far_step, so_far_err, so_far_end, finished, next_meets}
 use Rattle.mt_convert.proofs.second.join.Goals as goal
@@ -39,5 +39,5 @@ returns-clause-few c = if_ok_same c.tested.result c.from_vec.result (λ row. len
 
 pub returns-clause-fits : goal.returns-clause-fits
 returns-clause-fits c =
-    if_ok_same c.tested.result c.from_vec.result (λ row. (n : ℕ) → 2 ≤ n → AllFit n c.args.items → RowFits n row) c.tested.ensures.same
+    if_ok_same c.tested.result c.from_vec.result (λ row. (n : ℕ) → 2 ≤ n → HalvesFit n c.args.items → RowFits n row) c.tested.ensures.same
     (rw c.from_vec.ensures (finished _ _ _ _ _ _ _ _ c.loop-item.invariant.2).fits)

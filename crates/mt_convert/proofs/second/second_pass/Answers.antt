@@ -1,6 +1,6 @@
 use Rattle.std.proofs.Common.{ℕ, ◌≤◌, rules, w64, FitsSigned, subst}
 use Rattle.std.specs.Prelude.{IfOk}
-use Rattle.mt_convert.specs.Halfway.{AllFit, RowFits, half_values, halves_value}
+use Rattle.mt_convert.specs.Halfway.{HalvesFit, RowFits, half_values, halves_value}
 use Rattle.mt_convert.specs.SecondPass.{second_pass_of}
 use Rattle.mt_convert.specs.Calls.{SetsRow}
 use Rattle.mt_convert.proofs.Fitting.{kept_word}
@@ -13,8 +13,8 @@ returns-clause-is c =
     let g : FitsSigned w64 c.half.inside.depth = search rules in
     subst (λ v. SetsRow c.join.result (second_pass_of c.args.fonts.now c.args.style (halves_value v))) c.half.view_is
     (subst (SetsRow c.join.result)
-    (second_is c.args.fonts.now c.args.style _ _ _ _ c.half.inside.height c.half.inside.depth (half_values c.half.inside.items) c.frame_of-frame.ensures.size c.frame_of-frame.ensures.wanted (kept_word c.half.inside.height f) (kept_word c.half.inside.depth g))
+    (second_is c.args.fonts.now c.args.style _ _ _ _ c.half.inside.height c.half.inside.depth (half_values c.half.inside.items) c.boundary_frame-frame.ensures.size c.boundary_frame-frame.ensures.wanted (kept_word c.half.inside.height f) (kept_word c.half.inside.depth g))
     c.join.ensures.is)
 
 pub returns-clause-fits : goal.returns-clause-fits
-returns-clause-fits c = subst (λ v. IfOk c.join.result (λ row. (n : ℕ) → 2 ≤ n → AllFit n v.items → RowFits n row)) c.half.view_is c.join.ensures.fits
+returns-clause-fits c = subst (λ v. IfOk c.join.result (λ row. (n : ℕ) → 2 ≤ n → HalvesFit n v.items → RowFits n row)) c.half.view_is c.join.ensures.fits

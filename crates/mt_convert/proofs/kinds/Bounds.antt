@@ -1,0 +1,57 @@
+-- What the parts of a modest list keep, and the levels of what is set.
+use Rattle.std.proofs.Common.{◌≡◌, ℕ, ◌≤◌, arith, subst, Option}
+use Rattle.mt_box.specs.declared.piece.Piece.{Piece}
+use Rattle.std.specs.Prelude.{List, ℤ}
+use Rattle.mt_rules.specs.declared.kind.Kind.{Kind}
+use Rattle.mt_rules.specs.declared.kind.Limits.{Limits}
+use Rattle.mt_rules.specs.declared.symbol.Delim.{Delim}
+use Rattle.mt_rules.specs.Sequence.{Sequence, Part, Rows, AtomElement, FractionElement, ListPart, RowsPart, MoreRows}
+use Rattle.mt_rules.specs.Modest.{IsModestList, ThicknessAmount}
+use Rattle.mt_convert.specs.declared.nucleus.SetNucleus.{SetNucleus}
+use Rattle.mt_convert.specs.Halfway.{RowFits}
+use Rattle.mt_convert.specs.inner.Modest.{IsModestElement, IsModestPart, IsModestRows}
+use Rattle.mt_convert.specs.inner.Nucleus.{NucleusIsSmall}
+
+-- ---- modest parts
+
+pub list_of_part : (p : Part) (l : Sequence) → p ≡ ListPart l → IsModestPart p → IsModestList l
+list_of_part p l e h =
+    let g = subst IsModestPart e h in
+    record { nesting = omega (arith, g.nesting); items = g.items; amounts = g.amounts }
+
+pub rows_of_part : (p : Part) (rows : Rows) → p ≡ RowsPart rows → IsModestPart p → IsModestRows rows
+rows_of_part p rows e h =
+    let g = subst IsModestPart e h in
+    record { nesting = g.nesting; items = g.items; amounts = g.amounts }
+
+pub modest_nucleus : (kind : Kind) (limits : Limits) (nucleus sup sub : Part) → IsModestElement (AtomElement kind limits nucleus sup sub) → IsModestPart nucleus
+modest_nucleus kind limits nucleus sup sub h = record { nesting = omega (arith, h.nesting); items = omega (arith, h.items); amounts = h.amounts.0 }
+
+pub modest_sup : (kind : Kind) (limits : Limits) (nucleus sup sub : Part) → IsModestElement (AtomElement kind limits nucleus sup sub) → IsModestPart sup
+modest_sup kind limits nucleus sup sub h = record { nesting = omega (arith, h.nesting); items = omega (arith, h.items); amounts = h.amounts.1 }
+
+pub modest_sub : (kind : Kind) (limits : Limits) (nucleus sup sub : Part) → IsModestElement (AtomElement kind limits nucleus sup sub) → IsModestPart sub
+modest_sub kind limits nucleus sup sub h = record { nesting = omega (arith, h.nesting); items = omega (arith, h.items); amounts = h.amounts.2 }
+
+pub thickness_of_fraction : (thickness : Option ℤ) (left right : Delim) (num den : Sequence) → IsModestElement (FractionElement thickness left right num den) → ThicknessAmount thickness
+thickness_of_fraction thickness left right num den h = h.amounts.0
+
+pub num_of_fraction : (thickness : Option ℤ) (left right : Delim) (num den : Sequence) → IsModestElement (FractionElement thickness left right num den) → IsModestList num
+num_of_fraction thickness left right num den h = record { nesting = omega (arith, h.nesting); items = omega (arith, h.items); amounts = h.amounts.1 }
+
+pub den_of_fraction : (thickness : Option ℤ) (left right : Delim) (num den : Sequence) → IsModestElement (FractionElement thickness left right num den) → IsModestList den
+den_of_fraction thickness left right num den h = record { nesting = omega (arith, h.nesting); items = omega (arith, h.items); amounts = h.amounts.2 }
+
+pub first_row : (s : Sequence) (rows : Rows) → IsModestRows (MoreRows s rows) → IsModestList s
+first_row s rows h = record { nesting = omega (arith, h.nesting); items = omega (arith, h.items); amounts = h.amounts.0 }
+
+pub other_rows : (s : Sequence) (rows : Rows) → IsModestRows (MoreRows s rows) → IsModestRows rows
+other_rows s rows h = record { nesting = omega (arith, h.nesting); items = omega (arith, h.items); amounts = h.amounts.1 }
+
+-- ---- levels
+
+pub row_fits_more : (n m : ℕ) (row : List Piece) → n ≤ m → RowFits n row → RowFits m row
+row_fits_more n m row le h = record { measurable = h.measurable; level = omega (arith, h.level, le) }
+
+pub nucleus_fits_more : (n m : ℕ) (nucleus : SetNucleus) → n ≤ m → NucleusIsSmall n nucleus → NucleusIsSmall m nucleus
+nucleus_fits_more n m nucleus le h = record { few = h.few; fits = row_fits_more n m nucleus.row le h.fits; reach = h.reach; delta = h.delta }

@@ -1,0 +1,198 @@
+-- Boxes, scripts and nuclei, set step by step.
+use Rattle.std.proofs.Common.{◌≡◌, ap, sym, ◌∙◌, subst, refl, Option, Some, None, false, true, Bool, ◌⊎◌, inl, inr}
+use Rattle.std.specs.Prelude.{Ok, Err, List, if◌then◌else◌, pos, ⊤}
+use Rattle.mt_family.specs.SetValue.{SetValue}
+use Rattle.mt_box.specs.Layout.{Layout}
+use Rattle.mt_box.specs.Rows.{PieceValue}
+use Rattle.mt_rules.specs.declared.class.Class.{Class}
+use Rattle.mt_rules.specs.declared.class.Class.TheVariants.{Ord, Op, Bin, Rel, Open, Close, Punct, Inner}
+use Rattle.mt_rules.specs.declared.style.Style.{Style}
+use Rattle.mt_rules.specs.declared.symbol.Symbol.{Symbol}
+use Rattle.mt_rules.specs.Styles.{size_of, sup_of, sub_of}
+use Rattle.mt_rules.specs.Setting.{Setting, ◌>>=◌, pack_row, empty_layout}
+use Rattle.mt_rules.specs.View.{part_of_field}
+use Rattle.mt_rules.specs.declared.list.Field.{Field}
+use Rattle.mt_rules.specs.declared.list.Field.TheVariants.{Empty, Rows as OfRows}
+use Rattle.mt_rules.specs.Sequence.{Sequence, Rows, Part, EmptyPart, SymbolPart, ListPart, RowsPart}
+use Rattle.mt_rules.specs.Nuclei.{Content, SymbolContent, SymbolRole, Nucleus, clean_symbol, clean_list, clean_field, make_clean, packed_list, nucleus_row, empty_nucleus, symbol_nucleus}
+use Rattle.mt_rules.specs.AtomRow.{box_nucleus, script_box, some_box}
+use Rattle.mt_convert.specs.declared.fault.SetFault.{SetFault}
+use Rattle.mt_convert.specs.Calls.{SetFails}
+use Rattle.mt_convert.specs.ListRow.{list_row, halves_of, content_of}
+use Rattle.mt_convert.specs.inner.Fields.{list_content}
+use Rattle.mt_convert.specs.inner.Forms.{as_operator}
+use Rattle.mt_convert.specs.inner.Kinds.{BoxWithItalic, class_nucleus, operator_box}
+use Rattle.mt_convert.specs.inner.Turns.{is_empty_part}
+use Rattle.mt_convert.proofs.Appending.{fails_then}
+use Rattle.mt_convert.proofs.Turning.{same_empty}
+use Rattle.mt_convert.proofs.kinds.Chains.{first_made}
+
+-- ---- a list
+
+pub content_is : (fonts : SetValue) (list : Sequence) (style : Style) → list_content fonts list style ≡ list_row fonts style list
+unfolding list_row halves_of
+content_is fonts list style = refl
+
+pub list_made : {B : Type 0} (P : Setting B → Type 0) (fonts : SetValue) (list : Sequence) (style : Style) (row : List PieceValue) (next : List PieceValue → Setting B) → list_row fonts style list ≡ Ok row → P (next row) → P (list_content fonts list style >>= next)
+list_made P fonts list style row next e h = first_made P (list_content fonts list style) row next (content_is fonts list style ∙ e) h
+
+pub list_fails : {B : Type 0} (fault : SetFault) (fonts : SetValue) (list : Sequence) (style : Style) (next : List PieceValue → Setting B) → SetFails fault (list_row fonts style list) → SetFails fault (list_content fonts list style >>= next)
+list_fails fault fonts list style next h = fails_then fault (list_content fonts list style) next (subst (SetFails fault) (sym (content_is fonts list style)) h)
+
+-- ---- a clean box
+
+pub clean_symbol_is : (fonts : SetValue) (style : Style) (p : Part) (symbol : Symbol) → p ≡ SymbolPart symbol → clean_field fonts style (content_of fonts p) ≡ clean_symbol fonts style symbol
+unfolding clean_field
+clean_symbol_is fonts style p symbol e = ap (λ q. clean_field fonts style (content_of fonts q)) e
+
+pub clean_list_is : (fonts : SetValue) (style : Style) (p : Part) (list : Sequence) → p ≡ ListPart list → clean_field fonts style (content_of fonts p) ≡ clean_list (list_content fonts list) style
+unfolding clean_field
+clean_list_is fonts style p list e = ap (λ q. clean_field fonts style (content_of fonts q)) e
+
+abbrev pub HasNoBox : Part → Type 0
+HasNoBox EmptyPart = ⊤
+HasNoBox (SymbolPart symbol) = ⊥
+HasNoBox (ListPart list) = ⊥
+HasNoBox (RowsPart rows) = ⊤
+
+pub clean_empty_is : (fonts : SetValue) (style : Style) (p : Part) → HasNoBox p → clean_field fonts style (content_of fonts p) ≡ Ok empty_layout
+unfolding clean_field
+clean_empty_is fonts style EmptyPart h = refl
+clean_empty_is fonts style (SymbolPart symbol) h = absurd h
+clean_empty_is fonts style (ListPart list) h = absurd h
+clean_empty_is fonts style (RowsPart rows) h = refl
+
+pub has_no_box : (f : Field) → (f ≡ Empty) ⊎ ((rows : Rows) × (f ≡ OfRows rows)) → HasNoBox (part_of_field f)
+has_no_box f (inl e) = subst (λ x. HasNoBox (part_of_field x)) (sym e) tt
+has_no_box f (inr h) = subst (λ x. HasNoBox (part_of_field x)) (sym h.1) tt
+
+-- ---- a script
+
+abbrev script_when : Bool → SetValue → Style → Content → Setting (Option Layout)
+script_when empty fonts style field = if empty then Ok None else some_box (clean_field fonts style field)
+
+pub no_script : (fonts : SetValue) (style : Style) (p : Part) → is_empty_part p ≡ true → script_box fonts style (content_of fonts p) ≡ Ok None
+no_script fonts style p e = ap (λ b. script_when b fonts style (content_of fonts p)) (same_empty fonts p ∙ e)
+
+pub script_is : (fonts : SetValue) (style : Style) (p : Part) → is_empty_part p ≡ false → script_box fonts style (content_of fonts p) ≡ some_box (clean_field fonts style (content_of fonts p))
+script_is fonts style p e = ap (λ b. script_when b fonts style (content_of fonts p)) (same_empty fonts p ∙ e)
+
+pub script_made : (fonts : SetValue) (style : Style) (p : Part) (box : Layout) → is_empty_part p ≡ false → clean_field fonts style (content_of fonts p) ≡ Ok box → script_box fonts style (content_of fonts p) ≡ Ok (Some box)
+script_made fonts style p box e h = script_is fonts style p e ∙ ap some_box h
+
+pub script_fails : (fault : SetFault) (fonts : SetValue) (style : Style) (p : Part) → is_empty_part p ≡ false → SetFails fault (clean_field fonts style (content_of fonts p)) → SetFails fault (script_box fonts style (content_of fonts p))
+script_fails fault fonts style p e h = subst (SetFails fault) (sym (script_is fonts style p e)) (fails_then fault (clean_field fonts style (content_of fonts p)) (λ box. Ok (Some box)) h)
+
+-- ---- both scripts, and what is made with them
+
+abbrev pub with_both_scripts : SetValue → Style → Content → Content → (Option Layout → Option Layout → Setting (List PieceValue)) → Setting (List PieceValue)
+with_both_scripts fonts style sup sub next = do
+  above ← script_box fonts (sup_of style) sup
+  below ← script_box fonts (sub_of style) sub
+  next above below
+
+pub sup_fails : (fault : SetFault) (fonts : SetValue) (style style' : Style) (sup sub : Content) (next : Option Layout → Option Layout → Setting (List PieceValue)) → style' ≡ sup_of style → SetFails fault (script_box fonts style' sup) → SetFails fault (with_both_scripts fonts style sup sub next)
+sup_fails fault fonts style style' sup sub next e h =
+    fails_then fault (script_box fonts (sup_of style) sup) (λ above. script_box fonts (sub_of style) sub >>= (λ below. next above below)) (subst (λ t. SetFails fault (script_box fonts t sup)) e h)
+
+pub sub_fails : (fault : SetFault) (fonts : SetValue) (style up down : Style) (sup sub : Content) (above : Option Layout) (next : Option Layout → Option Layout → Setting (List PieceValue)) → up ≡ sup_of style → down ≡ sub_of style → script_box fonts up sup ≡ Ok above → SetFails fault (script_box fonts down sub) → SetFails fault (with_both_scripts fonts style sup sub next)
+sub_fails fault fonts style up down sup sub above next e g k h =
+    first_made (SetFails fault) (script_box fonts (sup_of style) sup) above (λ a. script_box fonts (sub_of style) sub >>= (λ below. next a below)) (ap (λ t. script_box fonts t sup) (sym e) ∙ k)
+    (fails_then fault (script_box fonts (sub_of style) sub) (λ below. next above below) (subst (λ t. SetFails fault (script_box fonts t sub)) g h))
+
+pub both_made : (P : Setting (List PieceValue) → Type 0) (fonts : SetValue) (style up down : Style) (sup sub : Content) (above below : Option Layout) (next : Option Layout → Option Layout → Setting (List PieceValue)) → up ≡ sup_of style → down ≡ sub_of style → script_box fonts up sup ≡ Ok above → script_box fonts down sub ≡ Ok below → P (next above below) → P (with_both_scripts fonts style sup sub next)
+both_made P fonts style up down sup sub above below next e g k l h =
+    first_made P (script_box fonts (sup_of style) sup) above (λ a. script_box fonts (sub_of style) sub >>= (λ b. next a b)) (ap (λ t. script_box fonts t sup) (sym e) ∙ k)
+    (first_made P (script_box fonts (sub_of style) sub) below (λ b. next above b) (ap (λ t. script_box fonts t sub) (sym g) ∙ l) h)
+
+-- ---- a nucleus
+
+pub symbol_nucleus_is : (class : Class) (fonts : SetValue) (style : Style) (role : SymbolRole) (p : Part) (symbol : Symbol) (has_subscript : Bool) → p ≡ SymbolPart symbol → class_nucleus class fonts style role (content_of fonts p) has_subscript ≡ class_nucleus class fonts style role (SymbolContent symbol) has_subscript
+symbol_nucleus_is class fonts style role p symbol has_subscript e = ap (λ q. class_nucleus class fonts style role (content_of fonts q) has_subscript) e
+
+class_of_list : (class : Class) (fonts : SetValue) (style : Style) (role : SymbolRole) (list : Sequence) (has_subscript : Bool) → class_nucleus class fonts style role (content_of fonts (ListPart list)) has_subscript ≡ packed_list (list_content fonts list) style
+unfolding nucleus_row
+class_of_list Ord fonts style role list has_subscript = refl
+class_of_list Op fonts style role list has_subscript = refl
+class_of_list Bin fonts style role list has_subscript = refl
+class_of_list Rel fonts style role list has_subscript = refl
+class_of_list Open fonts style role list has_subscript = refl
+class_of_list Close fonts style role list has_subscript = refl
+class_of_list Punct fonts style role list has_subscript = refl
+class_of_list Inner fonts style role list has_subscript = refl
+
+pub list_nucleus_is : (class : Class) (fonts : SetValue) (style : Style) (role : SymbolRole) (p : Part) (list : Sequence) (has_subscript : Bool) → p ≡ ListPart list → class_nucleus class fonts style role (content_of fonts p) has_subscript ≡ packed_list (list_content fonts list) style
+list_nucleus_is class fonts style role p list has_subscript e = ap (λ q. class_nucleus class fonts style role (content_of fonts q) has_subscript) e ∙ class_of_list class fonts style role list has_subscript
+
+class_of_none : (class : Class) (fonts : SetValue) (style : Style) (role : SymbolRole) (has_subscript : Bool) → class_nucleus class fonts style role (content_of fonts EmptyPart) has_subscript ≡ Ok empty_nucleus
+unfolding nucleus_row
+class_of_none Ord fonts style role has_subscript = refl
+class_of_none Op fonts style role has_subscript = refl
+class_of_none Bin fonts style role has_subscript = refl
+class_of_none Rel fonts style role has_subscript = refl
+class_of_none Open fonts style role has_subscript = refl
+class_of_none Close fonts style role has_subscript = refl
+class_of_none Punct fonts style role has_subscript = refl
+class_of_none Inner fonts style role has_subscript = refl
+
+pub empty_nucleus_is : (class : Class) (fonts : SetValue) (style : Style) (role : SymbolRole) (p : Part) (has_subscript : Bool) → HasNoBox p → class_nucleus class fonts style role (content_of fonts p) has_subscript ≡ Ok empty_nucleus
+unfolding nucleus_row
+empty_nucleus_is class fonts style role EmptyPart has_subscript h = class_of_none class fonts style role has_subscript
+empty_nucleus_is class fonts style role (SymbolPart symbol) has_subscript h = absurd h
+empty_nucleus_is class fonts style role (ListPart list) has_subscript h = absurd h
+empty_nucleus_is Ord fonts style role (RowsPart rows) has_subscript h = refl
+empty_nucleus_is Op fonts style role (RowsPart rows) has_subscript h = refl
+empty_nucleus_is Bin fonts style role (RowsPart rows) has_subscript h = refl
+empty_nucleus_is Rel fonts style role (RowsPart rows) has_subscript h = refl
+empty_nucleus_is Open fonts style role (RowsPart rows) has_subscript h = refl
+empty_nucleus_is Close fonts style role (RowsPart rows) has_subscript h = refl
+empty_nucleus_is Punct fonts style role (RowsPart rows) has_subscript h = refl
+empty_nucleus_is Inner fonts style role (RowsPart rows) has_subscript h = refl
+
+-- the row of a list, packed
+pub packed_made : (P : Setting Nucleus → Type 0) (fonts : SetValue) (list : Sequence) (style : Style) (row : List PieceValue) (box : Layout) → list_row fonts style list ≡ Ok row → pack_row row ≡ Ok box → P (Ok (box_nucleus box)) → P (packed_list (list_content fonts list) style)
+packed_made P fonts list style row box e g h =
+    list_made P fonts list style row (λ r. pack_row r >>= (λ b. Ok (box_nucleus b))) e
+    (first_made P (pack_row row) box (λ b. Ok (box_nucleus b)) g h)
+
+pub packing_fails : (fault : SetFault) (fonts : SetValue) (list : Sequence) (style : Style) (row : List PieceValue) → list_row fonts style list ≡ Ok row → SetFails fault (pack_row row) → SetFails fault (packed_list (list_content fonts list) style)
+packing_fails fault fonts list style row e h =
+    list_made (SetFails fault) fonts list style row (λ r. pack_row r >>= (λ b. Ok (box_nucleus b))) e
+    (fails_then fault (pack_row row) (λ b. Ok (box_nucleus b)) h)
+
+-- ---- an operator under limits
+
+pub symbol_operator_is : (fonts : SetValue) (style : Style) (p : Part) (symbol : Symbol) → p ≡ SymbolPart symbol → operator_box fonts style (content_of fonts p) ≡ operator_box fonts style (SymbolContent symbol)
+symbol_operator_is fonts style p symbol e = ap (λ q. operator_box fonts style (content_of fonts q)) e
+
+abbrev list_nucleus : List PieceValue → Setting Nucleus
+list_nucleus row = Ok (record { row = row; delta = pos 0 })
+
+abbrev box_of_nucleus : Nucleus → Setting BoxWithItalic
+box_of_nucleus nucleus = make_clean nucleus.row >>= (λ box. Ok (record { box = box; delta = nucleus.delta }))
+
+operator_joined : (s : Setting (List PieceValue)) → ((s >>= list_nucleus) >>= box_of_nucleus) ≡ as_operator (s >>= make_clean)
+operator_joined (Ok row) = refl
+operator_joined (Err fault) = refl
+
+pub list_operator_is : (fonts : SetValue) (style : Style) (p : Part) (list : Sequence) → p ≡ ListPart list → operator_box fonts style (content_of fonts p) ≡ as_operator (clean_list (list_content fonts list) style)
+list_operator_is fonts style p list e = ap (λ q. operator_box fonts style (content_of fonts q)) e ∙ operator_joined (list_content fonts list style)
+
+pub empty_operator_is : (fonts : SetValue) (style : Style) (p : Part) → HasNoBox p → operator_box fonts style (content_of fonts p) ≡ as_operator (Ok empty_layout)
+empty_operator_is fonts style EmptyPart h = refl
+empty_operator_is fonts style (SymbolPart symbol) h = absurd h
+empty_operator_is fonts style (ListPart list) h = absurd h
+empty_operator_is fonts style (RowsPart rows) h = refl
+
+-- ---- a symbol in an atom that is no operator
+
+pub other_symbol_is : (class : Class) (fonts : SetValue) (style : Style) (role : SymbolRole) (symbol : Symbol) (has_subscript : Bool) → (class ≡ Op → ⊥) → class_nucleus class fonts style role (SymbolContent symbol) has_subscript ≡ symbol_nucleus fonts (size_of style) symbol role has_subscript
+unfolding nucleus_row
+other_symbol_is Ord fonts style role symbol has_subscript h = refl
+other_symbol_is Op fonts style role symbol has_subscript h = absurd (h refl)
+other_symbol_is Bin fonts style role symbol has_subscript h = refl
+other_symbol_is Rel fonts style role symbol has_subscript h = refl
+other_symbol_is Open fonts style role symbol has_subscript h = refl
+other_symbol_is Close fonts style role symbol has_subscript h = refl
+other_symbol_is Punct fonts style role symbol has_subscript h = refl
+other_symbol_is Inner fonts style role symbol has_subscript h = refl

@@ -1,0 +1,83 @@
+use Rattle.std.proofs.Common.{◌+◌, ◌*◌}
+use Rattle.std.specs.Vec.Iter.{into_iter_items}
+use Rattle.mt_rules.specs.Sequence.{sequence_size, rows_size, element_size, part_size}
+use Rattle.mt_rules.specs.View.{atom_element, fraction_element, part_of_field}
+use Rattle.mt_convert.specs.inner.Turns.{element_of_passed, passed_value}
+use Rattle.mt_convert.proofs.Going.{Going}
+use Rattle.mt_convert.proofs.kinds.RowBoxes.{RowsSoFar}
+use Rattle.mt_convert.proofs.list.+setting.Given as goal
+
+abbrev pub decreases-set_list : goal.decreases-set_list
+decreases-set_list l = 10 * sequence_size l.list + 2
+
+abbrev pub decreases-first_pass : goal.decreases-first_pass
+decreases-first_pass l = 10 * sequence_size l.list + 1
+
+abbrev pub decreases-clean_list : goal.decreases-clean_list
+decreases-clean_list l = 10 * sequence_size l.list + 3
+
+abbrev pub decreases-pack_list : goal.decreases-pack_list
+decreases-pack_list l = 10 * sequence_size l.list + 3
+
+abbrev pub decreases-clean_field : goal.decreases-clean_field
+decreases-clean_field l = 10 * part_size (part_of_field l.field) + 1
+
+abbrev pub decreases-set_script : goal.decreases-set_script
+decreases-set_script l = 10 * part_size (part_of_field l.field) + 2
+
+abbrev pub decreases-set_rows : goal.decreases-set_rows
+decreases-set_rows l = 10 * rows_size l.rows + 2
+
+abbrev pub invariant-set_rows-loop-list : goal.invariant-set_rows-loop-list
+invariant-set_rows-loop-list l =
+    (goal.iterator-set_rows-loop-list).can_next l.list-iterator
+    × (goal.iterator-set_rows-loop-list).is_finite l.list-iterator
+    × RowsSoFar l.fonts l.fn.rows (into_iter_items l.list-iterator) l.boxes.items
+
+abbrev pub decreases-set_radical : goal.decreases-set_radical
+decreases-set_radical l = 10 * part_size (part_of_field l.field) + 2
+
+abbrev pub decreases-set_overline : goal.decreases-set_overline
+decreases-set_overline l = 10 * part_size (part_of_field l.field) + 2
+
+abbrev pub decreases-set_underline : goal.decreases-set_underline
+decreases-set_underline l = 10 * part_size (part_of_field l.field) + 2
+
+abbrev pub decreases-set_accent : goal.decreases-set_accent
+decreases-set_accent l = 10 * part_size (part_of_field l.field) + 2
+
+abbrev pub decreases-set_vcenter : goal.decreases-set_vcenter
+decreases-set_vcenter l = 10 * part_size (part_of_field l.field) + 2
+
+abbrev pub decreases-set_plain : goal.decreases-set_plain
+decreases-set_plain l = 10 * part_size (part_of_field l.field) + 2
+
+abbrev pub decreases-set_nucleus : goal.decreases-set_nucleus
+decreases-set_nucleus l = 10 * part_size (part_of_field l.field) + 3
+
+abbrev pub decreases-set_operator : goal.decreases-set_operator
+decreases-set_operator l = 10 * part_size (part_of_field l.field) + 3
+
+abbrev pub decreases-set_scripts : goal.decreases-set_scripts
+decreases-set_scripts l = 10 * (part_size (part_of_field l.sup) + part_size (part_of_field l.sub)) + 4
+
+abbrev pub decreases-set_limits : goal.decreases-set_limits
+decreases-set_limits l = 10 * (part_size (part_of_field l.sup) + part_size (part_of_field l.sub)) + 4
+
+abbrev pub decreases-set_accent_inside : goal.decreases-set_accent_inside
+decreases-set_accent_inside l = 10 * (part_size (part_of_field l.sup) + part_size (part_of_field l.sub)) + 5
+
+abbrev pub decreases-set_atom : goal.decreases-set_atom
+decreases-set_atom l = 10 * element_size (atom_element l.atom)
+
+abbrev pub decreases-set_fraction : goal.decreases-set_fraction
+decreases-set_fraction l = 10 * element_size (fraction_element l.fields)
+
+abbrev pub decreases-set_item : goal.decreases-set_item
+decreases-set_item l = 10 * element_size (element_of_passed (passed_value l.passed)) + 1
+
+abbrev pub invariant-first_pass-loop-front : goal.invariant-first_pass-loop-front
+invariant-first_pass-loop-front l = Going l.fonts l.fn.style l.fn.list l.current l.rest l.halves.items
+
+abbrev pub decreases-first_pass-loop-front : goal.decreases-first_pass-loop-front
+decreases-first_pass-loop-front l = sequence_size l.rest

@@ -1,0 +1,25 @@
+-- What an item, a part and rows of a modest list keep (`IsModestElement`, `IsModestPart`, `IsModestRows`).
+use Rattle.std.specs.Prelude.{◌≤◌, ◌^◌, ◌*◌, ◌+◌, ℕ}
+use Rattle.mt_rules.specs.Sequence.{Element, Part, Rows}
+use Rattle.mt_rules.specs.Modest.{element_items, element_nesting, ElementAmounts, part_items, part_nesting, PartAmounts, rows_items, rows_nesting, RowsAmounts}
+
+pub record IsModestElement (element : Element) : Type 0 where
+  pub nesting : element_nesting element ≤ 320
+  pub items : element_items element ≤ 2 ^ 18
+  pub amounts : ElementAmounts element
+
+-- a list in it stands in another list
+pub record IsModestPart (part : Part) : Type 0 where
+  pub nesting : part_nesting part ≤ 319
+  pub items : part_items part ≤ 2 ^ 18
+  pub amounts : PartAmounts part
+
+pub record IsModestRows (rows : Rows) : Type 0 where
+  pub nesting : rows_nesting rows ≤ 319
+  pub items : rows_items rows ≤ 2 ^ 18
+  pub amounts : RowsAmounts rows
+
+-- the boxes of both scripts have a level of at most this
+pub record ScriptLevels (most : ℕ) (above below : Part) : Type 0 where
+  pub sup : 12 * part_nesting above + 1 ≤ most
+  pub sub : 12 * part_nesting below + 1 ≤ most

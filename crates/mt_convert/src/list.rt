@@ -1,0 +1,602 @@
+//! The conversion of a math list (The TeXbook, Appendix G; tex.web, sections 726 to 767).
+ghost use Rattle.std.specs.Prelude.{◌≡◌, ◌≤◌, ◌+◌, ◌++◌, ◌∷◌, [], ◌*◌, ◌^◌, ℕ, All, IfOk, OnOk, length};
+ghost use Rattle.mt_box.specs.Rows.{piece_values};
+ghost use Rattle.mt_scaled.specs.Number.{Within};
+ghost use Rattle.mt_tfm.specs.Font.{IsSoundFont};
+ghost use Rattle.mt_rules.specs.AtomRow.{accent_inside, overline_part, pack_rows, radical_part, script_box, underline_part, vcenter_part};
+ghost use Rattle.mt_rules.specs.Modest.{IsModestList, element_nesting, list_nesting, part_nesting, rows_nesting};
+ghost use Rattle.mt_rules.specs.Nuclei.{SymbolContent, clean_field, clean_list, packed_list};
+ghost use Rattle.mt_rules.specs.View.{atom_element, fraction_element, part_of_field};
+ghost use Rattle.mt_scripts.specs.Levels.{script_level};
+ghost use Rattle.mt_convert.specs.Calls.{SetsHalves, SetsRow};
+ghost use Rattle.mt_convert.specs.FirstPass;
+ghost use Rattle.mt_convert.specs.Halfway.{HalvesFit, HalfFits, RowFits, count_of};
+ghost use Rattle.mt_convert.specs.Holding.{RowHolds};
+ghost use Rattle.mt_convert.specs.ListRow.{halves_of, list_row, rows_by_style};
+ghost use Rattle.mt_convert.specs.inner.Answers.{HalfReachInRange, ReachInRange, SetsBox, SetsBoxes, SetsHalf, SetsNucleus, SetsOperator, SetsScript};
+ghost use Rattle.mt_convert.specs.inner.Fields.{atom_row_of, field_content, fraction_row_of, list_content};
+ghost use Rattle.mt_convert.specs.inner.Kinds.{accent_part, class_nucleus, kind_nucleus, operator_box, row_with_fields, row_with_limits};
+ghost use Rattle.mt_convert.specs.inner.Modest.{IsModestElement, IsModestPart, IsModestRows, ScriptLevels};
+ghost use Rattle.mt_convert.specs.inner.Nucleus.{NucleusIsSmall, nucleus_value, operator_value};
+ghost use Rattle.mt_convert.specs.inner.Turns.{element_of_passed, flat_item, passed_value, role_value};
+
+use crate::SetFault;
+use crate::clean::{clean_symbol, cleaned, empty_box, find, packed};
+use crate::current::{Current, kind_class};
+use crate::form::{AtomForm, box_operator, class_nucleus, form_of, part_nucleus};
+use crate::half::Half;
+use crate::halfway::Halfway;
+use crate::joining::is_empty;
+use crate::lengths::{glue_in_points, in_points, make_kern, make_space, push_with_kern};
+use crate::nucleus::{
+    SetNucleus, SetOperator, box_nucleus, empty_nucleus, operator_box as symbol_operator,
+    symbol_nucleus,
+};
+use crate::parts::{accent, field_skew, fraction, overline, radical, skew_of, underline, vcenter};
+use crate::passed::{JoiningRole, Passed};
+use crate::scripts::{box_row, with_limits, with_scripts};
+use crate::second::second_pass;
+use crate::settle::finish;
+use crate::turn::turn;
+use crate::worklist::Worklist;
+use mt_box::{Packed, Row};
+use mt_family::FontSet;
+use mt_rules::{
+    Atom, Class, Delim, Field, Fraction, Kind, MathList, PackedList, RowList, Style, Symbol,
+};
+use mt_scaled::Length;
+use mt_spacing::forward;
+use std::alloc::{AllocError, Global};
+
+/// The row of a math list in a style (The TeXbook, Appendix G).
+///
+/// The list is modest: at most 320 lists lie one inside another, it has at most 2^18 items at all
+/// levels, and each space, shrink, kern and thickness in it is below 2^30sp in size.
+///
+/// The row has at most 2^21 pieces. Each number in it is at most 2^40 in size, and its boxes have a
+/// level of at most 12 for each list one inside another. Each glyph, also in a box, is a character of
+/// its font whose extents are in range, and each rule has a height and a width above 0 and in range.
+///
+/// # Errors
+///
+/// The first of these, in the order in which the items and their parts are set: `MissingFamily`
+/// where a family has no font at a size, `MissingChar` where its font has no such character,
+/// `SmartLigature` where two characters form a ligature that is not set, `Overflow` with a length
+/// out of range, `TooTall` where a delimiter needs more than 2,000 repeats. `OutOfMemory` where
+/// memory ran out.
+#[cycle(setting)]
+pub fn set_list(
+    alloc: Global,
+    fonts: &FontSet,
+    list: MathList,
+    style: Style,
+) -> Result<Row, SetFault>
+    requires modest { IsModestList list }
+    ensures is { SetsRow result (list_row fonts.now style list) }
+    ensures few { IfOk result (λ row. length row ≤ 2 ^ 21) }
+    ensures fits { IfOk result (RowFits (12 * list_nesting list)) }
+    ensures holds { IfOk result (λ row. RowHolds fonts.now (piece_values row)) }
+{
+    look_at_fonts(fonts);
+    let half = first_pass(alloc, fonts, list, style)?;
+    second_pass(alloc, fonts, half, style)
+}
+
+// Does nothing. Its contract says what every font of a set keeps.
+fn look_at_fonts(fonts: &FontSet)
+    ensures { All IsSoundFont fonts.now.fonts }
+{
+    fonts.font_count();
+}
+
+/// The first pass over a math list in a style: its items set, with their final classes, and how far
+/// its atoms reach (The TeXbook, Appendix G, rules 1 to 18).
+///
+/// The list is modest, as for [`set_list`]. Boxes in the answer have a level of at most 12 for each
+/// list one inside another.
+///
+/// # Errors
+///
+/// The first fault of an item, with the causes of [`set_list`]. Boundaries and the row as a whole
+/// are not tested yet.
+#[cycle(setting)]
+pub fn first_pass(
+    alloc: Global,
+    fonts: &FontSet,
+    list: MathList,
+    style: Style,
+) -> Result<Halfway, SetFault>
+    requires modest { IsModestList list }
+    ensures is { SetsHalves result (halves_of fonts.now style list) }
+    ensures fits { IfOk result (λ half. HalvesFit (12 * list_nesting list) half.items) }
+{
+    let mut rest = Worklist::of(list);
+    let mut halves = Vec::new(alloc);
+    let mut current = Current { style, last: None };
+    while let Some(front) = rest.pop() {
+        if let Some(passed) = turn(fonts, current, front, &mut rest)? {
+            let next = current.behind(&passed);
+            let kern = passed.kern();
+            let half = set_item(alloc, fonts, current, passed)?;
+            push_with_kern(&mut halves, half, kern)?;
+            current = next;
+        }
+    }
+    Ok(finish(halves))
+}
+
+// An item of the flat list, set.
+#[cycle(setting)]
+fn set_item(
+    alloc: Global,
+    fonts: &FontSet,
+    current: Current,
+    passed: Passed,
+) -> Result<Half, SetFault>
+    requires modest { IsModestElement (element_of_passed (passed_value passed)) }
+    ensures is { SetsHalf result (FirstPass.set_item fonts.now current (flat_item fonts.now (passed_value passed))) }
+    ensures fits { IfOk result (HalfFits (12 * element_nesting (element_of_passed (passed_value passed)))) }
+    ensures few { IfOk result (λ h. count_of h ≤ 3) }
+    ensures reach { IfOk result HalfReachInRange }
+{
+    match passed {
+        Passed::Atom { role, atom, .. } => {
+            let atom = Box::into_inner(atom);
+            let class = forward(current.last, kind_class(atom.kind));
+            let row = set_atom(alloc, fonts, current.style, role, atom)?;
+            Ok(Half::Set { class, row })
+        }
+        Passed::Fraction(fraction) => {
+            let row = set_fraction(alloc, fonts, current.style, Box::into_inner(fraction))?;
+            Ok(Half::Set {
+                class: Class::Inner,
+                row,
+            })
+        }
+        Passed::Left(delim) => Ok(Half::Left(delim)),
+        Passed::Right(delim) => Ok(Half::Right(delim)),
+        Passed::Style(style) => Ok(Half::Style(style)),
+        Passed::MuSpace(glue) => make_space(glue_in_points(fonts, current.style, glue)),
+        Passed::Space(glue) => make_space(glue),
+        Passed::MuKern(amount) => {
+            make_kern(in_points(fonts, current.style, Length { sp: amount }))
+        }
+        Passed::Kern(amount) => make_kern(Length { sp: amount }),
+    }
+}
+
+// The row of an atom.
+#[cycle(setting)]
+fn set_atom(
+    alloc: Global,
+    fonts: &FontSet,
+    style: Style,
+    role: JoiningRole,
+    atom: Atom,
+) -> Result<Row, SetFault>
+    requires modest { IsModestElement (atom_element atom) }
+    ensures is { SetsRow result (atom_row_of fonts.now style (role_value role) atom) }
+    ensures few { IfOk result (λ row. length row ≤ 3) }
+    ensures fits { IfOk result (RowFits (12 * element_nesting (atom_element atom))) }
+    ensures reach { IfOk result ReachInRange }
+{
+    let form = form_of(style, &atom);
+    let Atom {
+        kind,
+        nucleus,
+        sup,
+        sub,
+        ..
+    } = atom;
+    match form {
+        AtomForm::Limits => {
+            let operator = set_operator(alloc, fonts, style, nucleus)?;
+            set_limits(alloc, fonts, style, operator, sup, sub)
+        }
+        AtomForm::AccentInside { accent, symbol } => {
+            set_accent_inside(alloc, fonts, style, accent, symbol, sup, sub)
+        }
+        AtomForm::Beside => {
+            let has_subscript = !is_empty(&sub);
+            let nucleus = set_nucleus(alloc, fonts, style, kind, role, nucleus, has_subscript)?;
+            set_scripts(alloc, fonts, style, nucleus, sup, sub)
+        }
+    }
+}
+
+// ---- scripts
+
+// The row of a nucleus with its scripts beside it.
+#[cycle(setting)]
+fn set_scripts(
+    alloc: Global,
+    fonts: &FontSet,
+    style: Style,
+    nucleus: SetNucleus,
+    sup: Field,
+    sub: Field,
+) -> Result<Row, SetFault>
+    requires nucleus { NucleusIsSmall 3990 nucleus }
+    requires sup { IsModestPart (part_of_field sup) }
+    requires sub { IsModestPart (part_of_field sub) }
+    ensures is { SetsRow result
+        (row_with_fields fonts.now style (nucleus_value nucleus) (field_content fonts.now sup) (field_content fonts.now sub)) }
+    ensures few { IfOk result (λ row. length row ≤ 3) }
+    ensures fits { IfOk result (λ row. (n : ℕ) → RowFits n nucleus.row →
+        ScriptLevels n (part_of_field sup) (part_of_field sub) → RowFits (n + 2) row) }
+    ensures reach { IfOk result ReachInRange }
+{
+    let above = set_script(alloc, fonts, style.sup(), sup)?;
+    let below = set_script(alloc, fonts, style.sub(), sub)?;
+    with_scripts(alloc, fonts, style, nucleus, above, below)
+}
+
+// The row of an operator with its scripts above and below it.
+#[cycle(setting)]
+fn set_limits(
+    alloc: Global,
+    fonts: &FontSet,
+    style: Style,
+    operator: SetOperator,
+    sup: Field,
+    sub: Field,
+) -> Result<Row, SetFault>
+    requires level { operator.body.level ≤ 3990 }
+    requires delta { Within (2 ^ 31) operator.delta.sp }
+    requires sup { IsModestPart (part_of_field sup) }
+    requires sub { IsModestPart (part_of_field sub) }
+    ensures is { SetsRow result
+        (row_with_limits fonts.now style (operator_value operator) (field_content fonts.now sup) (field_content fonts.now sub)) }
+    ensures few { IfOk result (λ row. length row ≤ 3) }
+    ensures fits { IfOk result (λ row. (n : ℕ) → operator.body.level ≤ n →
+        ScriptLevels n (part_of_field sup) (part_of_field sub) → RowFits (n + 3) row) }
+    ensures reach { IfOk result ReachInRange }
+{
+    let upper = set_script(alloc, fonts, style.sup(), sup)?;
+    let lower = set_script(alloc, fonts, style.sub(), sub)?;
+    let SetOperator { body, delta } = operator;
+    with_limits(alloc, fonts, style.size(), body, delta, upper, lower)
+}
+
+// The clean box of a script, if it is there.
+#[cycle(setting)]
+fn set_script(
+    alloc: Global,
+    fonts: &FontSet,
+    style: Style,
+    field: Field,
+) -> Result<Option<Packed>, SetFault>
+    requires modest { IsModestPart (part_of_field field) }
+    ensures is { SetsScript result (script_box fonts.now style (field_content fonts.now field)) }
+    ensures level { IfOk result (λ box. script_level box ≤ 12 * part_nesting (part_of_field field) + 1) }
+{
+    if is_empty(&field) {
+        return Ok(None);
+    }
+    let body = clean_field(alloc, fonts, style, field)?;
+    Ok(Some(body))
+}
+
+// The clean box of a field.
+#[cycle(setting)]
+fn clean_field(
+    alloc: Global,
+    fonts: &FontSet,
+    style: Style,
+    field: Field,
+) -> Result<Packed, SetFault>
+    requires modest { IsModestPart (part_of_field field) }
+    ensures is { SetsBox result (clean_field fonts.now style (field_content fonts.now field)) }
+    ensures level { IfOk result (λ b. b.level ≤ 12 * part_nesting (part_of_field field) + 1) }
+{
+    match field {
+        Field::Sym(symbol) => clean_symbol(alloc, fonts, style, symbol),
+        Field::List(list) => clean_list(alloc, fonts, style, list),
+        Field::Empty | Field::Rows(_) => empty_box(alloc),
+    }
+}
+
+// The clean box of a list.
+#[cycle(setting)]
+fn clean_list(
+    alloc: Global,
+    fonts: &FontSet,
+    style: Style,
+    list: MathList,
+) -> Result<Packed, SetFault>
+    requires modest { IsModestList list }
+    ensures is { SetsBox result (clean_list (list_content fonts.now list) style) }
+    ensures level { IfOk result (λ b. b.level ≤ 12 * list_nesting list + 1) }
+{
+    let row = set_list(alloc, fonts, list, style)?;
+    cleaned(alloc, row)
+}
+
+// ---- the nucleus
+
+// The nucleus of an atom of any kind, where its scripts stand beside it.
+#[cycle(setting)]
+fn set_nucleus(
+    alloc: Global,
+    fonts: &FontSet,
+    style: Style,
+    kind: Kind,
+    role: JoiningRole,
+    field: Field,
+    has_subscript: bool,
+) -> Result<SetNucleus, SetFault>
+    requires modest { IsModestPart (part_of_field field) }
+    ensures is { SetsNucleus result (kind_nucleus kind fonts.now style (role_value role) (field_content fonts.now field) has_subscript) }
+    ensures fits { IfOk result (NucleusIsSmall (12 * part_nesting (part_of_field field) + 4)) }
+{
+    match kind {
+        Kind::Plain(class) => { set_plain(alloc, fonts, style, class, role, field, has_subscript) }
+        Kind::Radical(sign) => part_nucleus(alloc, set_radical(alloc, fonts, style, sign, field)),
+        Kind::Accent(accent) => {
+            part_nucleus(alloc, set_accent(alloc, fonts, style, accent, field))
+        }
+        Kind::Over => part_nucleus(alloc, set_overline(alloc, fonts, style, field)),
+        Kind::Under => part_nucleus(alloc, set_underline(alloc, fonts, style, field)),
+        Kind::Vcenter => part_nucleus(alloc, set_vcenter(alloc, fonts, style, field)),
+    }
+}
+
+// The nucleus of an atom of the plain kind.
+#[cycle(setting)]
+fn set_plain(
+    alloc: Global,
+    fonts: &FontSet,
+    style: Style,
+    class: Class,
+    role: JoiningRole,
+    field: Field,
+    has_subscript: bool,
+) -> Result<SetNucleus, SetFault>
+    requires modest { IsModestPart (part_of_field field) }
+    ensures is { SetsNucleus result (class_nucleus class fonts.now style (role_value role) (field_content fonts.now field) has_subscript) }
+    ensures fits { IfOk result (NucleusIsSmall (12 * part_nesting (part_of_field field) + 4)) }
+{
+    match field {
+        Field::Sym(symbol) => {
+            class_nucleus(alloc, fonts, style, class, role, symbol, has_subscript)
+        }
+        Field::List(list) => pack_list(alloc, fonts, style, list),
+        Field::Empty | Field::Rows(_) => Ok(empty_nucleus(alloc)),
+    }
+}
+
+// A list as a nucleus: its row, packed.
+#[cycle(setting)]
+fn pack_list(
+    alloc: Global,
+    fonts: &FontSet,
+    style: Style,
+    list: MathList,
+) -> Result<SetNucleus, SetFault>
+    requires modest { IsModestList list }
+    ensures is { SetsNucleus result (packed_list (list_content fonts.now list) style) }
+    ensures fits { IfOk result (NucleusIsSmall (12 * list_nesting list + 1)) }
+{
+    let row = set_list(alloc, fonts, list, style)?;
+    let body = packed(alloc, row)?;
+    box_nucleus(alloc, body)
+}
+
+// An operator under limits.
+#[cycle(setting)]
+fn set_operator(
+    alloc: Global,
+    fonts: &FontSet,
+    style: Style,
+    field: Field,
+) -> Result<SetOperator, SetFault>
+    requires modest { IsModestPart (part_of_field field) }
+    ensures is { SetsOperator result (operator_box fonts.now style (field_content fonts.now field)) }
+    ensures level { IfOk result (λ o. o.body.level ≤ 12 * part_nesting (part_of_field field) + 2) }
+    ensures delta { IfOk result (λ o. Within (2 ^ 31) o.delta.sp) }
+{
+    match field {
+        Field::Sym(symbol) => symbol_operator(alloc, fonts, style, symbol),
+        Field::List(list) => box_operator(clean_list(alloc, fonts, style, list)),
+        Field::Empty | Field::Rows(_) => box_operator(empty_box(alloc)),
+    }
+}
+
+// ---- parts round a nucleus
+
+#[cycle(setting)]
+fn set_radical(
+    alloc: Global,
+    fonts: &FontSet,
+    style: Style,
+    sign: Delim,
+    field: Field,
+) -> Result<Packed, SetFault>
+    requires modest { IsModestPart (part_of_field field) }
+    ensures is { SetsBox result (radical_part fonts.now style sign (field_content fonts.now field)) }
+    ensures level { IfOk result (λ b. b.level ≤ 12 * part_nesting (part_of_field field) + 3) }
+{
+    let body = clean_field(alloc, fonts, style.cramped(), field)?;
+    radical(alloc, fonts, style, sign, body)
+}
+
+#[cycle(setting)]
+fn set_overline(
+    alloc: Global,
+    fonts: &FontSet,
+    style: Style,
+    field: Field,
+) -> Result<Packed, SetFault>
+    requires modest { IsModestPart (part_of_field field) }
+    ensures is { SetsBox result (overline_part fonts.now style (field_content fonts.now field)) }
+    ensures level { IfOk result (λ b. b.level ≤ 12 * part_nesting (part_of_field field) + 3) }
+{
+    let body = clean_field(alloc, fonts, style.cramped(), field)?;
+    overline(alloc, fonts, style.size(), body)
+}
+
+#[cycle(setting)]
+fn set_underline(
+    alloc: Global,
+    fonts: &FontSet,
+    style: Style,
+    field: Field,
+) -> Result<Packed, SetFault>
+    requires modest { IsModestPart (part_of_field field) }
+    ensures is { SetsBox result (underline_part fonts.now style (field_content fonts.now field)) }
+    ensures level { IfOk result (λ b. b.level ≤ 12 * part_nesting (part_of_field field) + 3) }
+{
+    let body = clean_field(alloc, fonts, style, field)?;
+    underline(alloc, fonts, style.size(), body)
+}
+
+// An accent over a nucleus whose scripts belong to the whole.
+#[cycle(setting)]
+fn set_accent(
+    alloc: Global,
+    fonts: &FontSet,
+    style: Style,
+    symbol: Symbol,
+    field: Field,
+) -> Result<Packed, SetFault>
+    requires modest { IsModestPart (part_of_field field) }
+    ensures is { SetsBox result (accent_part fonts.now style symbol (field_content fonts.now field)) }
+    ensures level { IfOk result (λ b. b.level ≤ 12 * part_nesting (part_of_field field) + 3) }
+{
+    let number = find(fonts, style.size(), symbol)?;
+    let skew = field_skew(fonts, style.size(), &field);
+    let plain = clean_field(alloc, fonts, style.cramped(), field)?;
+    let extents = plain.extents();
+    accent(
+        alloc,
+        fonts,
+        style.size(),
+        number,
+        symbol,
+        skew,
+        extents,
+        plain,
+    )
+}
+
+// An accent over a symbol whose scripts belong under it.
+#[cycle(setting)]
+fn set_accent_inside(
+    alloc: Global,
+    fonts: &FontSet,
+    style: Style,
+    accent_symbol: Symbol,
+    symbol: Symbol,
+    sup: Field,
+    sub: Field,
+) -> Result<Row, SetFault>
+    requires sup { IsModestPart (part_of_field sup) }
+    requires sub { IsModestPart (part_of_field sub) }
+    ensures is { SetsRow result
+        (accent_inside fonts.now style accent_symbol (SymbolContent symbol) (field_content fonts.now sup) (field_content fonts.now sub)) }
+    ensures few { IfOk result (λ row. length row ≤ 3) }
+    ensures fits { IfOk result (λ row. (n : ℕ) → ScriptLevels n (part_of_field sup) (part_of_field sub) → RowFits (n + 4) row) }
+    ensures reach { IfOk result ReachInRange }
+{
+    let number = find(fonts, style.size(), accent_symbol)?;
+    let plain = clean_symbol(alloc, fonts, style.cramped(), symbol)?.extents();
+    let has_subscript = !is_empty(&sub);
+    let nucleus = symbol_nucleus(
+        alloc,
+        fonts,
+        style,
+        symbol,
+        JoiningRole::Ordinary,
+        has_subscript,
+    )?;
+    let row = set_scripts(alloc, fonts, style, nucleus, sup, sub)?;
+    let body = packed(alloc, row)?;
+    let skew = skew_of(fonts, style.size(), symbol);
+    let whole = accent(
+        alloc,
+        fonts,
+        style.size(),
+        number,
+        accent_symbol,
+        skew,
+        plain,
+        body,
+    )?;
+    box_row(alloc, whole)
+}
+
+#[cycle(setting)]
+fn set_vcenter(
+    alloc: Global,
+    fonts: &FontSet,
+    style: Style,
+    field: Field,
+) -> Result<Packed, SetFault>
+    requires modest { IsModestPart (part_of_field field) }
+    ensures is { SetsBox result (vcenter_part fonts.now style (field_content fonts.now field)) }
+    ensures level { IfOk result (λ b. b.level ≤ 12 * part_nesting (part_of_field field) + 3) }
+{
+    match field {
+        Field::Rows(rows) => {
+            let rows = set_rows(alloc, fonts, rows)?;
+            vcenter(alloc, fonts, style.size(), rows)
+        }
+        _ => vcenter(
+            alloc,
+            fonts,
+            style.size(),
+            PackedList::from_vec(Vec::new(alloc)),
+        ),
+    }
+}
+
+// Rows, each a formula in text style.
+#[cycle(setting)]
+fn set_rows(alloc: Global, fonts: &FontSet, rows: RowList) -> Result<PackedList, SetFault>
+    requires modest { IsModestRows rows }
+    ensures is { SetsBoxes result (pack_rows (rows_by_style fonts.now rows)) }
+    ensures few { IfOk result (λ boxes. length boxes ≤ 2 ^ 18) }
+    ensures levels { IfOk result (λ boxes. All (λ b. b.level ≤ 12 * rows_nesting rows + 1) boxes) }
+{
+    let mut boxes = Vec::new(alloc);
+    for list in rows.into_vec() {
+        let row = set_list(alloc, fonts, list, Style::T)?;
+        push_box(&mut boxes, packed(alloc, row)?)?;
+    }
+    Ok(PackedList::from_vec(boxes))
+}
+
+fn push_box(boxes: &mut Vec<Packed>, body: Packed) -> Result<(), AllocError>
+    ensures { OnOk result (boxes.new.items ≡ boxes.old.items ++ body ∷ []) }
+{
+    boxes.push(body)?;
+    Ok(())
+}
+
+// ---- fractions
+
+// The row of a fraction.
+#[cycle(setting)]
+fn set_fraction(
+    alloc: Global,
+    fonts: &FontSet,
+    style: Style,
+    fields: Fraction,
+) -> Result<Row, SetFault>
+    requires modest { IsModestElement (fraction_element fields) }
+    ensures is { SetsRow result (fraction_row_of fonts.now style fields) }
+    ensures few { IfOk result (λ row. length row ≤ 3) }
+    ensures fits { IfOk result (RowFits (12 * element_nesting (fraction_element fields))) }
+    ensures reach { IfOk result ReachInRange }
+{
+    let Fraction {
+        thickness,
+        left,
+        right,
+        num,
+        den,
+    } = fields;
+    let num = clean_list(alloc, fonts, style.num(), num)?;
+    let den = clean_list(alloc, fonts, style.den(), den)?;
+    fraction(alloc, fonts, style, thickness, left, right, num, den)
+}
