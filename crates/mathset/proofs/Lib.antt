@@ -6,9 +6,9 @@ pub mod StepLemmas
 pub mod PureLemmas
 -- the fonts of a list, one after another
 pub mod FontLemmas
--- a formula of few items at all levels has few at its outermost level
-pub mod ItemLemmas
--- the glyphs of a formula, their row, and the places of the row
+-- the row of a formula of few levels can be packed
+pub mod RowLemmas
+-- the places of a row on its page
 pub mod PageLemmas
 -- the parts of a log line, one after another
 pub mod LogPartLemmas

@@ -1,9 +1,10 @@
 -- Small sources, in fonts whose characters are all alike.
 use Rattle.std.proofs.Common.{◌≡◌, ℕ, List, [], ◌∷◌, ◌++◌, refl}
-use Rattle.std.specs.Prelude.{pos, codes, replicate, Some, None, Result, Ok, Err}
+use Rattle.std.specs.Prelude.{pos, codes, replicate, Some, None, Result, Ok, Err, ⊤}
 use Rattle.mt_tfm.specs.Font.{Metrics}
 use Rattle.mt_tfm.specs.declared.chars.CharWord.{CharWord}
 use Rattle.mt_family.specs.SetValue.{SetValue}
+use Rattle.mt_family.specs.declared.size.Size.TheVariants.{Text}
 use Rattle.mt_box.specs.declared.place.Place.{Place}
 use Rattle.mt_box.specs.declared.place.Place.TheVariants.{Glyph}
 use Rattle.mt_macro.specs.Expansion.{run}
@@ -12,12 +13,18 @@ use Rattle.mt_plain.specs.Names.{control}
 use Rattle.mt_plain.specs.MacroTexts.{macro_texts, accent_macros, delimiter_macros, other_macros, family_macros, function_macros, limit_macros}
 use Rattle.mt_plain.specs.PlainMacros.{plain_table, body_of as plain_body}
 use Rattle.mt_reader.specs.Formulas.{stretch}
+use Rattle.mt_rules.specs.AtomRow.{atom_row}
+use Rattle.mt_rules.specs.Nuclei.{nucleus_row}
+use Rattle.mt_rules.specs.Scripts.{row_with_scripts}
+use Rattle.mt_convert.specs.FirstPass.{first_pass_of}
+use Rattle.mt_convert.specs.ListRow.{halves_of, list_row}
+use Rattle.mt_convert.specs.SecondPass.{second_pass_of}
 use Rattle.mt_reader.specs.documents.Documents.{pages_from, TooManyTokens, TooManyPages}
 use Rattle.mathset.specs.Documents.{document_refusal}
 use Rattle.mathset.specs.Pages.{formula_pages, source_pages}
 use Rattle.mathset.specs.declared.status.Much.TheVariants.{Pages}
 use Rattle.mathset.specs.declared.status.Status.{Status}
-use Rattle.mathset.specs.declared.status.Status.TheVariants.{BadSource, BadFormula, Budget, Overflow, TooDeep, TooMuch, NotBuilt}
+use Rattle.mathset.specs.declared.status.Status.TheVariants.{BadSource, BadFormula, Budget, MissingFamily, MissingChar, Overflow, TooDeep, TooMuch, NotBuilt}
 
 abbrev char : CharWord
 char = record { width = 1; height = 1; depth = 0; italic = 0; tag = 0; remainder = 0 }
@@ -49,6 +56,11 @@ fonts width = record {
   fonts = font 10 ∷ font width ∷ [];
 }
 
+-- what evaluating a source unfolds: its reading, and the rules of setting
+unfoldable computed : ⊤
+unfolding source_pages formula_pages stretch run pages_from control plain_codes plain_table macro_texts accent_macros delimiter_macros other_macros family_macros function_macros limit_macros plain_body list_row halves_of first_pass_of second_pass_of atom_row nucleus_row row_with_scripts
+computed = tt
+
 abbrev Answered : Type 0
 Answered = Result (List (List Place)) Status
 
@@ -60,87 +72,88 @@ glyph font code h = Glyph font code (pos h) (pos 7)
 
 -- rows of characters
 case_1 : set (codes "$ab1$") ≡ Ok ((glyph 1 97 0 ∷ glyph 1 98 20 ∷ glyph 0 49 40 ∷ []) ∷ [])
-unfolding source_pages formula_pages stretch run pages_from control plain_codes plain_table macro_texts accent_macros delimiter_macros other_macros family_macros function_macros limit_macros plain_body
+unfolding computed
 case_1 = refl
 
 case_2 : set (codes " \\par$a\\relax b$\\bye$") ≡ Ok ((glyph 1 97 0 ∷ glyph 1 98 20 ∷ []) ∷ [])
-unfolding source_pages formula_pages stretch run pages_from control plain_codes plain_table macro_texts accent_macros delimiter_macros other_macros family_macros function_macros limit_macros plain_body
+unfolding computed
 case_2 = refl
 
 case_3 : set (codes "\\def\\x{}$\\x\\x$") ≡ Ok ([] ∷ [])
-unfolding source_pages formula_pages stretch run pages_from control plain_codes plain_table macro_texts accent_macros delimiter_macros other_macros family_macros function_macros limit_macros plain_body
+unfolding computed
 case_3 = refl
 
 case_4 : set (codes "\\mathcode`?=\"161$?$") ≡ Ok ((glyph 1 97 0 ∷ []) ∷ [])
-unfolding source_pages formula_pages stretch run pages_from control plain_codes plain_table macro_texts accent_macros delimiter_macros other_macros family_macros function_macros limit_macros plain_body
+unfolding computed
 case_4 = refl
 
 case_5 : set (codes "") ≡ Ok []
-unfolding source_pages formula_pages stretch run pages_from control plain_codes plain_table macro_texts accent_macros delimiter_macros other_macros family_macros function_macros limit_macros plain_body
+unfolding computed
 case_5 = refl
 
 -- what stands outside of formulas, and bytes
 case_6 : set (codes "$a~b$") ≡ Err (BadSource 2 2)
-unfolding source_pages formula_pages stretch run pages_from control plain_codes plain_table macro_texts accent_macros delimiter_macros other_macros family_macros function_macros limit_macros plain_body
+unfolding computed
 case_6 = refl
 
 case_7 : set (codes "$a$ b") ≡ Err (BadFormula 2 4 31)
-unfolding source_pages formula_pages stretch run pages_from control plain_codes plain_table macro_texts accent_macros delimiter_macros other_macros family_macros function_macros limit_macros plain_body
+unfolding computed
 case_7 = refl
 
 case_8 : set (codes "$a") ≡ Err (BadFormula 1 0 32)
-unfolding source_pages formula_pages stretch run pages_from control plain_codes plain_table macro_texts accent_macros delimiter_macros other_macros family_macros function_macros limit_macros plain_body
+unfolding computed
 case_8 = refl
 
 -- formulas that are not expanded or read
 case_9 : set (codes "\\def\\x#1{}$a\\x$") ≡ Err (BadFormula 1 1 21)
-unfolding source_pages formula_pages stretch run pages_from control plain_codes plain_table macro_texts accent_macros delimiter_macros other_macros family_macros function_macros limit_macros plain_body
+unfolding computed
 case_9 = refl
 
 case_10 : set (codes "$a^b^c$") ≡ Err (BadFormula 1 3 2)
-unfolding source_pages formula_pages stretch run pages_from control plain_codes plain_table macro_texts accent_macros delimiter_macros other_macros family_macros function_macros limit_macros plain_body
+unfolding computed
 case_10 = refl
 
 case_11 : set (codes "$a\\over b\\over c$") ≡ Err (BadFormula 1 3 3)
-unfolding source_pages formula_pages stretch run pages_from control plain_codes plain_table macro_texts accent_macros delimiter_macros other_macros family_macros function_macros limit_macros plain_body
+unfolding computed
 case_11 = refl
 
 case_12 : set (codes "$\\left a$") ≡ Err (BadFormula 1 1 4)
-unfolding source_pages formula_pages stretch run pages_from control plain_codes plain_table macro_texts accent_macros delimiter_macros other_macros family_macros function_macros limit_macros plain_body
+unfolding computed
 case_12 = refl
 
 case_13 : set (codes "$\\Gamma$ $a^b^c$") ≡ Err (BadFormula 2 3 2)
-unfolding source_pages formula_pages stretch run pages_from control plain_codes plain_table macro_texts accent_macros delimiter_macros other_macros family_macros function_macros limit_macros plain_body
+unfolding computed
 case_13 = refl
 
--- what is not built
-case_14 : set (codes "$a+b$") ≡ Err (NotBuilt 1)
-unfolding source_pages formula_pages stretch run pages_from control plain_codes plain_table macro_texts accent_macros delimiter_macros other_macros family_macros function_macros limit_macros plain_body
+-- what cannot be set
+case_14 : set (codes "$a+b$") ≡ Err (MissingChar 1 0 Text 43)
+unfolding computed
 case_14 = refl
 
-case_15 : set (codes "$a^b$") ≡ Err (NotBuilt 1)
-unfolding source_pages formula_pages stretch run pages_from control plain_codes plain_table macro_texts accent_macros delimiter_macros other_macros family_macros function_macros limit_macros plain_body
+case_15 : set (codes "$\\cal a$") ≡ Err (MissingFamily 1 2 Text)
+unfolding computed
 case_15 = refl
 
-case_16 : set (codes "$\\rm ab\\sl c$") ≡ Err (NotBuilt 1)
-unfolding source_pages formula_pages stretch run pages_from control plain_codes plain_table macro_texts accent_macros delimiter_macros other_macros family_macros function_macros limit_macros plain_body
+case_16 : set (codes "$\\rm ab\\sl c$") ≡ Err (MissingFamily 1 5 Text)
+unfolding computed
 case_16 = refl
 
+-- what is not built, before what cannot be set
 case_17 : set (codes "$$a$$") ≡ Err (NotBuilt 1)
-unfolding source_pages formula_pages stretch run pages_from control plain_codes plain_table macro_texts accent_macros delimiter_macros other_macros family_macros function_macros limit_macros plain_body
+unfolding computed
 case_17 = refl
 
-case_18 : set (codes "$a$\\eject$$b$$") ≡ Err (NotBuilt 2)
-unfolding source_pages formula_pages stretch run pages_from control plain_codes plain_table macro_texts accent_macros delimiter_macros other_macros family_macros function_macros limit_macros plain_body
+case_18 : set (codes "$+$\\eject$$b$$") ≡ Err (NotBuilt 2)
+unfolding computed
 case_18 = refl
 
 -- too many groups, steps, tokens and pages
 case_19 : set (codes "$" ++ replicate 151 123 ++ codes "a" ++ replicate 151 125 ++ codes "$") ≡ Err (TooDeep 1 150)
-unfolding source_pages formula_pages stretch run pages_from control plain_codes plain_table macro_texts accent_macros delimiter_macros other_macros family_macros function_macros limit_macros plain_body
+unfolding computed
 case_19 = refl
 
 case_20 : set (codes "\\def\\x{\\x}$\\x$") ≡ Err (Budget 1)
-unfolding source_pages formula_pages stretch run pages_from control plain_codes plain_table macro_texts accent_macros delimiter_macros other_macros family_macros function_macros limit_macros plain_body
+unfolding computed
 case_20 = refl
 
 case_21 : document_refusal (TooManyTokens 3 1000001) ≡ Budget 3
@@ -151,13 +164,13 @@ case_22 = refl
 
 -- lengths out of range, after what is not built
 case_23 : source_pages (fonts 1073741824) (codes "$1a$") ≡ Err (Overflow 1 (pos 1073741824))
-unfolding source_pages formula_pages stretch run pages_from control plain_codes plain_table macro_texts accent_macros delimiter_macros other_macros family_macros function_macros limit_macros plain_body
+unfolding computed
 case_23 = refl
 
 case_24 : source_pages (fonts 1073741820) (codes "$1a$") ≡ Err (Overflow 1 (pos 1073741830))
-unfolding source_pages formula_pages stretch run pages_from control plain_codes plain_table macro_texts accent_macros delimiter_macros other_macros family_macros function_macros limit_macros plain_body
+unfolding computed
 case_24 = refl
 
 case_25 : source_pages (fonts 1073741824) (codes "$1a$ $b$") ≡ Err (NotBuilt 2)
-unfolding source_pages formula_pages stretch run pages_from control plain_codes plain_table macro_texts accent_macros delimiter_macros other_macros family_macros function_macros limit_macros plain_body
+unfolding computed
 case_25 = refl

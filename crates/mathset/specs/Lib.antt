@@ -20,8 +20,8 @@ pub mod FontSteps
 pub mod Typeset
 -- the document of a source
 pub mod Documents
--- what is built of a formula so far
-pub mod Built
+-- the row of a formula
+pub mod FormulaRow
 -- the pages of a source
 pub mod Pages
 -- the line of a refusal

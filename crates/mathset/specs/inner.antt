@@ -6,5 +6,5 @@ pub mod Runs
 pub mod LogParts
 -- the words that names of files are
 pub mod Words
--- formulas of few items
-pub mod Formulas
+-- the row of a formula
+pub mod Rows

@@ -1,9 +1,9 @@
 //! The document of a source.
-ghost use Rattle.std.specs.Prelude.{◌≡◌, All, IfOk};
+ghost use Rattle.std.specs.Prelude.{◌≡◌, IfOk};
 ghost use Rattle.mt_reader.specs.documents.Documents.{DocumentAnswer};
 ghost use Rattle.mt_reader.specs.documents.Refusals.{IsExpandRefusal, IsReadRefusal, IsRefusal};
+ghost use Rattle.mt_reader.specs.documents.Weights.{IsModestDocument};
 ghost use Rattle.mathset.specs.inner.Steps.{IsPure};
-ghost use Rattle.mathset.specs.inner.Formulas.{IsFew};
 ghost use Rattle.mathset.specs.Documents.{document_by, document_of, token_refusal};
 
 use crate::status::{Much, Status};
@@ -101,9 +101,11 @@ fn document_refusal(error: DocError) -> Status
 /// `Budget` for a formula whose macros do not come to an end, and where the formulas have too many tokens together;
 /// `TooDeep` where too many groups of a formula are open; `TooMuch` pages, at the formula that would begin one.
 /// `OutOfMemory` where memory ran out.
+///
+/// Its lists are modest: body and number of each formula can be set.
 pub fn document_of(alloc: Global, fonts: &FontSet, source: &[u8]) -> Result<Document, Status>
     ensures is { IsPure (document_of fonts.now source.now) result }
-    ensures few { IfOk result (λ document. All (λ page. All IsFew page) document) }
+    ensures modest { IfOk result IsModestDocument }
 {
     match read_document(alloc, fonts.units(), source) {
         Ok(document) => Ok(document),

@@ -1,15 +1,15 @@
-//! The pages of a document: the page of each formula.
+//! The pages of a document: that of its only formula.
 ghost use Rattle.std.specs.Prelude.{◌≡◌, ◌≤◌, ◌^◌, ◌∷◌, [], All, IfOk, flat_map, length, None, Ok};
 ghost use Rattle.mt_box.specs.Layout.{layout_of};
-ghost use Rattle.mt_box.specs.Rows.{AllModest};
+ghost use Rattle.mt_box.specs.Rows.{AllModest, piece_values};
 ghost use Rattle.mt_dvi.specs.Limits.{max_places};
 ghost use Rattle.mt_dvi.specs.Writable.{IsWritable};
 ghost use Rattle.mt_dvi.specs.Refusal.{refusal_of};
+ghost use Rattle.mt_reader.specs.documents.Weights.{HasModestLists, IsModestDocument};
 ghost use Rattle.mathset.specs.inner.Steps.{IsPure};
-ghost use Rattle.mathset.specs.inner.Formulas.{IsFew};
-ghost use Rattle.mathset.specs.Pages.{document_pages, formula_pages, formulas_pages, pack_refusal, page_places, page_result, place_refusal, row_page};
+ghost use Rattle.mathset.specs.Pages.{document_pages, first_unbuilt, formula_pages, formulas_pages, pack_refusal, page_places, page_result, place_refusal, row_page};
 
-use crate::built::{only_glyphs, row_of};
+use crate::setting::formula_row;
 use crate::status::{Much, Status};
 use mt_box::{PackError, Packed, PageList, PlaceError, PlaceList, Row, hpack, places};
 use mt_dvi::MAX_PLACES;
@@ -58,7 +58,7 @@ fn page_places(alloc: Global, n: u32, body: &Packed) -> Result<PlaceList, Status
 fn row_page(alloc: Global, n: u32, row: Row) -> Result<PlaceList, Status>
     requires few { length row ≤ 2 ^ 21 }
     requires modest { AllModest row }
-    ensures is { IsPure (row_page n row) result }
+    ensures is { IsPure (row_page n (piece_values row)) result }
     ensures few { IfOk result (λ page. length page ≤ max_places) }
 {
     match hpack(alloc, row) {
@@ -75,34 +75,46 @@ fn one_page(alloc: Global, page: PlaceList) -> Result<PageList, Status>
     Ok(Items::from_vec(pages))
 }
 
-// The one page of a formula behind which these stand.
-fn formula_pages(
-    alloc: Global,
-    fonts: &FontSet,
-    formula: &Formula,
-    others: &[Formula],
-) -> Result<PageList, Status>
-    requires { IsFew formula.now }
-    ensures is { IsPure (formula_pages fonts.now formula.now others.now) result }
+// The one page of a formula.
+fn formula_pages(alloc: Global, fonts: &FontSet, formula: Formula) -> Result<PageList, Status>
+    requires modest { HasModestLists formula }
+    ensures is { IsPure (formula_pages fonts.now formula) result }
     ensures writable { IfOk result (λ pages. All (λ page. All (IsWritable fonts.now) page) pages) }
     ensures few_places { IfOk result (λ pages. refusal_of pages ≡ None) }
 {
     let n = formula.number;
-    let glyphs = only_glyphs(alloc, fonts, formula, others)?;
-    let row = row_of(alloc, n, glyphs.as_slice())?;
+    let row = formula_row(alloc, fonts, formula)?;
     let page = row_page(alloc, n, row)?;
     one_page(alloc, page)
 }
 
-fn formulas_pages(alloc: Global, fonts: &FontSet, formulas: &[Formula]) -> Result<PageList, Status>
-    requires { All IsFew formulas.now }
-    ensures is { IsPure (formulas_pages fonts.now formulas.now) result }
+// The number of the first formula that is not built: a display, or one behind the first.
+fn first_unbuilt(formulas: &[Formula]) -> Option<u32>
+    ensures { result ≡ first_unbuilt formulas.now }
+{
+    match formulas {
+        [first, ..] if first.display => Some(first.number),
+        [_, next, ..] => Some(next.number),
+        _ => None,
+    }
+}
+
+fn formulas_pages(
+    alloc: Global,
+    fonts: &FontSet,
+    mut formulas: Vec<Formula>,
+) -> Result<PageList, Status>
+    requires modest { All HasModestLists formulas.items }
+    ensures is { IsPure (formulas_pages fonts.now formulas.items) result }
     ensures writable { IfOk result (λ pages. All (λ page. All (IsWritable fonts.now) page) pages) }
     ensures few_places { IfOk result (λ pages. refusal_of pages ≡ None) }
 {
-    match formulas {
-        [] => Ok(Items::from_vec(Vec::new(alloc))),
-        [formula, others @ ..] => formula_pages(alloc, fonts, formula, others),
+    if let Some(n) = first_unbuilt(&formulas) {
+        return Err(Status::NotBuilt { n });
+    }
+    match formulas.pop() {
+        Some(formula) => formula_pages(alloc, fonts, formula),
+        None => Ok(Items::from_vec(Vec::new(alloc))),
     }
 }
 
@@ -117,24 +129,23 @@ fn formulas_of(alloc: Global, document: Document) -> Result<Vec<Formula>, AllocE
     Ok(formulas)
 }
 
-/// The pages of a document: none, or the one of its only formula. The characters of a formula stand side by side from
-/// h = 0 on, with the top of their row at v = 0, each in the text font of its family.
+/// The pages of a document: none, or the one of its only formula, whose row begins at h = 0, with its top at v = 0.
 ///
 /// # Errors
 ///
-/// Those of [`only_glyphs`], for a formula that is not built. Else `Overflow` with the first of these that is out of
-/// range: the width, height and depth of each glyph, in order; those of the row; the coordinates of each glyph, in
-/// order. `OutOfMemory` where memory ran out.
+/// `NotBuilt` for the first formula that is displayed, or stands behind another one. Else the first fault of the
+/// formula's row, as [`formula_row`] says, and then `Overflow` with the first coordinate of a place that is out of
+/// range, or `TooMuch` where there are more than 2,000,000 places. `OutOfMemory` where memory ran out.
 pub fn document_pages(
     alloc: Global,
     fonts: &FontSet,
     document: Document,
 ) -> Result<PageList, Status>
-    requires { All (λ page. All IsFew page) document }
+    requires modest { IsModestDocument document }
     ensures is { IsPure (document_pages fonts.now document) result }
     ensures writable { IfOk result (λ pages. All (λ page. All (IsWritable fonts.now) page) pages) }
     ensures few_places { IfOk result (λ pages. refusal_of pages ≡ None) }
 {
     let formulas = formulas_of(alloc, document)?;
-    formulas_pages(alloc, fonts, &formulas)
+    formulas_pages(alloc, fonts, formulas)
 }

@@ -1,6 +1,10 @@
 //! Runs over files in memory, for the tests. Want of memory ends the process.
+use crate::fonts::read_font_set;
 use crate::run::run;
-use mt_outside::{Cabinet, CallList, FileList, Held, MemoryCabinet, MemorySink, Sink};
+use mt_family::FontSet;
+use mt_outside::{
+    Cabinet, CallList, FileList, Held, MemoryCabinet, MemorySink, Sink, SteadyCabinet,
+};
 use mt_samples::{Toy, toy_list, toy_tfm};
 use mt_scaled::{Bytes, Name};
 use std::alloc::Global;
@@ -61,6 +65,12 @@ pub fn files(rt: &impl Abort, alloc: Global, list: Option<&[u8]>, source: &[u8])
     add(rt, &mut files, text(rt, alloc, b"cut.tfm", b"\0\x0f"));
     add(rt, &mut files, text(rt, alloc, b"formula.tex", source));
     FileList::from_vec(files)
+}
+
+/// The fonts of a list, or the toy fonts.
+pub fn fonts(rt: &impl Abort, alloc: Global, list: Option<&[u8]>) -> FontSet {
+    let mut cabinet = SteadyCabinet::new(files(rt, alloc, list, b""));
+    read_font_set(alloc, "toy.fonts", &mut cabinet).expect(rt, "the fonts")
 }
 
 /// The number of a call.
