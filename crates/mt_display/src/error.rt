@@ -1,0 +1,28 @@
+//! Why the places of lines were not found.
+ghost use Rattle.std.specs.Prelude.{◌≡◌};
+ghost use Rattle.mt_display.specs.declared.error.StackError.TheVariants.{OutOfMemory as StackMemory};
+
+use std::alloc::AllocError;
+use thiserror::Error;
+
+/// Why the places of lines were not found. Lines are counted from 0.
+#[derive(Clone, Copy, Debug, PartialEq, Eq, Error)]
+pub enum StackError {
+    /// A coordinate of a place of this line that is out of range, in scaled points.
+    #[error("a place of line {line} would be at {value}sp")]
+    OutOfRange { line: u32, value: i128 },
+    /// There are more places than there is room for.
+    #[error("too many places")]
+    TooMany,
+    /// There was no memory for the list.
+    #[error("out of memory")]
+    OutOfMemory,
+}
+
+impl From<AllocError> for StackError {
+    ghost from_gives = { λ _ e. e ≡ StackMemory };
+
+    fn from(_: AllocError) -> Self {
+        StackError::OutOfMemory
+    }
+}
