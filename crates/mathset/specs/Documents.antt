@@ -42,10 +42,10 @@ document_refusal (NotRead n cause place) = reading_refusal n cause place
 document_refusal (TooManyTokens n count) = Budget n
 document_refusal (TooManyPages count) = TooMuch Pages count
 
-abbrev pub document_by : DocumentAnswer → Result (List (List Formula)) Status
-document_by (Ok pages) = Ok pages
-document_by (Err fault) = Err (document_refusal fault)
+abbrev pub document_from : DocumentAnswer → Result (List (List Formula)) Status
+document_from (Ok pages) = Ok pages
+document_from (Err fault) = Err (document_refusal fault)
 
 -- the document of a source; an em and an ex are those of family 0
 abbrev pub document_of : SetValue → List ℕ → Result (List (List Formula)) Status
-document_of set bytes = document_by (source_document (units_of set) bytes)
+document_of set bytes = document_from (source_document (units_of set) bytes)

@@ -76,11 +76,11 @@ abbrev pub formulas_pages : SetValue → List Formula → Result (List (List Pla
 formulas_pages set formulas = pages_unless (first_unbuilt formulas) set formulas
 
 -- the pages of a document, which is formulas page by page
-abbrev pub document_pages : SetValue → List (List Formula) → Result (List (List Place)) Status
-document_pages set document = formulas_pages set (flat_map (λ page. page) document)
+abbrev pub pages_of_document : SetValue → List (List Formula) → Result (List (List Place)) Status
+pages_of_document set document = formulas_pages set (flat_map (λ page. page) document)
 
 -- the pages of a source
 unfoldable pub source_pages : SetValue → List ℕ → Result (List (List Place)) Status
 source_pages set bytes = do
   document ← document_of set bytes
-  document_pages set document
+  pages_of_document set document

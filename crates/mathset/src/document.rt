@@ -4,7 +4,7 @@ ghost use Rattle.mt_reader.specs.documents.Documents.{DocumentAnswer};
 ghost use Rattle.mt_reader.specs.documents.Refusals.{IsExpandRefusal, IsReadRefusal, IsRefusal};
 ghost use Rattle.mt_reader.specs.documents.Weights.{IsModestDocument};
 ghost use Rattle.mathset.specs.inner.Steps.{IsPure};
-ghost use Rattle.mathset.specs.Documents.{document_by, document_of, token_refusal};
+ghost use Rattle.mathset.specs.Documents.{document_from, document_of, token_refusal};
 
 use crate::status::{Much, Status};
 use mt_family::FontSet;
@@ -33,7 +33,7 @@ fn token_refusal(error: TokenError) -> Status
 // Formula n is not expanded.
 fn expand_refusal(n: u32, error: ExpandError) -> Status
     ensures { (answer : DocumentAnswer) → IsExpandRefusal n error answer
-        → document_by answer ≡ Err result }
+        → document_from answer ≡ Err result }
 {
     match error {
         ExpandError::Budget { .. } | ExpandError::TooLong => Status::Budget { n },
@@ -49,7 +49,7 @@ fn expand_refusal(n: u32, error: ExpandError) -> Status
 // Formula n is not read.
 fn read_refusal(n: u32, error: ReadError) -> Status
     ensures { (answer : DocumentAnswer) → IsReadRefusal n error answer
-        → document_by answer ≡ Err result }
+        → document_from answer ≡ Err result }
 {
     let (token, cause) = match error {
         ReadError::UnknownName(token) => (token, 1),
@@ -70,7 +70,7 @@ fn read_refusal(n: u32, error: ReadError) -> Status
 
 fn document_refusal(error: DocError) -> Status
     ensures { (answer : DocumentAnswer) → IsRefusal error answer
-        → IsPure (document_by answer) (Err result) }
+        → IsPure (document_from answer) (Err result) }
 {
     match error {
         DocError::Source(cause) => token_refusal(cause),

@@ -7,7 +7,7 @@ ghost use Rattle.mt_dvi.specs.Writable.{IsWritable};
 ghost use Rattle.mt_dvi.specs.Refusal.{refusal_of};
 ghost use Rattle.mt_reader.specs.documents.Weights.{HasModestLists, IsModestDocument};
 ghost use Rattle.mathset.specs.inner.Steps.{IsPure};
-ghost use Rattle.mathset.specs.Pages.{document_pages, first_unbuilt, formula_pages, formulas_pages, pack_refusal, page_places, page_result, place_refusal, row_page};
+ghost use Rattle.mathset.specs.Pages.{pages_of_document, first_unbuilt, formula_pages, formulas_pages, pack_refusal, page_places, page_result, place_refusal, row_page};
 
 use crate::setting::formula_row;
 use crate::status::{Much, Status};
@@ -136,13 +136,13 @@ fn formulas_of(alloc: Global, document: Document) -> Result<Vec<Formula>, AllocE
 /// `NotBuilt` for the first formula that is displayed, or stands behind another one. Else the first fault of the
 /// formula's row, as [`formula_row`] says, and then `Overflow` with the first coordinate of a place that is out of
 /// range, or `TooMuch` where there are more than 2,000,000 places. `OutOfMemory` where memory ran out.
-pub fn document_pages(
+pub fn pages_of_document(
     alloc: Global,
     fonts: &FontSet,
     document: Document,
 ) -> Result<PageList, Status>
     requires modest { IsModestDocument document }
-    ensures is { IsPure (document_pages fonts.now document) result }
+    ensures is { IsPure (pages_of_document fonts.now document) result }
     ensures writable { IfOk result (λ pages. All (λ page. All (IsWritable fonts.now) page) pages) }
     ensures few_places { IfOk result (λ pages. refusal_of pages ≡ None) }
 {

@@ -24,7 +24,7 @@ use Rattle.mt_convert.specs.Halves.{HalfValue, Halves, half_height, half_depth, 
 use Rattle.mt_convert.specs.Halfway.{half_value, half_values, HalfFits, HalvesFit, count_of, total_of}
 use Rattle.mt_convert.specs.ListRow.{items_of, halves_of}
 use Rattle.mt_convert.specs.inner.Answers.{HalfReachInRange}
-use Rattle.mt_convert.specs.inner.Appending.{behind}
+use Rattle.mt_convert.specs.inner.Appending.{appended_to}
 use Rattle.mt_convert.specs.inner.Boundaries.{Remains, RestOfList, TurnLeaves}
 use Rattle.mt_convert.specs.inner.Lengths.{kern_halves, test_kern}
 use Rattle.mt_convert.specs.inner.Modest.{IsModestElement}
@@ -40,7 +40,7 @@ use Rattle.mt_convert.proofs.Turning.{positive, element_positive, TurnKeeps, tur
 pub record Going (fonts : SetValue) (first : Style) (whole : Sequence) (current : Current) (rest : Sequence) (halves : List Half) : Type 0 where
   pub turns : ℕ
   pub enough : sequence_size rest ≤ turns
-  pub whole_is : set_items fonts (opening first) (flat fonts (sequence_size whole) (opening first) (items_of fonts whole)) ≡ behind (half_values halves) (set_items fonts current (flat fonts turns current (items_of fonts rest)))
+  pub whole_is : set_items fonts (opening first) (flat fonts (sequence_size whole) (opening first) (items_of fonts whole)) ≡ appended_to (half_values halves) (set_items fonts current (flat fonts turns current (items_of fonts rest)))
   pub size : sequence_size rest ≤ sequence_size whole
   pub items : length halves + 2 * list_items rest ≤ 2 * list_items whole
   pub total : total_of halves + 4 * list_items rest ≤ 4 * list_items whole
@@ -91,7 +91,7 @@ going_rewritten fonts first whole current f s halves rest' g e l =
     record {
       turns = t.left;
       enough = omega (arith, g.enough, t.is, k.size);
-      whole_is = g.whole_is ∙ ap (λ xs. behind (half_values halves) (set_items fonts current xs)) (t.first_turn ∙ ap (λ u. flat_by (flat fonts t.left) current (turn_meaning fonts u)) e);
+      whole_is = g.whole_is ∙ ap (λ xs. appended_to (half_values halves) (set_items fonts current xs)) (t.first_turn ∙ ap (λ u. flat_by (flat fonts t.left) current (turn_meaning fonts u)) e);
       size = omega (arith, g.size, k.size);
       items = omega (arith, g.items, k.items);
       total = omega (arith, g.total, k.items);
@@ -250,9 +250,9 @@ going_set fonts first whole current f s halves p rest' h g u l w =
       enough = omega (arith, g.enough, t.is, k.size, element_positive (element_of_passed p));
       whole_is =
           g.whole_is
-          ∙ (ap (λ xs. behind (half_values halves) (set_items fonts current xs)) (t.first_turn ∙ ap (λ v. flat_by (flat fonts t.left) current (turn_meaning fonts v)) (sym u))
+          ∙ (ap (λ xs. appended_to (half_values halves) (set_items fonts current xs)) (t.first_turn ∙ ap (λ v. flat_by (flat fonts t.left) current (turn_meaning fonts v)) (sym u))
           ∙ (items_set fonts current halves p h (flat fonts t.left (current_after_all current (flat_items fonts p)) (items_of fonts rest')) w.is w.kern
-          ∙ ap (λ x. behind (half_values (halves ++ next)) (set_items fonts x (flat fonts t.left x (items_of fonts rest')))) (same_current fonts current p)));
+          ∙ ap (λ x. appended_to (half_values (halves ++ next)) (set_items fonts x (flat fonts t.left x (items_of fonts rest')))) (same_current fonts current p)));
       size = omega (arith, g.size, k.size);
       items = omega (arith, g.items, k.items, a.count, items_positive (element_of_passed p), length-append halves next);
       total = omega (arith, g.total, k.items, a.total, items_positive (element_of_passed p), total_append halves next);
@@ -279,7 +279,7 @@ err_set fonts first whole current f s halves p rest' fault g u h =
     fails_on fault (set_items fonts current (flat_items fonts p)) (halves_of fonts first whole) h
     (λ x k. ap (λ a. a >>= (λ hs. Ok (settle hs)))
     (g.whole_is
-    ∙ (ap (λ xs. behind (half_values halves) (set_items fonts current xs)) (t.first_turn ∙ ap (λ v. flat_by (flat fonts t.left) current (turn_meaning fonts v)) (sym u))
+    ∙ (ap (λ xs. appended_to (half_values halves) (set_items fonts current xs)) (t.first_turn ∙ ap (λ v. flat_by (flat fonts t.left) current (turn_meaning fonts v)) (sym u))
     ∙ items_fail fonts current halves p (flat fonts t.left (current_after_all current (flat_items fonts p)) (items_of fonts rest')) x k)))
 
 pub going_err : (fonts : SetValue) (first : Style) (whole : Sequence) (current : Current) (rest : Sequence) (halves : List Half) (f : Element) (s : Sequence) (p : PassedElement) (rest' : Sequence) (fault : SetFault) → Going fonts first whole current rest halves → rest ≡ More f s → PassesOne p rest' ≡ turn_of fonts current f s → SetFails fault (set_item fonts current (flat_item fonts p)) → SetFails fault (halves_of fonts first whole)
@@ -299,7 +299,7 @@ at_end fonts current (suc t) = refl
 end_on : (fonts : SetValue) (first : Style) (whole : Sequence) (current : Current) (halves : List Half) → Going fonts first whole current End halves → halves_of fonts first whole ≡ Ok (settle (half_values halves))
 unfolding halves_of first_pass_of
 end_on fonts first whole current halves g =
-    ap (λ a. a >>= (λ hs. Ok (settle hs))) (g.whole_is ∙ (ap (λ s. behind (half_values halves) s) (at_end fonts current g.turns) ∙ behind_end (half_values halves)))
+    ap (λ a. a >>= (λ hs. Ok (settle hs))) (g.whole_is ∙ (ap (λ s. appended_to (half_values halves) s) (at_end fonts current g.turns) ∙ behind_end (half_values halves)))
 
 pub going_end : (fonts : SetValue) (first : Style) (whole : Sequence) (current : Current) (rest : Sequence) (halves : List Half) (x : Halves) → Going fonts first whole current rest halves → rest ≡ End → x ≡ settle (half_values halves) → halves_of fonts first whole ≡ Ok x
 going_end fonts first whole current rest halves x g e f = end_on fonts first whole current halves (subst (λ r. Going fonts first whole current r halves) e g) ∙ ap (λ v. Ok v) (sym f)

@@ -11,7 +11,7 @@ use Rattle.mt_convert.specs.FirstPass.{set_item, set_items}
 use Rattle.mt_convert.specs.Flat.{FlatItem, current_after, current_after_all}
 use Rattle.mt_convert.specs.Halves.{HalfValue, HalfKern}
 use Rattle.mt_convert.specs.Halfway.{half_value, half_values}
-use Rattle.mt_convert.specs.inner.Appending.{behind}
+use Rattle.mt_convert.specs.inner.Appending.{appended_to}
 use Rattle.mt_convert.specs.inner.Lengths.{kern_halves, test_kern}
 use Rattle.mt_convert.specs.inner.Turns.{PassedElement, flat_item, flat_items, kern_items, kern_of}
 use Rattle.mt_convert.proofs.Appending.{behind_nil, behind_step, behind_err, fails_on}
@@ -73,14 +73,14 @@ pub half_values-append : (hs ks : List Half) → half_values (hs ++ ks) ≡ half
 half_values-append [] ks = refl
 half_values-append (h ∷ hs) ks = ap (λ r. half_value h ∷ r) (half_values-append hs ks)
 
-pub items_set : (fonts : SetValue) (current : Current) (there : List Half) (p : PassedElement) (h : Half) (rest : List FlatItem) → set_item fonts current (flat_item fonts p) ≡ Ok (half_value h) → test_kern (kern_of p) ≡ Ok tt → behind (half_values there) (set_items fonts current (flat_items fonts p ++ rest)) ≡ behind (half_values (there ++ h ∷ kern_halves (kern_of p))) (set_items fonts (current_after_all current (flat_items fonts p)) rest)
+pub items_set : (fonts : SetValue) (current : Current) (there : List Half) (p : PassedElement) (h : Half) (rest : List FlatItem) → set_item fonts current (flat_item fonts p) ≡ Ok (half_value h) → test_kern (kern_of p) ≡ Ok tt → appended_to (half_values there) (set_items fonts current (flat_items fonts p ++ rest)) ≡ appended_to (half_values (there ++ h ∷ kern_halves (kern_of p))) (set_items fonts (current_after_all current (flat_items fonts p)) rest)
 items_set fonts current there p h rest e k =
     let next = h ∷ kern_halves (kern_of p) in
-    ap (λ s. behind (half_values there) s) (items_append fonts (flat_items fonts p) rest current)
+    ap (λ s. appended_to (half_values there) s) (items_append fonts (flat_items fonts p) rest current)
     ∙ behind_step (half_values there) (half_values (there ++ next)) (set_items fonts current (flat_items fonts p)) (set_items fonts (current_after_all current (flat_items fonts p)) rest)
-    (ap (λ s. behind (half_values there) s) (passed_set fonts current p h e k) ∙ ap (λ xs. Ok xs) (sym (half_values-append there next)))
+    (ap (λ s. appended_to (half_values there) s) (passed_set fonts current p h e k) ∙ ap (λ xs. Ok xs) (sym (half_values-append there next)))
 
-pub items_fail : (fonts : SetValue) (current : Current) (there : List Half) (p : PassedElement) (rest : List FlatItem) (f : SettingFault) → set_items fonts current (flat_items fonts p) ≡ Err f → behind (half_values there) (set_items fonts current (flat_items fonts p ++ rest)) ≡ Err f
+pub items_fail : (fonts : SetValue) (current : Current) (there : List Half) (p : PassedElement) (rest : List FlatItem) (f : SettingFault) → set_items fonts current (flat_items fonts p) ≡ Err f → appended_to (half_values there) (set_items fonts current (flat_items fonts p ++ rest)) ≡ Err f
 items_fail fonts current there p rest f e =
-    ap (λ s. behind (half_values there) s) (items_append fonts (flat_items fonts p) rest current)
+    ap (λ s. appended_to (half_values there) s) (items_append fonts (flat_items fonts p) rest current)
     ∙ behind_err (half_values there) (set_items fonts current (flat_items fonts p)) (set_items fonts (current_after_all current (flat_items fonts p)) rest) f e

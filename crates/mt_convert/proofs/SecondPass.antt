@@ -17,13 +17,13 @@ use Rattle.mt_convert.specs.Halves.{HalfValue, class_to_left}
 use Rattle.mt_convert.specs.Calls.{SetFails}
 use Rattle.mt_convert.specs.Halfway.{half_value, half_values, RowFits, HalfFits, HalvesFit, AllMeet, MayMeet, count_of, total_of}
 use Rattle.mt_convert.specs.SecondPass.{all_pieces, half_pieces, current_past, row_of_halves, second_pass_of}
-use Rattle.mt_convert.specs.inner.Appending.{behind}
+use Rattle.mt_convert.specs.inner.Appending.{appended_to}
 use Rattle.mt_convert.proofs.Appending.{behind_nil, behind_end, behind_step, behind_err, fails_on}
 use Rattle.mt_convert.proofs.Fitting.{fits_nil}
 
 -- the pieces of the whole list are those so far, and then those of the rest
 pub record SoFar (fonts : SetValue) (size : Size) (wanted : ℤ) (style : Style) (whole : List Half) (current : Current) (rest : List Half) (pieces : List Piece) : Type 0 where
-  pub whole_is : all_pieces fonts size wanted (opening style) (half_values whole) ≡ behind (piece_values pieces) (all_pieces fonts size wanted current (half_values rest))
+  pub whole_is : all_pieces fonts size wanted (opening style) (half_values whole) ≡ appended_to (piece_values pieces) (all_pieces fonts size wanted current (half_values rest))
   pub meet : AllMeet current.last (half_values rest)
   pub few : length pieces + total_of rest + 2 * length rest ≤ 2 ^ 21
   pub fits : (n : ℕ) → 2 ≤ n → HalvesFit n whole → RowFits n pieces × HalvesFit n rest
@@ -41,7 +41,7 @@ next_meets fonts size wanted style whole current rest pieces h rest' s e =
     let s' : SoFar fonts size wanted style whole current (h ∷ rest') pieces = subst (λ r. SoFar fonts size wanted style whole current r pieces) e s in
     s'.meet.0
 
-pub so_far_step : (fonts : SetValue) (size : Size) (wanted : ℤ) (style : Style) (whole : List Half) (current current' : Current) (rest : List Half) (pieces pieces' : List Piece) (h : Half) (rest' : List Half) → SoFar fonts size wanted style whole current rest pieces → rest ≡ h ∷ rest' → behind (piece_values pieces) (half_pieces fonts size wanted current (half_value h)) ≡ Ok (piece_values pieces') → current' ≡ current_past current (half_value h) → length pieces' ≤ length pieces + count_of h + 2 → ((n : ℕ) → 2 ≤ n → HalfFits n h → RowFits n pieces → RowFits n pieces') → SoFar fonts size wanted style whole current' rest' pieces'
+pub so_far_step : (fonts : SetValue) (size : Size) (wanted : ℤ) (style : Style) (whole : List Half) (current current' : Current) (rest : List Half) (pieces pieces' : List Piece) (h : Half) (rest' : List Half) → SoFar fonts size wanted style whole current rest pieces → rest ≡ h ∷ rest' → appended_to (piece_values pieces) (half_pieces fonts size wanted current (half_value h)) ≡ Ok (piece_values pieces') → current' ≡ current_past current (half_value h) → length pieces' ≤ length pieces + count_of h + 2 → ((n : ℕ) → 2 ≤ n → HalfFits n h → RowFits n pieces → RowFits n pieces') → SoFar fonts size wanted style whole current' rest' pieces'
 so_far_step fonts size wanted style whole current current' rest pieces pieces' h rest' s e made eq few fits =
     let s' : SoFar fonts size wanted style whole current (h ∷ rest') pieces = subst (λ r. SoFar fonts size wanted style whole current r pieces) e s in
     rw eq (record {

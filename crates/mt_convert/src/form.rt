@@ -109,7 +109,7 @@ pub(crate) fn part_nucleus(
 }
 
 // What is set as a box, as an operator without an italic correction.
-pub(crate) fn box_operator(part: Result<Packed, SetFault>) -> Result<SetOperator, SetFault>
+pub(crate) fn part_operator(part: Result<Packed, SetFault>) -> Result<SetOperator, SetFault>
     ensures is { (setting : Setting Layout) → SetsBox part setting → SetsOperator result (as_operator setting) }
     ensures level { (n : ℕ) → IfOk part (λ b. b.level ≤ n) → IfOk result (λ o. o.body.level ≤ n) }
     ensures delta { IfOk result (λ o. Within (2 ^ 31) o.delta.sp) }

@@ -23,14 +23,14 @@ ghost use Rattle.mt_convert.specs.inner.Turns.{element_of_passed, flat_item, pas
 use crate::SetFault;
 use crate::clean::{clean_symbol, cleaned, empty_box, find, packed};
 use crate::current::{Current, kind_class};
-use crate::form::{AtomForm, box_operator, class_nucleus, form_of, part_nucleus};
+use crate::form::{AtomForm, class_nucleus, form_of, part_nucleus, part_operator};
 use crate::half::Half;
 use crate::halfway::Halfway;
 use crate::joining::is_empty;
 use crate::lengths::{glue_in_points, in_points, make_kern, make_space, push_with_kern};
 use crate::nucleus::{
-    SetNucleus, SetOperator, box_nucleus, empty_nucleus, operator_box as symbol_operator,
-    symbol_nucleus,
+    SetNucleus, SetOperator, box_nucleus, empty_nucleus, operator_nucleus, symbol_nucleus,
+    symbol_operator,
 };
 use crate::parts::{accent, field_skew, fraction, overline, radical, skew_of, underline, vcenter};
 use crate::passed::{JoiningRole, Passed};
@@ -397,8 +397,8 @@ fn set_operator(
 {
     match field {
         Field::Sym(symbol) => symbol_operator(alloc, fonts, style, symbol),
-        Field::List(list) => box_operator(clean_list(alloc, fonts, style, list)),
-        Field::Empty | Field::Rows(_) => box_operator(empty_box(alloc)),
+        Field::List(list) => part_operator(clean_list(alloc, fonts, style, list)),
+        Field::Empty | Field::Rows(_) => part_operator(empty_box(alloc)),
     }
 }
 

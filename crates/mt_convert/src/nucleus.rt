@@ -311,7 +311,7 @@ fn half_length(length: Length) -> Length
 }
 
 // An operator under limits that is a symbol.
-pub(crate) fn operator_box(
+pub(crate) fn symbol_operator(
     alloc: Global,
     fonts: &FontSet,
     style: Style,

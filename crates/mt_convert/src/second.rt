@@ -44,11 +44,11 @@ pub fn second_pass(
     let height = Length { sp: half.height };
     let depth = Length { sp: half.depth };
     let frame = boundary_frame(fonts, style, height, depth);
-    join(alloc, fonts, frame, style, half.items)
+    join_rows(alloc, fonts, frame, style, half.items)
 }
 
 // The rows of these items side by side.
-fn join(
+fn join_rows(
     alloc: Global,
     fonts: &FontSet,
     frame: BoundaryFrame,

@@ -62,8 +62,8 @@ abbrev pub IsPure : {T : Type 0} → Result T Status → Result T Status → Typ
 IsPure step result = PureBy (origin_of result) (step ≡ result)
 
 -- the status of a fetch's error
-abbrev pub IsRefusal : List ℕ → FetchError → Status → Type 0
-IsRefusal word Failed (ReadFault name) = name ≡ word
-IsRefusal word FileTooLong (TooLong name) = name ≡ word
-IsRefusal word NoFetchMemory OutOfMemory = ⊤
-IsRefusal word error status = ⊥
+abbrev pub IsFetchRefusal : List ℕ → FetchError → Status → Type 0
+IsFetchRefusal word Failed (ReadFault name) = name ≡ word
+IsFetchRefusal word FileTooLong (TooLong name) = name ≡ word
+IsFetchRefusal word NoFetchMemory OutOfMemory = ⊤
+IsFetchRefusal word error status = ⊥

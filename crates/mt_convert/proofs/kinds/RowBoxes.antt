@@ -22,7 +22,7 @@ use Rattle.mt_rules.specs.AtomRow.{pack_rows, vcenter_part}
 use Rattle.mt_convert.specs.declared.fault.SetFault.{SetFault}
 use Rattle.mt_convert.specs.Calls.{SetFails}
 use Rattle.mt_convert.specs.ListRow.{content_of, list_row, rows_by_style}
-use Rattle.mt_convert.specs.inner.Appending.{behind}
+use Rattle.mt_convert.specs.inner.Appending.{appended_to}
 use Rattle.mt_convert.specs.inner.Modest.{IsModestRows}
 use Rattle.mt_convert.proofs.Appending.{behind_nil, behind_end, fails_then}
 use Rattle.mt_convert.proofs.kinds.Bounds.{first_row, other_rows}
@@ -31,7 +31,7 @@ use Rattle.mt_convert.proofs.kinds.Parts.{list_made, list_fails}
 
 -- the boxes of the whole are those so far, and then those of the rest
 pub record RowsSoFar (fonts : SetValue) (whole : Rows) (rest : List Sequence) (boxes : List BoxValue) : Type 0 where
-  pub whole_is : pack_rows (rows_by_style fonts whole) ≡ behind (map layout_of boxes) (pack_rows (rows_by_style fonts (rows_of rest)))
+  pub whole_is : pack_rows (rows_by_style fonts whole) ≡ appended_to (map layout_of boxes) (pack_rows (rows_by_style fonts (rows_of rest)))
   pub few : length boxes + rows_items (rows_of rest) ≤ rows_items whole
   pub size : rows_size (rows_of rest) ≤ rows_size whole
   pub nesting : rows_nesting (rows_of rest) ≤ rows_nesting whole
@@ -54,7 +54,7 @@ next_row fonts whole rest boxes list rest' h e = first_row list (rows_of rest') 
 pub next_size : (fonts : SetValue) (whole : Rows) (rest : List Sequence) (boxes : List BoxValue) (list : Sequence) (rest' : List Sequence) → RowsSoFar fonts whole rest boxes → rest ≡ list ∷ rest' → sequence_size list + 1 ≤ rows_size whole
 next_size fonts whole rest boxes list rest' h e = omega (arith, subst (λ r. rows_size (rows_of r) ≤ rows_size whole) e h.size)
 
-behind_cons : {A : Type 0} (there : List A) (x : A) (s : Setting (List A)) → behind there (s >>= (λ xs. Ok (x ∷ xs))) ≡ behind (there ++ x ∷ []) s
+behind_cons : {A : Type 0} (there : List A) (x : A) (s : Setting (List A)) → appended_to there (s >>= (λ xs. Ok (x ∷ xs))) ≡ appended_to (there ++ x ∷ []) s
 behind_cons there x (Ok xs) = ap (λ ys. Ok ys) (sym (append_assoc there (x ∷ []) xs))
 behind_cons there x (Err fault) = refl
 
@@ -78,10 +78,10 @@ rows_step fonts whole rest boxes new list rest' row b h e made packed level push
     record {
       whole_is =
           g.whole_is
-          ∙ list_made (λ s. behind (map layout_of boxes) s ≡ behind (map layout_of boxes) (pack_rows (rows_by_style fonts (rows_of rest')) >>= (λ bs. Ok (layout_of b ∷ bs)))) fonts list T row (packed_first fonts rest') made
-          (ap (λ s. behind (map layout_of boxes) (s >>= (λ box. pack_rows (rows_by_style fonts (rows_of rest')) >>= (λ bs. Ok (box ∷ bs))))) packed)
+          ∙ list_made (λ s. appended_to (map layout_of boxes) s ≡ appended_to (map layout_of boxes) (pack_rows (rows_by_style fonts (rows_of rest')) >>= (λ bs. Ok (layout_of b ∷ bs)))) fonts list T row (packed_first fonts rest') made
+          (ap (λ s. appended_to (map layout_of boxes) (s >>= (λ box. pack_rows (rows_by_style fonts (rows_of rest')) >>= (λ bs. Ok (box ∷ bs))))) packed)
           ∙ (behind_cons (map layout_of boxes) (layout_of b) (pack_rows (rows_by_style fonts (rows_of rest')))
-          ∙ ap (λ m. behind m (pack_rows (rows_by_style fonts (rows_of rest')))) (sym (boxes_more boxes new b pushed)));
+          ∙ ap (λ m. appended_to m (pack_rows (rows_by_style fonts (rows_of rest')))) (sym (boxes_more boxes new b pushed)));
       few = let f : length new ≡ length boxes + 1 = ap length pushed ∙ one_longer boxes b in omega (arith, f, g.few);
       size = omega (arith, g.size);
       nesting = omega (arith, g.nesting);

@@ -7,11 +7,11 @@ use Rattle.mt_convert.specs.declared.fault.SetFault.{SetFault}
 use Rattle.mt_convert.specs.Calls.{SetFails}
 
 -- what is made, behind what is there
-abbrev pub behind : {A : Type 0} → List A → Setting (List A) → Setting (List A)
-behind there setting = do
+abbrev pub appended_to : {A : Type 0} → List A → Setting (List A) → Setting (List A)
+appended_to there setting = do
   more ← setting
   Ok (there ++ more)
 
 abbrev pub AppendsPieces : {U : Type 0} → Result U SetFault → List Piece → List Piece → Setting (List PieceValue) → Type 0
-AppendsPieces (Ok u) old new setting = behind (piece_values old) setting ≡ Ok (piece_values new)
+AppendsPieces (Ok u) old new setting = appended_to (piece_values old) setting ≡ Ok (piece_values new)
 AppendsPieces (Err fault) old new setting = SetFails fault setting

@@ -432,10 +432,10 @@ pack_list-returns-clause-fits t c = if_ok_map c.box_nucleus.result _ (NucleusIsS
 -- ---- `set_operator`
 
 pub set_operator-returns-in-Sym-clause-is : goal.set_operator-returns-in-Sym-clause-is
-set_operator-returns-in-Sym-clause-is t c = subst (SetsOperator c.operator_box.result) (sym (symbol_operator_is c.args.fonts.now c.args.style (part_of_field c.args.field) c.in-Sym.symbol (ap part_of_field c.in-Sym.is))) c.operator_box.ensures.is
+set_operator-returns-in-Sym-clause-is t c = subst (SetsOperator c.symbol_operator.result) (sym (symbol_operator_is c.args.fonts.now c.args.style (part_of_field c.args.field) c.in-Sym.symbol (ap part_of_field c.in-Sym.is))) c.symbol_operator.ensures.is
 
 pub set_operator-returns-in-Sym-clause-level : goal.set_operator-returns-in-Sym-clause-level
-set_operator-returns-in-Sym-clause-level t c = if_ok_map c.operator_box.result _ (λ o. o.body.level ≤ 12 * part_nesting (part_of_field c.args.field) + 2) c.operator_box.ensures.level (λ o h. omega (arith, h))
+set_operator-returns-in-Sym-clause-level t c = if_ok_map c.symbol_operator.result _ (λ o. o.body.level ≤ 12 * part_nesting (part_of_field c.args.field) + 2) c.symbol_operator.ensures.level (λ o h. omega (arith, h))
 
 pub set_operator-clean_list-requires : goal.set_operator-clean_list-requires
 set_operator-clean_list-requires t c =
@@ -444,16 +444,16 @@ set_operator-clean_list-requires t c =
     (omega (arith, s, c.decreases), list_of_part (part_of_field c.args.field) c.in-List.list e c.requires.modest)
 
 pub set_operator-returns-in-List-clause-is : goal.set_operator-returns-in-List-clause-is
-set_operator-returns-in-List-clause-is t c = subst (SetsOperator c.box_operator.result) (sym (list_operator_is c.args.fonts.now c.args.style (part_of_field c.args.field) c.in-List.list (ap part_of_field c.in-List.is))) (c.box_operator.ensures.is (clean_list (list_content c.args.fonts.now c.in-List.list) c.args.style) c.clean_list.ensures.is)
+set_operator-returns-in-List-clause-is t c = subst (SetsOperator c.part_operator.result) (sym (list_operator_is c.args.fonts.now c.args.style (part_of_field c.args.field) c.in-List.list (ap part_of_field c.in-List.is))) (c.part_operator.ensures.is (clean_list (list_content c.args.fonts.now c.in-List.list) c.args.style) c.clean_list.ensures.is)
 
 pub set_operator-returns-in-List-clause-level : goal.set_operator-returns-in-List-clause-level
-set_operator-returns-in-List-clause-level t c = c.box_operator.ensures.level (12 * part_nesting (part_of_field c.args.field) + 2) (subst (λ p. IfOk c.clean_list.result (λ b. b.level ≤ 12 * part_nesting p + 2)) (sym (ap part_of_field c.in-List.is)) (if_ok_map c.clean_list.result _ (λ b. b.level ≤ 12 * list_nesting c.in-List.list + 2) c.clean_list.ensures.level (λ b h. omega (arith, h))))
+set_operator-returns-in-List-clause-level t c = c.part_operator.ensures.level (12 * part_nesting (part_of_field c.args.field) + 2) (subst (λ p. IfOk c.clean_list.result (λ b. b.level ≤ 12 * part_nesting p + 2)) (sym (ap part_of_field c.in-List.is)) (if_ok_map c.clean_list.result _ (λ b. b.level ≤ 12 * list_nesting c.in-List.list + 2) c.clean_list.ensures.level (λ b h. omega (arith, h))))
 
 pub set_operator-returns-clause-is : goal.set_operator-returns-clause-is
-set_operator-returns-clause-is t c = subst (SetsOperator c.box_operator-in-Empty.result) (sym (empty_operator_is c.args.fonts.now c.args.style (part_of_field c.args.field) (has_no_box c.args.field c.in-Empty.is))) (c.box_operator-in-Empty.ensures.is (Ok empty_layout) c.empty_box.ensures.is)
+set_operator-returns-clause-is t c = subst (SetsOperator c.part_operator-in-Empty.result) (sym (empty_operator_is c.args.fonts.now c.args.style (part_of_field c.args.field) (has_no_box c.args.field c.in-Empty.is))) (c.part_operator-in-Empty.ensures.is (Ok empty_layout) c.empty_box.ensures.is)
 
 pub set_operator-returns-clause-level : goal.set_operator-returns-clause-level
-set_operator-returns-clause-level t c = c.box_operator-in-Empty.ensures.level (12 * part_nesting (part_of_field c.args.field) + 2) (if_ok_map c.empty_box.result _ (λ b. b.level ≤ 12 * part_nesting (part_of_field c.args.field) + 2) c.empty_box.ensures.level (λ b h. omega (arith, h)))
+set_operator-returns-clause-level t c = c.part_operator-in-Empty.ensures.level (12 * part_nesting (part_of_field c.args.field) + 2) (if_ok_map c.empty_box.result _ (λ b. b.level ≤ 12 * part_nesting (part_of_field c.args.field) + 2) c.empty_box.ensures.level (λ b h. omega (arith, h)))
 
 -- ---- `set_scripts`
 

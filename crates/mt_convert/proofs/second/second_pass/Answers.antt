@@ -11,10 +11,10 @@ pub returns-clause-is : goal.returns-clause-is
 returns-clause-is c =
     let f : FitsSigned w64 c.half.inside.height = search rules in
     let g : FitsSigned w64 c.half.inside.depth = search rules in
-    subst (λ v. SetsRow c.join.result (second_pass_of c.args.fonts.now c.args.style (halves_value v))) c.half.view_is
-    (subst (SetsRow c.join.result)
+    subst (λ v. SetsRow c.join_rows.result (second_pass_of c.args.fonts.now c.args.style (halves_value v))) c.half.view_is
+    (subst (SetsRow c.join_rows.result)
     (second_is c.args.fonts.now c.args.style _ _ _ _ c.half.inside.height c.half.inside.depth (half_values c.half.inside.items) c.boundary_frame-frame.ensures.size c.boundary_frame-frame.ensures.wanted (kept_word c.half.inside.height f) (kept_word c.half.inside.depth g))
-    c.join.ensures.is)
+    c.join_rows.ensures.is)
 
 pub returns-clause-fits : goal.returns-clause-fits
-returns-clause-fits c = subst (λ v. IfOk c.join.result (λ row. (n : ℕ) → 2 ≤ n → HalvesFit n v.items → RowFits n row)) c.half.view_is c.join.ensures.fits
+returns-clause-fits c = subst (λ v. IfOk c.join_rows.result (λ row. (n : ℕ) → 2 ≤ n → HalvesFit n v.items → RowFits n row)) c.half.view_is c.join_rows.ensures.fits

@@ -3,7 +3,7 @@ use Rattle.std.specs.Prelude.{All}
 use Rattle.mt_reader.specs.documents.Weights.{HasModestLists}
 use Rattle.mt_rules.specs.declared.document.Formula.{Formula}
 use Rattle.mathset.proofs.PageLemmas.{all_of_pages}
-use Rattle.mathset.proofs.pages.document_pages.Goals as goal
+use Rattle.mathset.proofs.pages.pages_of_document.Goals as goal
 
 pub formulas_pages-requires : goal.formulas_pages-requires
 formulas_pages-requires c = record {

@@ -7,7 +7,7 @@ use Rattle.mt_convert.specs.Calls.{SetsRow}
 use Rattle.mt_convert.specs.Halfway.{HalvesFit, RowFits}
 use Rattle.mt_convert.proofs.Fitting.{if_ok_same}
 use Rattle.mt_convert.proofs.SecondPass.{so_far_start, so_far_step, so_far_err, so_far_end, finished, next_meets}
-use Rattle.mt_convert.proofs.second.join.Goals as goal
+use Rattle.mt_convert.proofs.second.join_rows.Goals as goal
 
 pub loop-item-init : goal.loop-item-init
 loop-item-init c = (tt, tt, so_far_start c.args.fonts.now c.args.frame.size c.args.frame.wanted.sp c.args.style c.args.items _ _ c.requires.meet c.requires.few c.requires.total (c.into_iter-item-iterator.ensures.into_iter_gives.0 ∙ c.into_vec-item-items.ensures) c.new-pieces.ensures.items)
