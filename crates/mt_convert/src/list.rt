@@ -330,7 +330,7 @@ fn set_nucleus(
     ensures fits { IfOk result (NucleusIsSmall (12 * part_nesting (part_of_field field) + 4)) }
 {
     match kind {
-        Kind::Plain(class) => { set_plain(alloc, fonts, style, class, role, field, has_subscript) }
+        Kind::Plain(class) => set_plain(alloc, fonts, style, class, role, field, has_subscript),
         Kind::Radical(sign) => part_nucleus(alloc, set_radical(alloc, fonts, style, sign, field)),
         Kind::Accent(accent) => {
             part_nucleus(alloc, set_accent(alloc, fonts, style, accent, field))

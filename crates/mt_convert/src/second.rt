@@ -24,7 +24,8 @@ use std::alloc::Global;
 /// of its items side by side, with the spaces between atoms, and the boundaries at the two ends (The
 /// TeXbook, Appendix G, rules 19 and 20; tex.web, sections 760 to 767).
 ///
-/// The row has at most 2^21 pieces.
+/// The row has at most 2^21 pieces. Each number in it is at most 2^40 in size, and its boxes have a
+/// level of at most 2^16: the greatest in the items, or 2 where that is less.
 ///
 /// # Errors
 ///
@@ -39,6 +40,7 @@ pub fn second_pass(
 ) -> Result<Row, SetFault>
     ensures is { SetsRow result (second_pass_of fonts.now style (halves_value half)) }
     ensures few { IfOk result (λ row. length row ≤ 2 ^ 21) }
+    ensures bounded { IfOk result (RowFits (2 ^ 16)) }
     ensures fits { IfOk result (λ row. (n : ℕ) → 2 ≤ n → HalvesFit n half.items → RowFits n row) }
 {
     let height = Length { sp: half.height };

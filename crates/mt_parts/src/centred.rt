@@ -1,6 +1,6 @@
 //! Rows one below another, centred on the axis (The TeXbook, Appendix G, rule 8; tex.web §736),
 //! with the gaps between lines (plain TeX's \baselineskip and \lineskip).
-ghost use Rattle.std.specs.Prelude.{◌≡◌, ◌≤◌, ◌^◌, ◌+◌, ◌+ℤ◌, ◌++◌, ◌∷◌, [], None, Some, All, int_lt, length, map, pos, IfOk, OnOk};
+ghost use Rattle.std.specs.Prelude.{◌≡◌, ◌≤◌, ◌^◌, ◌+◌, ◌+ℤ◌, ◌++◌, ◌∷◌, [], None, Some, All, length, map, pos, IfOk, OnOk};
 ghost use Rattle.std.specs.Option.{ForSome};
 ghost use Rattle.mt_scaled.specs.Number.{Within, half_of, max_dimen};
 ghost use Rattle.mt_box.specs.declared.entry.Entry.TheVariants.{Boxed, Kern};
@@ -9,20 +9,15 @@ ghost use Rattle.mt_box.specs.Columns.{entry_values, column_level, column_width,
 ghost use Rattle.mt_box.specs.Extents.{ExtentsInRange};
 ghost use Rattle.mt_rules.specs.Calls.{PartAnswers};
 ghost use Rattle.mt_rules.specs.Parameters as parameters;
-ghost use Rattle.mt_rules.specs.Vcenter.{line_gap as gap_of_lines, lines_total, vcenter};
+ghost use Rattle.mt_rules.specs.Vcenter.{lines_total, vcenter};
 ghost use Rattle.mt_parts.specs.LineColumns.{boxes_level, depth_value, gap_before, line_entries};
 
 use mt_box::{Column, Entry, Extents, Packed, vpack};
 use mt_family::{FontSet, Size};
 use mt_rules::parameters::axis_height;
-use mt_rules::{PackedList, PartError, part_answer};
+use mt_rules::{PackedList, PartError, line_gap, part_answer};
 use mt_scaled::{Length, half, in_range};
 use std::alloc::{AllocError, Global};
-
-// How far baselines are apart: 12pt (plain TeX's \baselineskip).
-const BASELINE_SKIP: Length = Length { sp: 786432 };
-// The gap where it would be negative: 1pt (plain TeX's \lineskip, with a \lineskiplimit of 0pt).
-const LINE_SKIP: Length = Length { sp: 65536 };
 
 // Lines in a column, and how far it reaches from its top to its bottom.
 #[derive(Drop)]
@@ -145,25 +140,6 @@ impl LinesSoFar {
             depth: Some(Length { sp: line.depth }),
         }
     }
-}
-
-// From the bottom of a line to the top of the next one.
-#[tactic(auto, using(std::proofs::lemmas::Int::ints))]
-fn line_gap(depth: Length, height: Length) -> Length
-    requires depth { Within max_dimen depth.sp }
-    requires height { Within max_dimen height.sp }
-    ensures is { result.sp ≡ gap_of_lines depth.sp height.sp }
-    ensures small { Within (2 ^ 32) result.sp }
-{
-    let gap = BASELINE_SKIP.minus(depth).minus(height);
-    if is_negative(gap) { LINE_SKIP } else { gap }
-}
-
-#[tactic(auto, using(std::proofs::lemmas::Int::ints))]
-fn is_negative(length: Length) -> bool
-    ensures { result ≡ int_lt length.sp (pos 0) }
-{
-    length.sp < 0
 }
 
 fn push_line(entries: &mut Vec<Entry>, gap: Length, row: Packed) -> Result<(), AllocError>

@@ -531,7 +531,8 @@ fn role_action<'a>(
     }
 }
 
-/// What stands in front does in a list, and the tokens after what was read of it.
+/// What the token in front does in a list, and the tokens after those that were read for it. It is
+/// `Stop`, and no token is read, where no item begins or none is left.
 pub fn action_here<'a>(
     codes: &Codes,
     units: Units,

@@ -56,7 +56,6 @@ pub use documents::read_document;
 pub use formula::read_formula;
 pub use outside_cause::OutsideCause;
 pub use read_error::ReadError;
-pub use role::{Amount, Bar, NucleusKind, Role, Side, Simple, role_of};
 
 #[cfg(test)]
 mod document_tests;

@@ -6,6 +6,7 @@
 
 mod class;
 mod document;
+mod gap;
 mod kind;
 mod list;
 mod packed_list;
@@ -20,6 +21,7 @@ mod tests;
 
 pub use class::Class;
 pub use document::{Document, Formula, Page, Tag};
+pub use gap::line_gap;
 pub use kind::{Kind, Limits};
 pub use list::{Atom, Choice, Field, Fraction, Item, MathList, RowList};
 pub use packed_list::PackedList;

@@ -1,0 +1,32 @@
+//! The gap between two lines (plain TeX's \baselineskip, \lineskip and \lineskiplimit).
+ghost use Rattle.std.specs.Prelude.{◌≡◌, ◌^◌, int_lt, pos};
+ghost use Rattle.mt_scaled.specs.Number.{Within, max_dimen};
+ghost use Rattle.mt_rules.specs.Vcenter.{line_gap as gap_of_lines};
+
+use mt_scaled::Length;
+
+// How far baselines are apart: 12pt (plain TeX's \baselineskip).
+const BASELINE_SKIP: Length = Length { sp: 786432 };
+// The gap where it would be negative: 1pt (plain TeX's \lineskip, with a \lineskiplimit of 0pt).
+const LINE_SKIP: Length = Length { sp: 65536 };
+
+/// The gap from the bottom of a line of this depth to the top of the next one, of this height, in
+/// scaled points. Baselines are 12pt apart: the gap is 12pt less the depth and the height. Where
+/// that would be negative, it is 1pt (The TeXbook, chapter 12; tex.web, section 679).
+#[tactic(auto, using(std::proofs::lemmas::Int::ints))]
+pub fn line_gap(depth: Length, height: Length) -> Length
+    requires depth { Within max_dimen depth.sp }
+    requires height { Within max_dimen height.sp }
+    ensures is { result.sp ≡ gap_of_lines depth.sp height.sp }
+    ensures small { Within (2 ^ 32) result.sp }
+{
+    let gap = BASELINE_SKIP.minus(depth).minus(height);
+    if is_negative(gap) { LINE_SKIP } else { gap }
+}
+
+#[tactic(auto, using(std::proofs::lemmas::Int::ints))]
+fn is_negative(length: Length) -> bool
+    ensures { result ≡ int_lt length.sp (pos 0) }
+{
+    length.sp < 0
+}
