@@ -1,16 +1,15 @@
 -- Lines put on a page, one after another.
-use Rattle.std.proofs.Common.{◌≡◌, ℕ, zero, suc, ◌<◌, ◌≤◌, ◌+◌, ◌-◌, ◌*◌, ◌^◌, ℤ, ◌+ℤ◌, List, [], ◌∷◌, ◌++◌, length, length-append, append_assoc, refl, sym, ◌∙◌, ap, subst, arith, Bool, true, false, w64, to_z, of_z}
+use Rattle.std.proofs.Common.{◌≡◌, ℕ, ◌<◌, ◌≤◌, ◌+◌, ◌-◌, ◌*◌, ◌^◌, ℤ, ◌+ℤ◌, List, [], ◌∷◌, ◌++◌, length, length-append, append_assoc, refl, sym, ◌∙◌, ap, subst, arith, w64, to_z, of_z}
 use Rattle.std.proofs.lemmas.Int.{ints}
 use Rattle.std.proofs.lemmas.List.Elements.{All-head, All-tail}
-use Rattle.std.specs.Prelude.{if◌then◌else◌, flat_map, IfSome, All, Option, Some, None, Result, Ok, Err}
-use Rattle.mt_scaled.specs.Number.{Within, is_in_range, max_dimen}
-use Rattle.mt_box.specs.Places.{h_of, v_of}
+use Rattle.std.specs.Prelude.{flat_map, IfSome, All, Option, Some, None, Result, Ok, Err}
+use Rattle.mt_scaled.specs.Number.{Within, max_dimen}
 use Rattle.mt_box.specs.declared.extents.Extents.{Extents}
 use Rattle.mt_box.specs.declared.place.Place.{Place}
 use Rattle.mt_box.specs.declared.error.PlaceError.{PlaceError}
-use Rattle.mt_box.specs.declared.error.PlaceError.TheVariants.{OutOfRange as PlaceOutOfRange, TooMany as TooManyPlaces}
-use Rattle.mt_box.specs.Placing.{Placed, place_fault, first_place_fault, or_else}
+use Rattle.mt_box.specs.Placing.{Placed, first_place_fault}
 use Rattle.mt_box.proofs.Lists.{nil_right}
+use Rattle.mt_box.proofs.Room.{fits_room}
 use Rattle.mt_display.specs.declared.error.StackError.{StackError}
 use Rattle.mt_display.specs.declared.error.StackError.TheVariants.{OutOfRange, TooMany, OutOfMemory}
 use Rattle.mt_display.specs.declared.line.Line.{Line as LineFields}
@@ -115,26 +114,6 @@ fewer room lines rest rest' q page here h e =
     omega (arith, h'.count, h'.few)
 
 -- ---- one line
-
-faults_none : (o p : Option PlaceError) → or_else o p ≡ None → (o ≡ None) × (p ≡ None)
-faults_none None p e = (refl, e)
-faults_none (Some f) p e = absurd (cc)
-
-full : (f g : PlaceError) (a b : Bool) → (if a then (if b then Some TooManyPlaces else Some f) else Some g) ≡ None → ⊥
-full f g true true e = absurd (cc)
-full f g true false e = absurd (cc)
-full f g false b e = absurd (cc)
-
-fault_full : (p : Place) → place_fault zero p ≡ None → ⊥
-fault_full p e = full (PlaceOutOfRange (v_of p)) (PlaceOutOfRange (h_of p)) (is_in_range (h_of p)) (is_in_range (v_of p)) e
-
--- places without a fault are no more than there is room for
-pub fits_room : (room : ℕ) (ps : List Place) → first_place_fault room ps ≡ None → length ps ≤ room
-fits_room room [] none = omega arith
-fits_room zero (p ∷ ps) none = absurd (fault_full p (faults_none (place_fault zero p) (first_place_fault (zero - 1) ps) none).0)
-fits_room (suc room) (p ∷ ps) none =
-    let rest = fits_room (suc room - 1) ps (faults_none (place_fault (suc room) p) (first_place_fault (suc room - 1) ps) none).1 in
-    omega (arith, rest)
 
 -- the places of a line are put behind the others
 pub added_ok : (room left : ℕ) (here next : NextLine) (before now places : List Place) (l : LineValue) (base : ℤ) (x : Extents) → left ≡ room - length before → Placed left (line_places base l) (Ok places)

@@ -1,2 +1,4 @@
 -- what the lines so far leave, and what one more line adds
 pub mod NextLines
+-- the widths of a display as the code has them
+pub mod Fits

@@ -1,6 +1,6 @@
-//! Lines of a page.
+//! Lines of a page, and the numbers of displays.
 
-use mt_box::Packed;
+use mt_box::{Packed, Row};
 use mt_scaled::Items;
 
 /// A box on a line of its own. Its left end stands at `shift`, in scaled points.
@@ -14,3 +14,12 @@ pub struct Line {
 
 /// Lines, from the top of a page downward.
 pub type Lines = Items<Line>;
+
+/// The number of a display.
+#[derive(Drop)]
+pub struct Numbered {
+    /// The row of the number, set in text style.
+    pub row: Row,
+    /// Whether it stands at the left (`\leqno`), and not at the right (`\eqno`).
+    pub left: bool,
+}

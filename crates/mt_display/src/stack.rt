@@ -1,9 +1,8 @@
 //! Lines one below another on a page.
-ghost use Rattle.std.specs.Prelude.{◌≡◌, ◌≤◌, ◌<◌, ◌+ℤ◌, ◌*◌, ◌^◌, length, ℕ, All, IfSome, OnOk, Some, ◌-◌, ◌+◌, ◌++◌, pos, int_lt};
+ghost use Rattle.std.specs.Prelude.{◌≡◌, ◌≤◌, ◌<◌, ◌+ℤ◌, ◌*◌, ◌^◌, length, ℕ, All, IfSome, OnOk, Some, ◌-◌, ◌+◌, ◌++◌};
 ghost use Rattle.mt_scaled.specs.Number.{Within, max_dimen};
 ghost use Rattle.mt_box.specs.Extents.{ExtentsInRange};
 ghost use Rattle.mt_box.specs.Placing.{Placed};
-ghost use Rattle.mt_rules.specs.Vcenter.{line_gap as gap_of_lines};
 ghost use Rattle.mt_display.specs.Lines.{line_value, line_values};
 ghost use Rattle.mt_display.specs.Stack.{fault_in_line as fault_of_line, line_places, top_below as top_of_line, stacked_lines, StackAnswers};
 ghost use Rattle.mt_display.specs.inner.NextLines.{above_value, IsNear, AddsLine};
@@ -11,13 +10,9 @@ ghost use Rattle.mt_display.specs.declared.line.Line.{Line as LineFields};
 
 use crate::{Line, Lines, StackError};
 use mt_box::{Extents, Place, PlaceError, PlaceList, places};
+use mt_rules::line_gap;
 use mt_scaled::{Items, Length};
 use std::alloc::{AllocError, Global};
-
-// How far baselines are apart: 12pt (plain TeX's \baselineskip).
-const BASELINE_SKIP: Length = Length { sp: 786432 };
-// The gap where it would be negative: 1pt (plain TeX's \lineskip, with a \lineskiplimit of 0pt).
-const LINE_SKIP: Length = Length { sp: 65536 };
 
 // The line above another: where its bottom is, and how deep it is.
 #[derive(Clone, Copy)]
@@ -143,25 +138,6 @@ fn top_below(above: Option<LineAbove>, height: Length) -> Length
         None => Length { sp: 0 },
         Some(above) => above.bottom.plus(line_gap(above.depth, height)),
     }
-}
-
-// From the bottom of a line of this depth to the top of the next one, of this height.
-#[tactic(auto, using(std::proofs::lemmas::Int::ints))]
-fn line_gap(depth: Length, height: Length) -> Length
-    requires depth { Within max_dimen depth.sp }
-    requires height { Within max_dimen height.sp }
-    ensures is { result.sp ≡ gap_of_lines depth.sp height.sp }
-    ensures small { Within (2 ^ 32) result.sp }
-{
-    let gap = BASELINE_SKIP.minus(depth).minus(height);
-    if is_negative(gap) { LINE_SKIP } else { gap }
-}
-
-#[tactic(auto, using(std::proofs::lemmas::Int::ints))]
-fn is_negative(length: Length) -> bool
-    ensures { result ≡ int_lt length.sp (pos 0) }
-{
-    length.sp < 0
 }
 
 // The line after this one, whose reference point is at v.

@@ -1,13 +1,19 @@
 //! Lines of letters, reckoned by hand.
-ghost use Rattle.std.specs.Prelude.{◌≡◌, ◌≤◌, ◌^◌, All, IfOk, length, pos};
-ghost use Rattle.mt_scaled.specs.Number.{Within};
-ghost use Rattle.mt_box.specs.declared.piece.Piece.TheVariants.{Glyph as GlyphPiece};
+ghost use Rattle.std.specs.Prelude.{◌≡◌, ◌≤◌, ◌≤ℤ◌, ◌^◌, All, IfOk, length, pos};
+ghost use Rattle.mt_scaled.specs.Number.{Within, max_dimen};
+ghost use Rattle.mt_box.specs.Rows.{AllModest, row_level};
+ghost use Rattle.mt_box.specs.declared.piece.Piece.TheVariants.{Glyph as GlyphPiece, Space};
+ghost use Rattle.mt_family.specs.ListFacts.{IsFontLine};
+ghost use Rattle.mt_family.specs.SetValue.{AreLoaded};
 ghost use Rattle.mt_display.specs.declared.line.Line.{Line as LineFields};
 
-use crate::{Line, Lines, StackError, place_inline, stack_lines};
-use mt_box::{Extents, PackError, Piece, Place, Row, glyph_box};
+use crate::{Line, Lines, Numbered, StackError, place_display, place_inline, stack_lines};
+use mt_box::{Extents, PackError, Piece, Place, PlaceList, Row, glyph_box};
+use mt_family::{FontLine, FontSet, Fonts, read_font_list};
 use mt_scaled::Items;
+use mt_tfm::read_tfm;
 use std::alloc::{AllocError, Global};
+use std::process::Abort;
 
 const LETTER: Extents = Extents {
     width: 327680,
@@ -81,6 +87,109 @@ fn wide(alloc: Global) -> Result<Lines, PackError> {
 #[test]
 fn refuses_a_wide_formula(rt: HostRuntime) {
     assert!(rt; matches!(wide(rt.alloc()), Err(PackError::Overflow(1073741824))));
+}
+
+const LIST: &[u8] = b"mathset fonts 1
+font quad 655360 -
+family 2 0 0 0
+family 3 0 0 0
+";
+
+// One character and 22 parameters, all 0 but the sixth: at 10pt the quad is 655360sp.
+const FONT: [u8; 148] = [
+    0, 37, 0, 2, 0, 97, 0, 97, 0, 2, 0, 2, 0, 1, 0, 1, 0, 0, 0, 0, 0, 0, 0, 22, 0, 0, 0, 0, 0, 160,
+    0, 0, 1, 16, 0, 0, 0, 0, 0, 0, 0, 8, 0, 0, 0, 0, 0, 0, 0, 8, 0, 0, 0, 0, 0, 0, 0, 0, 0, 0, 0,
+    0, 0, 0, 0, 0, 0, 0, 0, 0, 0, 0, 0, 0, 0, 0, 0, 0, 0, 0, 0, 16, 0, 0, 0, 0, 0, 0, 0, 0, 0, 0,
+    0, 0, 0, 0, 0, 0, 0, 0, 0, 0, 0, 0, 0, 0, 0, 0, 0, 0, 0, 0, 0, 0, 0, 0, 0, 0, 0, 0, 0, 0, 0, 0,
+    0, 0, 0, 0, 0, 0, 0, 0, 0, 0, 0, 0, 0, 0, 0, 0, 0, 0, 0, 0, 0, 0, 0, 0,
+];
+
+fn load(rt: &impl Abort, alloc: Global, lines: &[FontLine]) -> Result<Fonts, AllocError>
+    requires { All IsFontLine lines.now }
+    ensures { IfOk result (λ fonts. AreLoaded lines.now fonts) }
+{
+    let mut fonts = Vec::new(alloc);
+    for line in lines {
+        let font = read_tfm(alloc, &FONT, line.at, line.skew).expect(rt, "a font");
+        fonts.push(font)?;
+    }
+    Ok(Fonts::from_vec(fonts))
+}
+
+fn fonts_with_quad(rt: &impl Abort, alloc: Global) -> Result<FontSet, AllocError> {
+    let list = read_font_list(alloc, LIST).expect(rt, "a font list");
+    let fonts = load(rt, alloc, list.lines.as_slice())?;
+    Ok(FontSet::build(alloc, list, fonts).expect(rt, "a set of fonts"))
+}
+
+fn space() -> Piece
+    ensures { result ≡ Space (pos 145632) (pos 145632) }
+{
+    Piece::Space {
+        width: 145632,
+        shrink: 145632,
+    }
+}
+
+// Three letters with two spaces, 1274304sp wide.
+fn spaced_letters(alloc: Global) -> Result<Row, AllocError>
+    ensures few { IfOk result (λ row. length row ≤ 2 ^ 21) }
+    ensures modest { IfOk result AllModest }
+    ensures level { IfOk result (λ row. row_level row ≡ 1) }
+{
+    let pieces = vec![in alloc; letter(97), space(), letter(43), space(), letter(98)]?;
+    Ok(Row::from_vec(pieces))
+}
+
+// Three letters, 983040sp wide.
+fn letters(alloc: Global) -> Result<Row, AllocError>
+    ensures few { IfOk result (λ row. length row ≤ 2 ^ 21) }
+    ensures modest { IfOk result AllModest }
+    ensures level { IfOk result (λ row. row_level row ≡ 1) }
+{
+    Ok(Row::from_vec(vec![in alloc; letter(40), letter(49), letter(41)]?))
+}
+
+// A display with its number at the right, on a page of lines of this width.
+fn numbered_page(rt: &impl Abort, alloc: Global, line: i64) -> Result<PlaceList, AllocError>
+    requires some { pos 1 ≤ℤ line }
+    requires in_range { line ≤ℤ pos max_dimen }
+{
+    let fonts = fonts_with_quad(rt, alloc)?;
+    let row = spaced_letters(alloc)?;
+    let number = Numbered {
+        row: letters(alloc)?,
+        left: false,
+    };
+    let lines = place_display(alloc, &fonts, row, Some(number), line).expect(rt, "memory");
+    Ok(stack_lines(alloc, &lines, 6).expect(rt, "memory"))
+}
+
+#[test]
+fn places_a_display(rt: HostRuntime) -> Result<(), AllocError> {
+    // all spaces shrink whole, and the number is beside the display
+    let page = numbered_page(&rt, rt.alloc(), 2621440)?;
+    let want = [
+        glyph(97, 327680, 327680),
+        glyph(43, 655360, 327680),
+        glyph(98, 983040, 327680),
+        glyph(40, 1638400, 327680),
+        glyph(49, 1966080, 327680),
+        glyph(41, 2293760, 327680),
+    ];
+    assert!(rt; page.as_slice() == want.as_slice());
+    // 1sp less, and the number is below it
+    let page = numbered_page(&rt, rt.alloc(), 2621439)?;
+    let want = [
+        glyph(97, 673568, 327680),
+        glyph(43, 1146880, 327680),
+        glyph(98, 1620192, 327680),
+        glyph(40, 1638399, 1114112),
+        glyph(49, 1966079, 1114112),
+        glyph(41, 2293759, 1114112),
+    ];
+    assert!(rt; page.as_slice() == want.as_slice());
+    Ok(())
 }
 
 fn line(alloc: Global, shift: i64, code: u8, extents: Extents) -> Result<Line, PackError>

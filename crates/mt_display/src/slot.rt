@@ -1,0 +1,91 @@
+//! Where a display stands in its line, and what that leaves (tex.web §1202 to §1204).
+ghost use Rattle.std.specs.Prelude.{◌≡◌, ◌^◌, ◌+◌, ◌-ℤ◌, ◌*ℤ◌, pos, ℕ};
+ghost use Rattle.mt_scaled.specs.Number.{Within, half_of};
+ghost use Rattle.mt_display.specs.Displays.{indent as indent_of, room_between as room_of};
+ghost use Rattle.mt_display.specs.inner.Fits.{IsSmallSlot};
+
+use crate::fit::is_less;
+use mt_box::Packed;
+use mt_scaled::{Length, half};
+
+// The line's width z, the width e of the number beside the display or 0, and whether the display
+// begins with a space.
+#[derive(Clone, Copy)]
+pub(crate) struct Slot {
+    pub(crate) z: Length,
+    pub(crate) e: Length,
+    pub(crate) flush: bool,
+}
+
+// How far from the left end of the line a display stands.
+pub(crate) fn indent(slot: Slot, display: &Packed) -> Length
+    requires { IsSmallSlot slot }
+    ensures is { result.sp ≡ indent_of slot.flush slot.z.sp display.now.extents.width slot.e.sp }
+    ensures small { Within (2 ^ 33) result.sp }
+{
+    let free = gap(slot.z, width_of(display));
+    let middle = half_length(free);
+    if slot.e.is_positive() && is_less(middle, twice(slot.e)) {
+        if slot.flush {
+            Length { sp: 0 }
+        } else {
+            half_length(gap(free, slot.e))
+        }
+    } else {
+        middle
+    }
+}
+
+// What is left of the line between display and number.
+pub(crate) fn room_between(slot: Slot, display: &Packed, d: Length) -> Length
+    requires slot { IsSmallSlot slot }
+    requires d { Within (2 ^ 33) d.sp }
+    ensures is { result.sp ≡ room_of slot.z.sp display.now.extents.width slot.e.sp d.sp }
+    ensures small { Within (2 ^ 40) result.sp }
+{
+    gap(gap(gap(slot.z, width_of(display)), slot.e), d)
+}
+
+// Where the left end of a number stands that is below a display, against the right end of the line.
+pub(crate) fn right_end(z: Length, number: &Packed) -> Length
+    requires { Within (2 ^ 30) z.sp }
+    ensures is { result.sp ≡ z.sp -ℤ number.now.extents.width }
+    ensures small { Within (2 ^ 40) result.sp }
+{
+    gap(z, width_of(number))
+}
+
+fn width_of(body: &Packed) -> Length
+    ensures is { result.sp ≡ body.now.extents.width }
+    ensures in_range { Within (2 ^ 30) result.sp }
+{
+    Length {
+        sp: body.extents().width,
+    }
+}
+
+#[tactic(auto, using(std::proofs::lemmas::Int::ints))]
+fn gap(a: Length, b: Length) -> Length
+    requires a { Within (2 ^ 34) a.sp }
+    requires b { Within (2 ^ 34) b.sp }
+    ensures is { result.sp ≡ a.sp -ℤ b.sp }
+    ensures small { (n : ℕ) → (m : ℕ) → Within n a.sp → Within m b.sp → Within (n + m) result.sp }
+{
+    Length { sp: a.sp - b.sp }
+}
+
+#[tactic(auto, using(std::proofs::lemmas::Int::ints))]
+fn twice(a: Length) -> Length
+    requires { Within (2 ^ 34) a.sp }
+    ensures { result.sp ≡ pos 2 *ℤ a.sp }
+{
+    Length { sp: 2 * a.sp }
+}
+
+fn half_length(a: Length) -> Length
+    requires { Within (2 ^ 35) a.sp }
+    ensures is { result.sp ≡ half_of a.sp }
+    ensures small { (n : ℕ) → Within n a.sp → Within n result.sp }
+{
+    Length { sp: half(a.sp) }
+}
