@@ -1,5 +1,6 @@
 //! The bytes of the example fonts.
-ghost use Rattle.std.specs.Prelude.{IfOk};
+ghost use Rattle.std.specs.Prelude.{◌≡◌, IfOk};
+ghost use Rattle.mt_samples.specs.Bytes.{roman_bytes, italic_bytes, symbols_bytes, extension_bytes};
 ghost use Rattle.mt_samples.specs.Tables.{ReadsAs, roman, italic, symbols, extension};
 
 use mt_scaled::Bytes;
@@ -101,28 +102,32 @@ static EXTENSION: [u8; 668] = [
 
 /// The TFM file of toyr.
 pub fn roman_font(alloc: Global) -> Result<Bytes, AllocError>
-    ensures { IfOk result (λ bytes. ReadsAs bytes roman) }
+    ensures reads { IfOk result (λ bytes. ReadsAs bytes roman) }
+    ensures is { IfOk result (λ bytes. bytes ≡ roman_bytes) }
 {
     Ok(Bytes::from_vec(Vec::from_slice(alloc, &ROMAN)?))
 }
 
 /// The TFM file of toym.
 pub fn italic_font(alloc: Global) -> Result<Bytes, AllocError>
-    ensures { IfOk result (λ bytes. ReadsAs bytes italic) }
+    ensures reads { IfOk result (λ bytes. ReadsAs bytes italic) }
+    ensures is { IfOk result (λ bytes. bytes ≡ italic_bytes) }
 {
     Ok(Bytes::from_vec(Vec::from_slice(alloc, &ITALIC)?))
 }
 
 /// The TFM file of toys.
 pub fn symbols_font(alloc: Global) -> Result<Bytes, AllocError>
-    ensures { IfOk result (λ bytes. ReadsAs bytes symbols) }
+    ensures reads { IfOk result (λ bytes. ReadsAs bytes symbols) }
+    ensures is { IfOk result (λ bytes. bytes ≡ symbols_bytes) }
 {
     Ok(Bytes::from_vec(Vec::from_slice(alloc, &SYMBOLS)?))
 }
 
 /// The TFM file of toyx.
 pub fn extension_font(alloc: Global) -> Result<Bytes, AllocError>
-    ensures { IfOk result (λ bytes. ReadsAs bytes extension) }
+    ensures reads { IfOk result (λ bytes. ReadsAs bytes extension) }
+    ensures is { IfOk result (λ bytes. bytes ≡ extension_bytes) }
 {
     Ok(Bytes::from_vec(Vec::from_slice(alloc, &EXTENSION)?))
 }

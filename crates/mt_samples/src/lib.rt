@@ -1,18 +1,21 @@
-//! Sample input: four small fonts, with the parameters and the characters that math needs, and a font
-//! list that names them.
+//! Sample input: four small fonts, with the parameters and the characters that math needs, a font list
+//! that names them, and sources of formulas, made from a seed.
 #![tactic(auto)]
 
 ghost use Rattle.std.specs.Prelude.{◌≡◌, ◌≤◌, IfOk, Ok, length};
-ghost use Rattle.mt_samples.specs.Which.{toy_table};
+ghost use Rattle.mt_samples.specs.Bytes.{toy_list_bytes};
+ghost use Rattle.mt_samples.specs.Which.{toy_bytes, toy_table};
 ghost use Rattle.mt_family.specs.Lists.{font_list};
 ghost use Rattle.mt_samples.specs.Lists.{toy_list};
 ghost use Rattle.mt_samples.specs.Tables.{ReadsAs};
 
 mod fonts;
+mod generator;
 #[cfg(test)]
 mod tests;
 
 use fonts::{extension_font, italic_font, roman_font, symbols_font};
+pub use generator::generate;
 use mt_scaled::Bytes;
 use std::alloc::{AllocError, Global};
 
@@ -54,7 +57,8 @@ pub enum Toy {
 ///
 /// Only where there is no memory left.
 pub fn toy_tfm(alloc: Global, which: Toy) -> Result<Bytes, AllocError>
-    ensures { IfOk result (λ bytes. ReadsAs bytes (toy_table which)) }
+    ensures reads { IfOk result (λ bytes. ReadsAs bytes (toy_table which)) }
+    ensures is { IfOk result (λ bytes. bytes ≡ toy_bytes which) }
 {
     match which {
         Toy::Roman => roman_font(alloc),
@@ -72,6 +76,7 @@ pub fn toy_tfm(alloc: Global, which: Toy) -> Result<Bytes, AllocError>
 /// Only where there is no memory left.
 pub fn toy_list(alloc: Global) -> Result<Bytes, AllocError>
     ensures reads { IfOk result (λ bytes. font_list bytes ≡ Ok toy_list) }
+    ensures is { IfOk result (λ bytes. bytes ≡ toy_list_bytes) }
     ensures short { IfOk result (λ bytes. length bytes ≤ 65536) }
 {
     Ok(Bytes::from_vec(Vec::from_slice(alloc, LIST.as_bytes())?))

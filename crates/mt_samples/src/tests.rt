@@ -42,3 +42,38 @@ fn the_toy_list_has_ten_fonts(rt: HostRuntime) -> Result<(), Fail> {
     assert_eq!(rt; (list.lines.len(), list.families.len()), (10, 4));
     Ok(())
 }
+
+// The expected bytes were made by a program in another language, from the rule in docs/FORMATS.md.
+#[test]
+fn sources_are_those_of_their_seeds(rt: HostRuntime) -> Result<(), Fail> {
+    let alloc = rt.alloc();
+    assert_eq!(rt; generate(alloc, 0, 0)?.as_slice(), b"".as_slice());
+    assert_eq!(rt;
+        generate(alloc, 1, 1)?.as_slice(),
+        b"$\\hat d^2\\mathchoice{m}{s}{k}{d}$\n".as_slice()
+    );
+    let source = generate(alloc, 0, 3)?;
+    assert_eq!(rt;
+        source.as_slice(),
+        b"$$\\sum_m^p{y\\over b+v}$$\n$\\hat t^2\\mathchoice{c}{b}{x}{g}$\n$$\\sum_h^y{y\\over r+m}$$\n".as_slice()
+    );
+    Ok(())
+}
+
+#[test]
+fn every_20th_formula_ends_its_page(rt: HostRuntime) -> Result<(), Fail> {
+    let source = generate(rt.alloc(), 7, 100)?;
+    assert_eq!(rt; source.len(), 2488);
+    assert_eq!(rt;
+        source.as_slice().ends_with(b"$y_k^2-g_d^3$\n\\eject\n"),
+        true
+    );
+    Ok(())
+}
+
+#[test]
+fn the_longest_source_fits_a_file(rt: HostRuntime) -> Result<(), Fail> {
+    let source = generate(rt.alloc(), 1, 20000)?;
+    assert_eq!(rt; source.len(), 489646);
+    Ok(())
+}
