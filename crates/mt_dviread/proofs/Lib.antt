@@ -1,0 +1,16 @@
+-- numbers in bytes
+pub mod Numbers
+-- what is left of a file gives the answer
+pub mod Walk
+-- the machine's registers
+pub mod MachineLemmas
+-- what is kept of a file after an operation
+pub mod OpenFiles
+-- the turns of the loop
+pub mod Turns
+-- how many operands an opcode has
+pub mod Sizes
+-- which opcodes are which operations
+pub mod Decoded
+-- one definition of a font more
+pub mod DefinedLemmas

@@ -1,0 +1,4 @@
+-- the faults that errors tell
+pub mod Faults
+-- of the reader's inner functions: only their contracts cite it
+pub mod inner

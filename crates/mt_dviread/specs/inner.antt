@@ -1,0 +1,10 @@
+-- which coordinates a page has
+pub mod Reach
+-- what the reader keeps of an operation
+pub mod Operations
+-- what it keeps of the fonts that a file defines
+pub mod Defined
+-- what its machine does
+pub mod Performs
+-- what it keeps of a file, and what an operation does to that
+pub mod Sees

@@ -1,0 +1,93 @@
+//! Why a file is refused.
+ghost use Rattle.std.specs.Prelude.{◌≡◌, IfSome, option_map};
+ghost use Rattle.mt_dvi.specs.File.{Fault};
+ghost use Rattle.mt_dviread.specs.Faults.{fault_of, number_of};
+
+use thiserror::Error;
+
+/// Why a DVI file is refused: its first fault, with the offset of the opcode at fault.
+///
+/// Where an opcode has several faults, the first of them in this order is told.
+#[derive(Clone, Copy, Debug, PartialEq, Eq, Error)]
+pub enum DviError {
+    /// The file ends inside the operation, or before it, or before the fourth byte after post_post.
+    #[error("byte {0}: the file ends too soon")]
+    Truncated(u64),
+    /// The opcode cannot stand there.
+    #[error("byte {0}: this opcode cannot stand here")]
+    BadOpcode(u64),
+    /// The file does not begin with a good pre; the offset is 0.
+    #[error("byte {0}: no preamble of a DVI file in scaled points")]
+    BadPreamble(u64),
+    /// The pointer of a bop is not the offset of the bop before, or -1 at the first one.
+    #[error("byte {0}: a wrong pointer to the page before")]
+    BadPointer(u64),
+    /// At post: its pointer, its units, its number of pages or its depth of the stack is wrong. At
+    /// post_post: its offset or its identifier is wrong, or a byte after it is not 223.
+    #[error("byte {0}: a wrong postamble")]
+    BadPost(u64),
+    /// A glyph without a font; a font that is not defined, or not in the set; a second definition of
+    /// a font with another name or size.
+    #[error("byte {0}: an unknown font")]
+    UnknownFont(u64),
+    /// The font does not have the character.
+    #[error("byte {0}: a missing character")]
+    MissingChar(u64),
+    /// A pop with an empty stack.
+    #[error("byte {0}: nothing to pop")]
+    StackEmpty(u64),
+    /// A push with 1,000 on the stack.
+    #[error("byte {0}: too many pushes")]
+    TooDeep(u64),
+    /// h or v is more than 2^31 - 1 in size after the operation.
+    #[error("byte {0}: a move out of range")]
+    OutOfRange(u64),
+    /// A place more than a DVI file can have.
+    #[error("byte {0}: too many places")]
+    TooMany(u64),
+    /// There is no memory for the pages.
+    #[error("out of memory")]
+    OutOfMemory,
+}
+
+impl DviError {
+    /// The number of the cause, from 1 to 11 in the order of the variants; 12 for want of memory.
+    pub fn cause(self) -> u8
+        ensures { IfSome (fault_of self) (λ fault. result ≡ number_of fault.cause) }
+    {
+        match self {
+            DviError::Truncated(_) => 1,
+            DviError::BadOpcode(_) => 2,
+            DviError::BadPreamble(_) => 3,
+            DviError::BadPointer(_) => 4,
+            DviError::BadPost(_) => 5,
+            DviError::UnknownFont(_) => 6,
+            DviError::MissingChar(_) => 7,
+            DviError::StackEmpty(_) => 8,
+            DviError::TooDeep(_) => 9,
+            DviError::OutOfRange(_) => 10,
+            DviError::TooMany(_) => 11,
+            DviError::OutOfMemory => 12,
+        }
+    }
+
+    /// The offset of the opcode at fault; `None` for want of memory.
+    pub fn offset(self) -> Option<u64>
+        ensures { result ≡ option_map (λ (fault : Fault). fault.at) (fault_of self) }
+    {
+        match self {
+            DviError::Truncated(at) => Some(at),
+            DviError::BadOpcode(at) => Some(at),
+            DviError::BadPreamble(at) => Some(at),
+            DviError::BadPointer(at) => Some(at),
+            DviError::BadPost(at) => Some(at),
+            DviError::UnknownFont(at) => Some(at),
+            DviError::MissingChar(at) => Some(at),
+            DviError::StackEmpty(at) => Some(at),
+            DviError::TooDeep(at) => Some(at),
+            DviError::OutOfRange(at) => Some(at),
+            DviError::TooMany(at) => Some(at),
+            DviError::OutOfMemory => None,
+        }
+    }
+}
