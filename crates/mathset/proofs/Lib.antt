@@ -6,11 +6,23 @@ pub mod StepLemmas
 pub mod PureLemmas
 -- the fonts of a list, one after another
 pub mod FontLemmas
--- the row of a formula of few levels can be packed
-pub mod RowLemmas
--- the places of a row on its page
+-- the lines of a formula
+pub mod LineLemmas
+-- the places of a page
 pub mod PageLemmas
+-- the pages of a document, one after another
+pub mod DocumentLemmas
 -- the parts of a log line, one after another
 pub mod LogPartLemmas
 -- small sources
 mod Worked
+-- numbers in the words of a command line
+pub mod NumberLemmas
+-- what clap finds in the words
+pub mod FoundLemmas
+-- what small command lines ask for
+mod RequestCases
+-- lines of the listing, one after another
+pub mod ListingLemmas
+-- small pages as texts
+mod ListingWorked

@@ -1,134 +1,108 @@
--- The places of a row on its page can be written.
-use Rattle.std.proofs.Common.{◌≡◌, ℕ, zero, suc, ◌-◌, ◌≤◌, List, [], ◌∷◌, length, refl, sym, ap, subst, true, false, arith}
-use Rattle.std.specs.Prelude.{ℤ, pos, negsuc, Bool, Option, Some, None, Result, Ok, Err, All, IfOk, IsSomeAnd, if◌then◌else◌, nat_lt, flat_map}
+-- The places of a page can be written, and they are not too many.
+use Rattle.std.proofs.Common.{◌≡◌, ℕ, ◌+◌, ◌-◌, ◌≤◌, List, [], ◌∷◌, ◌++◌, length, refl, sym, ◌∙◌, ap, subst, false, arith}
+use Rattle.std.specs.Prelude.{ℤ, pos, Option, Some, None, Result, Ok, Err, All, IfSome, IsSomeAnd, is_some, nat_lt}
 use Rattle.std.proofs.lemmas.Bool.Decides.{nat_tests}
-use Rattle.std.proofs.lemmas.Int.{ints}
-use Rattle.std.proofs.lemmas.List.{append-nil}
+use Rattle.std.proofs.lemmas.List.{append-nil, append_assoc, length-append}
 use Rattle.std.proofs.lemmas.List.Elements.{All-append, All-cons, All-head, All-nil, All-tail}
-use Rattle.mt_scaled.specs.Number.{Within, is_in_range}
 use Rattle.mt_tfm.specs.Font.{Metrics}
 use Rattle.mt_family.specs.SetValue.{SetValue}
-use Rattle.mt_box.specs.Layout.{Layout}
-use Rattle.mt_box.specs.Extents.{first_out}
-use Rattle.mt_box.specs.Rows.{PieceValue, pack}
-use Rattle.mt_box.specs.Places.{h_of, v_of}
-use Rattle.mt_box.specs.Placing.{all_lowered, place_fault, first_place_fault, no_room, or_else as or_fault}
+use Rattle.mt_box.specs.Rows.{PieceValue, PieceGlyph, PieceBox, PieceKern, PieceSpace}
+use Rattle.mt_box.proofs.Room.{PlaceInRange, all_in_range}
+use Rattle.mt_box.proofs.Still.{IsStill, PieceHas}
 use Rattle.mt_box.specs.declared.place.Place.{Place}
 use Rattle.mt_box.specs.declared.place.Place.TheVariants.{Glyph, Rule}
-use Rattle.mt_box.specs.declared.error.PlaceError.{PlaceError}
-use Rattle.mt_box.specs.declared.error.PlaceError.TheVariants.{OutOfRange, TooMany}
 use Rattle.mt_dvi.specs.Writable.{HasGlyph, IsWritable}
 use Rattle.mt_dvi.specs.WrittenPlaces.{all_places}
-use Rattle.mt_dvi.specs.Limits.{max_places}
+use Rattle.mt_dvi.specs.Limits.{max_places, max_pages}
 use Rattle.mt_dvi.specs.Refusal.{refusal_of}
-use Rattle.mt_convert.specs.Holding.{PlaceHolds, PlacesHold, RowHolds}
-use Rattle.mt_convert.proofs.holds.Boxes.{pack_holds}
-use Rattle.mathset.specs.inner.Steps.{IsPure}
-use Rattle.mathset.specs.Pages.{page_by, row_page, page_result, page_result_by, page_places}
+use Rattle.mt_display.specs.Lines.{LineValue}
+use Rattle.mt_display.specs.Stack.{stacked_lines}
+use Rattle.mt_display.proofs.PagePlaces.{LineHas, page_has}
+use Rattle.mt_convert.specs.Holding.{PlaceHolds, PieceHolds, RowHolds}
+use Rattle.mt_convert.proofs.holds.Boxes.{all_places_hold}
+use Rattle.mathset.specs.inner.Placed.{PlacedHolds}
+use Rattle.mathset.specs.inner.Steps.{Told, refusal_origin}
+use Rattle.mathset.specs.declared.pages.PlacedPages.{PlacedPages}
 use Rattle.mathset.specs.declared.status.Status.{Status}
-use Rattle.mt_rules.specs.declared.document.Formula.{Formula}
 
-pub in_range : (x : ℤ) → is_in_range x ≡ true → Within 1073741823 x
-in_range (pos n) is =
-    let few : n ≤ 1073741823 = grind (arith, nat_tests) in
-    record { low = omega (arith, ints); high = omega (arith, ints) }
-in_range (negsuc n) is =
-    let few : n ≤ 1073741822 = grind (arith, nat_tests) in
-    record { low = omega (arith, ints); high = omega (arith, ints) }
+-- that a glyph exists and that a rule marks something does not depend on where it stands
+pub places_still : (set : SetValue) → IsStill (PlaceHolds set)
+places_still set = record { glyph = λ font code h v x y holds. holds; rule = λ h v x y height width holds. holds }
 
-fault_none : (room : ℕ) (p : Place) (a b c : Bool) → (if a then (if b then (if c then Some TooMany else None) else Some (OutOfRange (v_of p))) else Some (OutOfRange (h_of p))) ≡ None → (a ≡ true) × (b ≡ true) × (c ≡ false)
-fault_none room p true true true is = absurd (cc)
-fault_none room p true true false is = (refl, refl, refl)
-fault_none room p true false c is = absurd (cc)
-fault_none room p false b c is = absurd (cc)
+piece_has : (set : SetValue) (p : PieceValue) → PieceHolds set p → PieceHas (PlaceHolds set) p
+piece_has set (PieceGlyph font code e) holds = holds.0
+piece_has set (PieceBox raise body) holds = all_places_hold set body.places holds
+piece_has set (PieceKern amount) holds = tt
+piece_has set (PieceSpace width shrink) holds = tt
 
-faults_none : (a b : Option PlaceError) → or_fault a b ≡ None → (a ≡ None) × (b ≡ None)
-faults_none None b is = (refl, is)
-faults_none (Some v) b is = absurd (cc)
-
--- places without a fault are no more than there is room for
-pub fits_room : (room : ℕ) (ps : List Place) → first_place_fault room ps ≡ None → length ps ≤ room
-fits_room room [] none = omega arith
-fits_room zero (p ∷ ps) none =
-    let both = faults_none (place_fault zero p) (first_place_fault (zero - 1) ps) none in
-    let each = fault_none zero p (is_in_range (h_of p)) (is_in_range (v_of p)) true both.0 in
-    absurd (cc)
-fits_room (suc room) (p ∷ ps) none =
-    let both = faults_none (place_fault (suc room) p) (first_place_fault (suc room - 1) ps) none in
-    let rest = fits_room (suc room - 1) ps both.1 in
-    omega (arith, rest)
+pub row_has : (set : SetValue) (row : List PieceValue) → RowHolds set row → All (PieceHas (PlaceHolds set)) row
+row_has set [] holds = All-nil (PieceHas (PlaceHolds set))
+row_has set (p ∷ ps) holds = All-cons (PieceHas (PlaceHolds set)) p ps (piece_has set p holds.0) (row_has set ps holds.1)
 
 -- a place that holds, and whose coordinates are in range
-place_writable : (set : SetValue) (p : Place) → PlaceHolds set p → is_in_range (h_of p) ≡ true → is_in_range (v_of p) ≡ true → IsWritable set p
-place_writable set (Glyph font code h v) holds x y = record {
-  h_in_range = in_range h x;
-  v_in_range = in_range v y;
+pub place_writable : (set : SetValue) (p : Place) → PlaceHolds set p → PlaceInRange p → IsWritable set p
+place_writable set (Glyph font code h v) holds near = record {
+  h_in_range = near.h;
+  v_in_range = near.v;
   glyph =
       subst (λ (o : Option Metrics). IsSomeAnd o (λ (m : Metrics). HasGlyph m code)) (sym holds.is)
       (record { there = holds.there; width = holds.extents.width; depth = holds.extents.depth });
 }
-place_writable set (Rule h v height width) holds x y = record {
-  h_in_range = in_range h x;
-  v_in_range = in_range v y;
+place_writable set (Rule h v height width) holds near = record {
+  h_in_range = near.h;
+  v_in_range = near.v;
   height_in_range = holds.height_in_range;
   width_in_range = holds.width_in_range;
   tall = holds.tall;
   wide = holds.wide;
 }
 
-lowered_hold : (set : SetValue) (h v : ℤ) (ps : List Place) → PlacesHold set ps → PlacesHold set (all_lowered h v ps)
-lowered_hold set h v [] holds = tt
-lowered_hold set h v (Glyph font code x y ∷ ps) holds = (holds.0, lowered_hold set h v ps holds.1)
-lowered_hold set h v (Rule x y height width ∷ ps) holds = (holds.0, lowered_hold set h v ps holds.1)
+pub places_writable : (set : SetValue) (ps : List Place) → All (PlaceHolds set) ps → All PlaceInRange ps → All (IsWritable set) ps
+places_writable set [] holds near = All-nil (IsWritable set)
+places_writable set (p ∷ ps) holds near =
+    All-cons (IsWritable set) p ps (place_writable set p (All-head (PlaceHolds set) p ps holds) (All-head PlaceInRange p ps near))
+    (places_writable set ps (All-tail (PlaceHolds set) p ps holds) (All-tail PlaceInRange p ps near))
 
-writable : (set : SetValue) (room : ℕ) (ps : List Place) → PlacesHold set ps → first_place_fault room ps ≡ None → All (IsWritable set) ps
-writable set room [] holds none = All-nil (IsWritable set)
-writable set room (p ∷ ps) holds none =
-    let faults = faults_none (place_fault room p) (first_place_fault (room - 1) ps) none in
-    let each = fault_none room p (is_in_range (h_of p)) (is_in_range (v_of p)) (no_room room) faults.0 in
-    All-cons (IsWritable set) p ps (place_writable set p holds.0 each.0 each.1) (writable set (room - 1) ps holds.1 faults.1)
+pub all_places_append : (pages : List (List Place)) (page : List Place) → all_places (pages ++ page ∷ []) ≡ all_places pages ++ page
+all_places_append [] page = append-nil page
+all_places_append (p ∷ ps) page = ap (λ (l : List Place). p ++ l) (all_places_append ps page) ∙ sym (append_assoc p (all_places ps) page)
 
--- one page with no more places than there may be is not refused
-pub one_page : (page : List Place) → length page ≤ max_places → refusal_of (page ∷ []) ≡ None
-one_page page few =
-    let count : length (all_places (page ∷ [])) ≡ length page = ap length (append-nil page) in
-    let no : nat_lt max_places (length (all_places (page ∷ []))) ≡ false = rw count (grind (arith, nat_tests)) in
-    rw no refl
+-- one page more, and so much less room
+pub less_room : (pages : List (List Place)) (page : List Place) (room : ℕ) → length page ≤ room → length (all_places pages) + room ≡ max_places
+    → length (all_places (pages ++ page ∷ [])) + (room - length page) ≡ max_places
+less_room pages page room fits full =
+    let more : length (all_places (pages ++ page ∷ [])) ≡ length (all_places pages) + length page = ap length (all_places_append pages page) ∙ length-append (all_places pages) page in
+    omega (arith, more, fits, full)
 
-pub few_places : (ps list : List Place) → list ≡ ps → first_place_fault max_places ps ≡ None → length list ≤ max_places
-few_places ps list is none = subst (λ (l : List Place). length l ≤ max_places) (sym is) (fits_room max_places ps none)
+-- pages with no more places than there may be are not refused
+pub pages_few : (pages : List (List Place)) → length pages ≤ 5000 → length (all_places pages) ≤ max_places → refusal_of pages ≡ None
+pages_few pages few places =
+    let pages_in : nat_lt max_pages (length pages) ≡ false = grind (arith, nat_tests) in
+    let places_in : nat_lt max_places (length (all_places pages)) ≡ false = grind (arith, nat_tests) in
+    rw (pages_in, places_in) refl
 
-page_result_ok : (n : ℕ) (o : Option PlaceError) (page made : List Place) → page_result_by n o page ≡ Ok made → (o ≡ None) × (page ≡ made)
-page_result_ok n None page made is = (refl, cc)
-page_result_ok n (Some e) page made is = absurd (cc)
+-- the places of lines that hold can be written
+pub stacked_writable : (set : SetValue) (room : ℕ) (lines : List LineValue) (page : List Place) → All (LineHas (PlaceHolds set)) lines → stacked_lines room lines ≡ Ok page → All (IsWritable set) page
+stacked_writable set room lines page hold is = page_has (PlaceHolds set) (IsWritable set) (places_still set) (place_writable set) room lines page hold is
 
-page_ok : (n : ℕ) (o : Option ℤ) (p : Layout) (made : List Place) → page_by n o p ≡ Ok made → page_result n (page_places p) ≡ Ok made
-page_ok n None p made is = is
-page_ok n (Some value) p made is = absurd (cc)
+-- one page more
+pub placed_more : (set : SetValue) (count room : ℕ) (pages : List (List Place)) (page : List Place) (placed : PlacedPages)
+    → PlacedHolds set count placed → placed.pages.items ≡ pages → placed.room ≡ room → All (IsWritable set) page → length page ≤ room
+    → (now : PlacedPages) → now.pages.items ≡ pages ++ page ∷ [] → now.room ≡ room - length page → now.fault ≡ None → PlacedHolds set (count + 1) now
+placed_more set count room pages page placed holds is has writable fits now pages' room' fault =
+    let every = λ (ps : List Place). All (IsWritable set) ps in
+    let before : All every pages = subst (λ (l : List (List Place)). All every l) is holds.writable in
+    let full : length (all_places pages) + room ≡ max_places = subst (λ (l : List (List Place)). length (all_places l) + room ≡ max_places) is (subst (λ (n : ℕ). length (all_places placed.pages.items) + n ≡ max_places) has holds.places) in
+    let few : length pages ≤ count = subst (λ (l : List (List Place)). length l ≤ count) is holds.few in
+    record {
+      writable = subst (λ (l : List (List Place)). All every l) (sym pages') (All-append every pages (page ∷ []) before (All-cons every page [] writable (All-nil every)));
+      places =
+          subst (λ (l : List (List Place)). length (all_places l) + now.room ≡ max_places) (sym pages')
+          (subst (λ (n : ℕ). length (all_places (pages ++ page ∷ [])) + n ≡ max_places) (sym room') (less_room pages page room fits full));
+      few = subst (λ (l : List (List Place)). length l ≤ count + 1) (sym pages') (omega (arith, length-append pages (page ∷ []), few));
+      told = subst (λ (f : Option Status). IfSome f (λ status. refusal_origin status ≡ Told)) (sym fault) tt;
+    }
 
--- the page of a row whose pieces hold
-pub page_writable : (set : SetValue) (n : ℕ) (row : List PieceValue) (page : List Place) → RowHolds set row → row_page n row ≡ Ok page → All (IsWritable set) page
-page_writable set n row page holds stands =
-    let p : Layout = pack row in
-    let found = page_result_ok n (first_place_fault max_places (page_places p)) (page_places p) page (page_ok n (first_out p.extents) p page stands) in
-    subst (λ (l : List Place). All (IsWritable set) l) found.1
-    (writable set max_places (page_places p) (lowered_hold set (pos 0) p.extents.height p.places (pack_holds set row holds)) found.0)
-
-pub pages_writable : (set : SetValue) (page : List Place) (result : Result (List (List Place)) Status) → IsPure (Ok (page ∷ [])) result → All (IsWritable set) page
-    → IfOk result (λ pages. All (λ p. All (IsWritable set) p) pages)
-pages_writable set page (Err status) is all = tt
-pages_writable set page (Ok pages) is all =
-    let same : page ∷ [] ≡ pages = cc in
-    subst (λ (l : List (List Place)). All (λ p. All (IsWritable set) p) l) same (All-cons (λ p. All (IsWritable set) p) page [] all (All-nil (λ p. All (IsWritable set) p)))
-
-pub pages_few : (page : List Place) (result : Result (List (List Place)) Status) → IsPure (Ok (page ∷ [])) result → length page ≤ max_places → IfOk result (λ pages. refusal_of pages ≡ None)
-pages_few page (Err status) is few = tt
-pages_few page (Ok pages) is few =
-    let same : page ∷ [] ≡ pages = cc in
-    subst (λ (l : List (List Place)). refusal_of l ≡ None) same (one_page page few)
-
--- what holds of the formulas of each page holds of all
-pub all_of_pages : (P : Formula → Type 0) (pages : List (List Formula)) → All (λ page. All P page) pages → All P (flat_map (λ page. page) pages)
-all_of_pages P [] all = All-nil P
-all_of_pages P (page ∷ pages) all =
-    All-append P page (flat_map (λ page. page) pages) (All-head (λ page. All P page) page pages all) (all_of_pages P pages (All-tail (λ page. All P page) page pages all))
+pub no_fault : (fault : Option Status) → is_some fault ≡ false → fault ≡ None
+no_fault None is = refl
+no_fault (Some status) is = absurd (cc)

@@ -1,17 +1,35 @@
 -- How a run ends: its steps, then its product or its refusal.
-use Rattle.std.proofs.Common.{◌≡◌, ℕ, ◌<◌, List, refl, sym, ◌∙◌, ap, subst, arith, inl, inr}
-use Rattle.std.specs.Prelude.{Option, Some, None, Result, Ok, Err, Contains, ◌⊎◌}
+use Rattle.std.proofs.Common.{◌≡◌, ℕ, ◌<◌, List, [], ◌∷◌, length, Bool, true, false, refl, sym, ◌∙◌, ap, subst, arith, inl, inr}
+use Rattle.std.specs.Prelude.{Option, Some, None, Result, Ok, Err, Contains, ◌⊎◌, nat_lt, if◌then◌else◌}
+use Rattle.std.proofs.lemmas.Bool.Decides.{nat_tests}
 use Rattle.mt_outside.specs.Counts.{IsSteady, Rose}
+use Rattle.mt_outside.specs.Files.{content}
 use Rattle.mt_outside.specs.declared.files.Held.{Held}
+use Rattle.mt_family.specs.SetValue.{SetValue}
+use Rattle.mt_box.specs.declared.place.Place.{Place}
+use Rattle.mt_dvi.specs.File.{Fault, pages_of}
+use Rattle.mt_dvi.specs.Written.{Written}
+use Rattle.mt_dvi.proofs.WholeFile.{reads_back}
 use Rattle.mathset.specs.Answer.{steps, steps_by}
-use Rattle.mathset.specs.Outcome.{Outcome}
-use Rattle.mathset.specs.Words.{SetWords, set_words}
-use Rattle.mathset.specs.Ends.{EndsAs, GotPart, IsQuiet, IsToldRefusal}
+use Rattle.mathset.specs.DviSteps.{dvi_by, dvi_listing, dvi_step}
+use Rattle.mathset.specs.FontSteps.{font_set_step}
+use Rattle.mathset.specs.Limits.{max_dvi}
+use Rattle.mathset.specs.Listing.{listing}
+use Rattle.mathset.specs.Reads.{file_of}
+use Rattle.mathset.specs.Outcome.{Outcome, outcome_after, plain}
+use Rattle.mathset.specs.Request.{request_of}
+use Rattle.mathset.specs.RequestValues.{DviValue, SourceValue}
+use Rattle.mathset.specs.Steps.{read_steps, typeset_steps}
+use Rattle.mathset.specs.Typeset.{TypesetValue}
+use Rattle.mathset.specs.Ends.{EndsAs, GotPart, IsQuiet, IsToldRefusal, ListsPages, SetsAs}
 use Rattle.mathset.specs.inner.Runs.{EndLeaves, IsRun, LeavesOutput}
 use Rattle.mathset.specs.inner.Steps.{IsStep}
 use Rattle.mathset.specs.declared.product.Product.{Product}
+use Rattle.mathset.specs.declared.product.Product.TheVariants.{File, Text}
+use Rattle.mathset.specs.declared.request.Request.{Request}
+use Rattle.mathset.specs.declared.request.Request.TheVariants.{Read, Set}
 use Rattle.mathset.specs.declared.status.Status.{Status}
-use Rattle.mathset.specs.declared.status.Status.TheVariants.{Done, BadWords, ReadFault, TooLong, WriteFault, FontList, BadTfm, BadFamily, BadSource, BadFormula, Budget, MissingFamily, MissingChar, SmartLigature, Overflow, TooTall, TooDeep, TooMuch, BadDvi, OutOfMemory, NotBuilt}
+use Rattle.mathset.specs.declared.status.Status.TheVariants.{Done, BadWords, ReadFault, TooLong, WriteFault, FontList, BadTfm, BadFamily, BadSource, BadFormula, Budget, MissingFamily, MissingChar, SmartLigature, Overflow, TooTall, TooDeep, TooMuch, BadDvi, OutOfMemory}
 
 -- a status is Done, a fault, want of memory, or a refusal that the words and the files give
 by_status : (P : Status → Type 0) → P Done → ((name : List ℕ) → P (ReadFault name)) → ((count : ℕ) → P (WriteFault count)) → P OutOfMemory
@@ -36,7 +54,6 @@ by_status P done lost cut memory told (TooDeep n token) = told (TooDeep n token)
 by_status P done lost cut memory told (TooMuch kind count) = told (TooMuch kind count) tt tt
 by_status P done lost cut memory told (BadDvi offset cause) = told (BadDvi offset cause) tt tt
 by_status P done lost cut memory told OutOfMemory = memory
-by_status P done lost cut memory told (NotBuilt n) = told (NotBuilt n) tt tt
 
 not_below : (before now : ℕ) → now ≡ before → before < now → ⊥
 not_below before now same below = omega (arith, same, below)
@@ -148,14 +165,29 @@ not_words holds reads last written writes steps cabinet cabinet' out out' (Err r
 
 -- words that are none of the commands
 pub bad_words_run : {C K : Type 0} (holds : C → Option (List Held)) (reads : C → ℕ) (last : C → Option (List ℕ)) (written : K → Option (List ℕ)) (writes : K → ℕ) (words : List (List ℕ))
-    (cabinet : C) (out : K) → set_words words ≡ None → IsRun holds reads last written writes (steps words) cabinet cabinet out out BadWords
+    (cabinet : C) (out : K) → request_of words ≡ None → IsRun holds reads last written writes (steps words) cabinet cabinet out out BadWords
 bad_words_run holds reads last written writes words cabinet out none = record {
-  refused = λ files told refusal. ap (λ (w : Option SetWords). (steps_by w files).result) none;
+  refused = λ files told refusal. ap (λ (w : Option Request). (steps_by w files).result) none;
   done = λ is. absurd (cc);
   cut = λ count is. absurd (cc);
   lost = λ name is. absurd (cc);
   asked = λ name files is told. absurd (cc);
   reads_counted = λ grew. absurd (omega (arith, grew));
+  writes_counted = λ grew. absurd (omega (arith, grew));
+  quiet = λ quiet. refl;
+  kept = refl;
+}
+
+-- want of memory while the words are read
+pub no_words_run : {C K : Type 0} (holds : C → Option (List Held)) (reads : C → ℕ) (last : C → Option (List ℕ)) (written : K → Option (List ℕ)) (writes : K → ℕ) (steps : List Held → Outcome Product)
+    (cabinet : C) (out : K) → IsRun holds reads last written writes steps cabinet cabinet out out OutOfMemory
+no_words_run holds reads last written writes steps cabinet out = record {
+  refused = λ files told no. absurd no;
+  done = λ is. absurd (cc);
+  cut = λ count is. absurd (cc);
+  lost = λ name is. absurd (cc);
+  asked = λ name files is told. absurd (cc);
+  reads_counted = λ grew. tt;
   writes_counted = λ grew. absurd (omega (arith, grew));
   quiet = λ quiet. refl;
   kept = refl;
@@ -181,3 +213,41 @@ ends holds reads last written writes steps cabinet cabinet' out out' status run 
     (λ s refusal quiet run.
     inr (subst (λ (r : Result Product Status). EndsAs r (written out) (written out') s) (sym (run.refused files told refusal)) (refl, ap written (run.quiet quiet))))
     status run
+
+sets_by : (r : Result TypesetValue Status) (asked : List (List ℕ)) (before now : Option (List ℕ)) (status : Status)
+    → EndsAs (outcome_after r asked (λ t. plain (Ok (File t)))).result before now status → SetsAs r before now status
+sets_by (Ok t) asked before now status ends = ends
+sets_by (Err refusal) asked before now status ends = ends
+
+-- words that ask for a source to be set
+pub sets : (words : List (List ℕ)) (w : SourceValue) (files : List Held) (before now : Option (List ℕ)) (status : Status) → request_of words ≡ Some (Set w)
+    → (status ≡ OutOfMemory) ⊎ EndsAs (steps words files).result before now status → (status ≡ OutOfMemory) ⊎ SetsAs (typeset_steps w files).result before now status
+sets words w files before now status is (inl memory) = inl memory
+sets words w files before now status is (inr ends) =
+    inr (sets_by (typeset_steps w files).result (typeset_steps w files).asked before now status
+    (subst (λ (r : Option Request). EndsAs (steps_by r files).result before now status) is ends))
+
+within_limit : (b : Bool) (name bytes : List ℕ) → b ≡ false → (if b then Err (TooLong name) else (let r : Result (List ℕ) Status = Ok bytes in r)) ≡ Ok bytes
+within_limit true name bytes is = absurd (cc)
+within_limit false name bytes is = refl
+
+-- a file that was written is read back
+written_back : (fonts : SetValue) (name : List ℕ) (files : List Held) (pages : List (List Place)) → Written fonts (content files name) pages
+    → (dvi_step name fonts files).result ≡ Ok (Text (listing pages))
+written_back fonts name files pages written =
+    let short : nat_lt max_dvi (length (content files name)) ≡ false = grind (arith, nat_tests, written.size) in
+    let read : pages_of fonts (content files name) ≡ Ok pages = reads_back fonts (content files name) pages written in
+    let fetched : (file_of name max_dvi files).result ≡ Ok (content files name) = within_limit (nat_lt max_dvi (length (content files name))) name (content files name) short in
+    ap (λ (r : Result (List ℕ) Status). (outcome_after r (name ∷ []) (λ bytes. plain (dvi_listing fonts bytes))).result) fetched
+    ∙ ap (λ (r : Result (List (List Place)) Fault). dvi_by r) read
+
+-- words that ask for a DVI file to be read
+pub reads : (words : List (List ℕ)) (w : DviValue) (files : List Held) (fonts : SetValue) (pages : List (List Place)) (before now : Option (List ℕ)) (status : Status)
+    → request_of words ≡ Some (Read w) → (font_set_step w.fonts files).result ≡ Ok fonts → Written fonts (content files w.dvi) pages
+    → (status ≡ OutOfMemory) ⊎ EndsAs (steps words files).result before now status → (status ≡ OutOfMemory) ⊎ ListsPages pages before now status
+reads words w files fonts pages before now status is set written (inl memory) = inl memory
+reads words w files fonts pages before now status is set written (inr ends) =
+    let answer : (read_steps w files).result ≡ Ok (Text (listing pages)) =
+    ap (λ (r : Result SetValue Status). (outcome_after r (font_set_step w.fonts files).asked (λ set. dvi_step w.dvi set files)).result) set
+    ∙ written_back fonts w.dvi files pages written in
+    inr (subst (λ (r : Result Product Status). EndsAs r before now status) answer (subst (λ (r : Option Request). EndsAs (steps_by r files).result before now status) is ends))

@@ -4,6 +4,7 @@ use Rattle.std.specs.Prelude.{pos, codes, replicate, Some, None, Result, Ok, Err
 use Rattle.mt_tfm.specs.Font.{Metrics}
 use Rattle.mt_tfm.specs.declared.chars.CharWord.{CharWord}
 use Rattle.mt_family.specs.SetValue.{SetValue}
+use Rattle.mt_family.specs.Sets as sets
 use Rattle.mt_family.specs.declared.size.Size.TheVariants.{Text}
 use Rattle.mt_box.specs.declared.place.Place.{Place}
 use Rattle.mt_box.specs.declared.place.Place.TheVariants.{Glyph}
@@ -20,11 +21,14 @@ use Rattle.mt_convert.specs.FirstPass.{first_pass_of}
 use Rattle.mt_convert.specs.ListRow.{halves_of, list_row}
 use Rattle.mt_convert.specs.SecondPass.{second_pass_of}
 use Rattle.mt_reader.specs.documents.Documents.{pages_from, TooManyTokens, TooManyPages}
+use Rattle.mt_display.specs.Displays.{display_lines}
+use Rattle.mt_display.specs.Stack.{stacked_lines}
 use Rattle.mathset.specs.Documents.{document_refusal}
-use Rattle.mathset.specs.Pages.{formula_pages, source_pages}
+use Rattle.mathset.specs.FormulaLines.{formula_lines}
+use Rattle.mathset.specs.Pages.{document_pages, source_pages}
 use Rattle.mathset.specs.declared.status.Much.TheVariants.{Pages}
 use Rattle.mathset.specs.declared.status.Status.{Status}
-use Rattle.mathset.specs.declared.status.Status.TheVariants.{BadSource, BadFormula, Budget, MissingFamily, MissingChar, Overflow, TooDeep, TooMuch, NotBuilt}
+use Rattle.mathset.specs.declared.status.Status.TheVariants.{BadSource, BadFormula, Budget, MissingFamily, MissingChar, Overflow, TooDeep, TooMuch}
 
 abbrev char : CharWord
 char = record { width = 1; height = 1; depth = 0; italic = 0; tag = 0; remainder = 0 }
@@ -58,17 +62,21 @@ fonts width = record {
 
 -- what evaluating a source unfolds: its reading, and the rules of setting
 unfoldable computed : ⊤
-unfolding source_pages formula_pages stretch run pages_from control plain_codes plain_table macro_texts accent_macros delimiter_macros other_macros family_macros function_macros limit_macros plain_body list_row halves_of first_pass_of second_pass_of atom_row nucleus_row row_with_scripts
+unfolding sets.sy source_pages document_pages formula_lines display_lines stacked_lines stretch run pages_from control plain_codes plain_table macro_texts accent_macros delimiter_macros other_macros family_macros function_macros limit_macros plain_body list_row halves_of first_pass_of second_pass_of atom_row nucleus_row row_with_scripts
 computed = tt
 
 abbrev Answered : Type 0
 Answered = Result (List (List Place)) Status
 
 abbrev set : List ℕ → Answered
-set source = source_pages (fonts 20) source
+set source = source_pages (fonts 20) (pos 100) source
 
 abbrev glyph : ℕ → ℕ → ℕ → Place
 glyph font code h = Glyph font code (pos h) (pos 7)
+
+-- in the second line of a page
+abbrev glyph_below : ℕ → ℕ → ℕ → Place
+glyph_below font code h = Glyph font code (pos h) (pos 786439)
 
 -- rows of characters
 case_1 : set (codes "$ab1$") ≡ Ok ((glyph 1 97 0 ∷ glyph 1 98 20 ∷ glyph 0 49 40 ∷ []) ∷ [])
@@ -138,14 +146,40 @@ case_16 : set (codes "$\\rm ab\\sl c$") ≡ Err (MissingFamily 1 5 Text)
 unfolding computed
 case_16 = refl
 
--- what is not built, before what cannot be set
-case_17 : set (codes "$$a$$") ≡ Err (NotBuilt 1)
+-- lines and pages
+case_17 : set (codes "$a$ $b$") ≡ Ok ((glyph 1 97 0 ∷ glyph_below 1 98 0 ∷ []) ∷ [])
 unfolding computed
 case_17 = refl
 
-case_18 : set (codes "$+$\\eject$$b$$") ≡ Err (NotBuilt 2)
+case_18 : set (codes "$a$\\eject$$$$\\eject\\eject$b$") ≡ Ok ((glyph 1 97 0 ∷ []) ∷ [] ∷ (glyph 1 98 0 ∷ []) ∷ [])
 unfolding computed
 case_18 = refl
+
+-- displays on a line of 100sp: without a number, with one beside it, and with one for which there is no room
+case_26 : set (codes "$$ab$$") ≡ Ok ((glyph 1 97 30 ∷ glyph 1 98 50 ∷ []) ∷ [])
+unfolding computed
+case_26 = refl
+
+case_27 : set (codes "$$a\\eqno1$$") ≡ Ok ((glyph 1 97 40 ∷ glyph 0 49 90 ∷ []) ∷ [])
+unfolding computed
+case_27 = refl
+
+case_28 : set (codes "$$aaaa\\leqno b$$") ≡ Ok ((glyph 1 98 0 ∷ glyph 1 97 20 ∷ glyph 1 97 40 ∷ glyph 1 97 60 ∷ glyph 1 97 80 ∷ []) ∷ [])
+unfolding computed
+case_28 = refl
+
+case_29 : set (codes "$$aaaa\\eqno bb$$") ≡ Ok ((glyph 1 97 10 ∷ glyph 1 97 30 ∷ glyph 1 97 50 ∷ glyph 1 97 70 ∷ glyph_below 1 98 60 ∷ glyph_below 1 98 80 ∷ []) ∷ [])
+unfolding computed
+case_29 = refl
+
+-- the number is set behind the body, and a formula behind the ones before it
+case_30 : set (codes "$$a\\eqno+$$ $+$") ≡ Err (MissingChar 1 0 Text 43)
+unfolding computed
+case_30 = refl
+
+case_31 : set (codes "$a$ $+$") ≡ Err (MissingChar 2 0 Text 43)
+unfolding computed
+case_31 = refl
 
 -- too many groups, steps, tokens and pages
 case_19 : set (codes "$" ++ replicate 151 123 ++ codes "a" ++ replicate 151 125 ++ codes "$") ≡ Err (TooDeep 1 150)
@@ -162,15 +196,20 @@ case_21 = refl
 case_22 : document_refusal (TooManyPages 5001) ≡ TooMuch Pages 5001
 case_22 = refl
 
--- lengths out of range, after what is not built
-case_23 : source_pages (fonts 1073741824) (codes "$1a$") ≡ Err (Overflow 1 (pos 1073741824))
+-- lengths out of range
+case_23 : source_pages (fonts 1073741824) (pos 100) (codes "$1a$") ≡ Err (Overflow 1 (pos 1073741824))
 unfolding computed
 case_23 = refl
 
-case_24 : source_pages (fonts 1073741820) (codes "$1a$") ≡ Err (Overflow 1 (pos 1073741830))
+case_24 : source_pages (fonts 1073741820) (pos 100) (codes "$1$ $1a$") ≡ Err (Overflow 2 (pos 1073741830))
 unfolding computed
 case_24 = refl
 
-case_25 : source_pages (fonts 1073741824) (codes "$1a$ $b$") ≡ Err (NotBuilt 2)
+-- a place out of range; a formula behind it that cannot be set is refused before
+case_25 : set (codes "$\\kern1073741823sp\\kern1sp a\\kern-99sp$") ≡ Err (Overflow 1 (pos 1073741824))
 unfolding computed
 case_25 = refl
+
+case_32 : set (codes "$\\kern1073741823sp\\kern1sp a\\kern-99sp$ $+$") ≡ Err (MissingChar 2 0 Text 43)
+unfolding computed
+case_32 = refl

@@ -1,86 +1,79 @@
--- The pages of a source (`source_pages`): its document, and the page of its only formula.
-use Rattle.std.specs.Prelude.{ℕ, ◌+◌, ℤ, pos, List, [], ◌∷◌, flat_map, Option, Some, None, Result, Ok, Err, if◌then◌else◌}
+-- The pages of a source (`source_pages`): the lines of all formulas, then the places of these lines, page by page.
+use Rattle.std.specs.Prelude.{ℕ, ◌+◌, ◌-◌, ℤ, List, [], ◌∷◌, ◌++◌, length, replicate, get_or, Result, Ok, Err}
 use Rattle.mt_scaled.specs.Results.{◌>>=◌}
 use Rattle.mt_family.specs.SetValue.{SetValue}
-use Rattle.mt_box.specs.Layout.{Layout}
-use Rattle.mt_box.specs.Rows.{PieceValue, pack}
-use Rattle.mt_box.specs.Extents.{first_out}
-use Rattle.mt_box.specs.Placing.{all_lowered, first_place_fault}
 use Rattle.mt_box.specs.declared.place.Place.{Place}
-use Rattle.mt_box.specs.declared.error.PackError.{PackError}
-use Rattle.mt_box.specs.declared.error.PackError.TheVariants.{Overflow as TooWide, OutOfMemory as NoPackMemory}
-use Rattle.mt_box.specs.declared.error.PlaceError.{PlaceError}
-use Rattle.mt_box.specs.declared.error.PlaceError.TheVariants.{OutOfRange, TooMany, OutOfMemory as NoPlaceMemory}
+use Rattle.mt_display.specs.declared.error.StackError.{StackError}
+use Rattle.mt_display.specs.declared.error.StackError.TheVariants.{OutOfRange, TooMany, OutOfMemory as NoStackMemory}
+use Rattle.mt_display.specs.Lines.{LineValue}
+use Rattle.mt_display.specs.Stack.{stacked_lines}
 use Rattle.mt_dvi.specs.Limits.{max_places}
 use Rattle.mt_rules.specs.declared.document.Formula.{Formula}
 use Rattle.mathset.specs.Documents.{document_of}
-use Rattle.mathset.specs.FormulaRow.{formula_row}
+use Rattle.mathset.specs.FormulaLines.{formula_lines}
 use Rattle.mathset.specs.declared.status.Much.TheVariants.{Places}
 use Rattle.mathset.specs.declared.status.Status.{Status}
-use Rattle.mathset.specs.declared.status.Status.TheVariants.{NotBuilt, Overflow, TooMuch, OutOfMemory}
+use Rattle.mathset.specs.declared.status.Status.TheVariants.{Overflow, TooMuch, OutOfMemory}
 
--- a row of formula n is too wide, too high or too deep
-abbrev pub pack_refusal : ℕ → PackError → Status
-pack_refusal n (TooWide value) = Overflow n value
-pack_refusal n NoPackMemory = OutOfMemory
+-- the lines of a page, and of each the number of its formula
+pub record PageLinesValue : Type 0 where
+  pub lines : List LineValue
+  pub formulas : List ℕ
 
--- a place of formula n is out of range, or there are too many
-abbrev pub place_refusal : ℕ → PlaceError → Status
-place_refusal n (OutOfRange value) = Overflow n value
-place_refusal n TooMany = TooMuch Places (max_places + 1)
-place_refusal n NoPlaceMemory = OutOfMemory
+abbrev pub no_lines : PageLinesValue
+no_lines = record { lines = []; formulas = [] }
 
-abbrev pub page_result_by : ℕ → Option PlaceError → List Place → Result (List Place) Status
-page_result_by n None page = Ok page
-page_result_by n (Some e) page = Err (place_refusal n e)
+-- a page with the lines of formula n behind its own
+abbrev pub with_lines : PageLinesValue → ℕ → List LineValue → PageLinesValue
+with_lines page n lines = record {
+  lines = page.lines ++ lines;
+  formulas = page.formulas ++ replicate (length lines) n;
+}
 
--- the places of a page, of which there may be max_places
-abbrev pub page_result : ℕ → List Place → Result (List Place) Status
-page_result n page = page_result_by n (first_place_fault max_places page) page
+-- the lines of formulas, behind those of the formulas before them on the page
+abbrev pub page_lines : SetValue → ℤ → PageLinesValue → List Formula → Result PageLinesValue Status
+page_lines set width page [] = Ok page
+page_lines set width page (f ∷ fs) = do
+  lines ← formula_lines set width f
+  page_lines set width (with_lines page f.number lines) fs
 
--- a row on its page: its left end stands at 0, and its top is 0
-abbrev pub page_places : Layout → List Place
-page_places p = all_lowered (pos 0) p.extents.height p.places
+-- the lines of a document, page by page
+abbrev pub document_lines : SetValue → ℤ → List (List Formula) → Result (List PageLinesValue) Status
+document_lines set width [] = Ok []
+document_lines set width (page ∷ pages) = do
+  lines ← page_lines set width no_lines page
+  rest ← document_lines set width pages
+  Ok (lines ∷ rest)
 
-abbrev pub page_by : ℕ → Option ℤ → Layout → Result (List Place) Status
-page_by n None p = page_result n (page_places p)
-page_by n (Some out) p = Err (Overflow n out)
+-- a place out of range is one of the formula that its line is of
+abbrev pub stack_refusal : List ℕ → StackError → Status
+stack_refusal formulas (OutOfRange line value) = Overflow (get_or formulas line 0) value
+stack_refusal formulas TooMany = TooMuch Places (max_places + 1)
+stack_refusal formulas NoStackMemory = OutOfMemory
 
--- the page of formula n, of which this is the row
-abbrev pub row_page : ℕ → List PieceValue → Result (List Place) Status
-row_page n row = page_by n (first_out (pack row).extents) (pack row)
+abbrev pub placed_by : List ℕ → Result (List Place) StackError → Result (List Place) Status
+placed_by formulas (Ok places) = Ok places
+placed_by formulas (Err e) = Err (stack_refusal formulas e)
 
--- the one page of a formula
-unfoldable pub formula_pages : SetValue → Formula → Result (List (List Place)) Status
-formula_pages set f = do
-  row ← formula_row set f
-  page ← row_page f.number row
-  Ok (page ∷ [])
+-- the places of a page, where there is room for so many
+abbrev pub page_places : ℕ → PageLinesValue → Result (List Place) Status
+page_places room page = placed_by page.formulas (stacked_lines room page.lines)
 
-abbrev pub first_number : List Formula → Option ℕ
-first_number [] = None
-first_number (f ∷ fs) = Some f.number
+-- the places of pages, behind those of the pages before them, where there is room for so many more
+abbrev pub pages_places : List (List Place) → ℕ → List PageLinesValue → Result (List (List Place)) Status
+pages_places before room [] = Ok before
+pages_places before room (page ∷ pages) = do
+  places ← page_places room page
+  pages_places (before ++ places ∷ []) (room - length places) pages
 
--- the number of the first formula that is not built: a display, or one behind the first
-abbrev pub first_unbuilt : List Formula → Option ℕ
-first_unbuilt [] = None
-first_unbuilt (f ∷ fs) = if f.display then Some f.number else first_number fs
-
-abbrev pub pages_unless : Option ℕ → SetValue → List Formula → Result (List (List Place)) Status
-pages_unless (Some n) set formulas = Err (NotBuilt n)
-pages_unless None set [] = Ok []
-pages_unless None set (f ∷ fs) = formula_pages set f
-
--- no formula is set where one is not built
-abbrev pub formulas_pages : SetValue → List Formula → Result (List (List Place)) Status
-formulas_pages set formulas = pages_unless (first_unbuilt formulas) set formulas
-
--- the pages of a document, which is formulas page by page
-abbrev pub pages_of_document : SetValue → List (List Formula) → Result (List (List Place)) Status
-pages_of_document set document = formulas_pages set (flat_map (λ page. page) document)
+-- The pages of a document, which is formulas page by page. All formulas are set before a place is found.
+unfoldable pub document_pages : SetValue → ℤ → List (List Formula) → Result (List (List Place)) Status
+document_pages set width document = do
+  pages ← document_lines set width document
+  pages_places [] max_places pages
 
 -- the pages of a source
-unfoldable pub source_pages : SetValue → List ℕ → Result (List (List Place)) Status
-source_pages set bytes = do
+unfoldable pub source_pages : SetValue → ℤ → List ℕ → Result (List (List Place)) Status
+source_pages set width bytes = do
   document ← document_of set bytes
-  pages_of_document set document
+  document_pages set width document

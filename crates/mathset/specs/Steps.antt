@@ -1,30 +1,57 @@
--- The steps of a command (`set_steps`), from the files to the product.
-use Rattle.std.specs.Prelude.{ℕ, List, Ok}
+-- The steps of a command (`request_steps`), from the files to the product.
+use Rattle.std.specs.Prelude.{ℕ, ℤ, List, Ok}
 use Rattle.mt_outside.specs.declared.files.Held.{Held}
 use Rattle.mt_family.specs.SetValue.{SetValue}
 use Rattle.mt_token.specs.Tokens.{max_source}
+use Rattle.mathset.specs.DviSteps.{dvi_step}
 use Rattle.mathset.specs.FontSteps.{font_set_step}
+use Rattle.mathset.specs.Listing.{listing}
 use Rattle.mathset.specs.Outcome.{Outcome, plain, ◌>>=◌}
 use Rattle.mathset.specs.Reads.{file_of}
+use Rattle.mathset.specs.RequestValues.{SourceValue, DviValue, SampleValue}
+use Rattle.mathset.specs.Samples.{sample_files, sample_words, summed}
 use Rattle.mathset.specs.Typeset.{TypesetValue, typeset_of}
-use Rattle.mathset.specs.Words.{SetWords}
 use Rattle.mathset.specs.declared.product.Product.{Product}
-use Rattle.mathset.specs.declared.product.Product.TheVariants.{File}
+use Rattle.mathset.specs.declared.product.Product.TheVariants.{File, Text}
+use Rattle.mathset.specs.declared.request.Request.{Request}
+use Rattle.mathset.specs.declared.request.Request.TheVariants.{Set, Places, Read, Gen}
 
 -- the source is fetched and set
-abbrev pub source_step : List ℕ → SetValue → List Held → Outcome TypesetValue
-source_step name fonts files = do
+abbrev pub source_step : List ℕ → ℤ → SetValue → List Held → Outcome TypesetValue
+source_step name width fonts files = do
   source ← file_of name max_source files
-  plain (typeset_of fonts source)
+  plain (typeset_of fonts width source)
 
 -- the fonts, then the source
-abbrev pub typeset_steps : SetWords → List Held → Outcome TypesetValue
+abbrev pub typeset_steps : SourceValue → List Held → Outcome TypesetValue
 typeset_steps words files = do
   fonts ← font_set_step words.fonts files
-  source_step words.source fonts files
+  source_step words.source words.line fonts files
 
 -- `set`: the product is the DVI file of the source's pages
-abbrev pub set_steps : SetWords → List Held → Outcome Product
+abbrev pub set_steps : SourceValue → List Held → Outcome Product
 set_steps words files = do
   typeset ← typeset_steps words files
   plain (Ok (File typeset))
+
+-- `places`: the product is the listing of the same pages
+abbrev pub places_steps : SourceValue → List Held → Outcome Product
+places_steps words files = do
+  typeset ← typeset_steps words files
+  plain (Ok (Text (listing typeset.pages)))
+
+-- `read`: the product is the listing of a DVI file's pages
+abbrev pub read_steps : DviValue → List Held → Outcome Product
+read_steps words files = do
+  fonts ← font_set_step words.fonts files
+  dvi_step words.dvi fonts files
+
+-- `gen`: the product is the summary of a generated source, set with the toy fonts. No file is asked for.
+abbrev pub gen_steps : SampleValue → List Held → Outcome Product
+gen_steps words files = plain (summed words.count (typeset_steps sample_words (sample_files words.seed words.count)).result)
+
+abbrev pub request_steps : Request → List Held → Outcome Product
+request_steps (Set words) files = set_steps words files
+request_steps (Places words) files = places_steps words files
+request_steps (Read words) files = read_steps words files
+request_steps (Gen words) files = gen_steps words files

@@ -4,7 +4,7 @@ pub mod Steps
 pub mod Runs
 -- the parts of a log line
 pub mod LogParts
--- the words that names of files are
-pub mod Words
--- the row of a formula
-pub mod Rows
+-- rows and lines that the code makes
+pub mod Lines
+-- pages of places, up to the first fault of a place
+pub mod Placed

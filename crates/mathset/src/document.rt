@@ -1,8 +1,8 @@
 //! The document of a source.
-ghost use Rattle.std.specs.Prelude.{◌≡◌, IfOk};
+ghost use Rattle.std.specs.Prelude.{◌≡◌, ◌≤◌, ◌^◌, IfOk, length};
 ghost use Rattle.mt_reader.specs.documents.Documents.{DocumentAnswer};
 ghost use Rattle.mt_reader.specs.documents.Refusals.{IsExpandRefusal, IsReadRefusal, IsRefusal};
-ghost use Rattle.mt_reader.specs.documents.Weights.{IsModestDocument};
+ghost use Rattle.mt_reader.specs.documents.Weights.{IsModestDocument, pages_weight};
 ghost use Rattle.mathset.specs.inner.Steps.{IsPure};
 ghost use Rattle.mathset.specs.Documents.{document_from, document_of, token_refusal};
 
@@ -102,10 +102,13 @@ fn document_refusal(error: DocError) -> Status
 /// `TooDeep` where too many groups of a formula are open; `TooMuch` pages, at the formula that would begin one.
 /// `OutOfMemory` where memory ran out.
 ///
-/// Its lists are modest: body and number of each formula can be set.
+/// Its lists are modest: body and number of each formula can be set. It has at most 5,000 pages, and at most 2^21 formulas,
+/// each display counted twice.
 pub fn document_of(alloc: Global, fonts: &FontSet, source: &[u8]) -> Result<Document, Status>
     ensures is { IsPure (document_of fonts.now source.now) result }
     ensures modest { IfOk result IsModestDocument }
+    ensures few { IfOk result (λ pages. pages_weight pages ≤ 2 ^ 21) }
+    ensures pages { IfOk result (λ pages. length pages ≤ 5000) }
 {
     match read_document(alloc, fonts.units(), source) {
         Ok(document) => Ok(document),

@@ -1,12 +1,11 @@
 //! Formulas in the text, and their places in the toy fonts: those that TeX gives, but where a comment says otherwise.
-use crate::formula_listing::{Case, listing, written_listing};
-use crate::test_runs::fonts;
+use crate::formula_listing::{Case, page_listing, test_listing};
+use crate::test_runs::PLACES;
 use crate::{atom_formulas, list_formulas, part_formulas};
-use mt_family::FontSet;
 use std::alloc::Global;
 use std::process::Abort;
 
-// Small formulas, most of them with one thing to be set. They are read from the file that a run writes.
+// Small formulas, most of them with one thing to be set.
 const SMALL: &[Case] = &[
     (
         "$a+b$",
@@ -85,34 +84,24 @@ fn small() -> &'static [Case] {
     SMALL
 }
 
-fn test_formulas(rt: &impl Abort, alloc: Global, fonts: &FontSet, formulas: &[Case]) {
-    for (source, wanted) in formulas {
-        let listing = listing(rt, alloc, fonts, source);
-        assert!(rt; listing.as_str() == *wanted, "{source}");
+fn test_formulas(rt: &impl Abort, alloc: Global, formulas: &[Case]) {
+    for (source, places) in formulas {
+        let listing = page_listing(rt, alloc, places);
+        test_listing(rt, alloc, PLACES, source, &listing);
     }
 }
 
 fn test_kinds(rt: &impl Abort, alloc: Global, kinds: &[&[Case]]) {
-    let fonts = fonts(rt, alloc, None);
     for formulas in kinds {
-        test_formulas(rt, alloc, &fonts, formulas);
+        test_formulas(rt, alloc, formulas);
     }
 }
 
 #[test]
 fn sets_formulas(rt: HostRuntime) {
     let alloc = rt.alloc();
+    test_formulas(&rt, alloc, small());
     test_kinds(&rt, alloc, &atom_formulas::kinds());
     test_kinds(&rt, alloc, &part_formulas::kinds());
     test_kinds(&rt, alloc, &list_formulas::kinds());
-}
-
-#[test]
-fn writes_formulas(rt: HostRuntime) {
-    let alloc = rt.alloc();
-    let fonts = fonts(&rt, alloc, None);
-    for (source, wanted) in small() {
-        let listing = written_listing(&rt, alloc, &fonts, source);
-        assert!(&rt; listing.as_str() == *wanted, "{source}");
-    }
 }

@@ -1,151 +1,144 @@
-//! The pages of a document: that of its only formula.
-ghost use Rattle.std.specs.Prelude.{◌≡◌, ◌≤◌, ◌^◌, ◌∷◌, [], All, IfOk, flat_map, length, None, Ok};
-ghost use Rattle.mt_box.specs.Layout.{layout_of};
-ghost use Rattle.mt_box.specs.Rows.{AllModest, piece_values};
-ghost use Rattle.mt_dvi.specs.Limits.{max_places};
-ghost use Rattle.mt_dvi.specs.Writable.{IsWritable};
+//! The pages of a document.
+ghost use Rattle.std.specs.Prelude.{◌≡◌, ◌≤◌, ◌+◌, ◌^◌, [], All, IfOk, List, OnOk, Result, length, None, ℕ};
+ghost use Rattle.mt_family.specs.SetValue.{SetValue};
+ghost use Rattle.mt_box.specs.declared.place.Place.{Place as PlaceFields};
+ghost use Rattle.mt_display.specs.Lines.{line_values};
 ghost use Rattle.mt_dvi.specs.Refusal.{refusal_of};
-ghost use Rattle.mt_reader.specs.documents.Weights.{HasModestLists, IsModestDocument};
+ghost use Rattle.mt_dvi.specs.Writable.{IsWritable};
+ghost use Rattle.mt_reader.specs.documents.Weights.{IsModestDocument, pages_weight};
+ghost use Rattle.mathset.specs.Pages.{document_pages, page_places, stack_refusal};
+ghost use Rattle.mathset.specs.inner.Lines.{IsLineWidth, LinesHold, LinesStack, page_value};
+ghost use Rattle.mathset.specs.inner.Placed.{IsToldAnswer, PlacedHolds, add_page, nothing_placed, place_rest, placed_value};
 ghost use Rattle.mathset.specs.inner.Steps.{IsPure};
-ghost use Rattle.mathset.specs.Pages.{pages_of_document, first_unbuilt, formula_pages, formulas_pages, pack_refusal, page_places, page_result, place_refusal, row_page};
 
-use crate::setting::formula_row;
+use crate::page_lines::{PageLines, page_lines};
 use crate::status::{Much, Status};
-use mt_box::{PackError, Packed, PageList, PlaceError, PlaceList, Row, hpack, places};
+use mt_box::{PageList, PlaceList};
+use mt_display::{StackError, stack_lines};
 use mt_dvi::MAX_PLACES;
 use mt_family::FontSet;
-use mt_rules::{Document, Formula};
+use mt_rules::Document;
 use mt_scaled::Items;
 use std::alloc::{AllocError, Global};
 
-fn pack_refusal(n: u32, error: PackError) -> Status
-    ensures { result ≡ pack_refusal n error }
+// A page of these formulas, by the lines, has a place out of range, or too many.
+fn stack_refusal(formulas: &[u32], error: StackError) -> Status
+    ensures { result ≡ stack_refusal formulas.now error }
 {
     match error {
-        PackError::Overflow(value) => Status::Overflow {
-            n,
-            value: i128::from(value),
+        StackError::OutOfRange { line, value } => Status::Overflow {
+            n: formulas.get(line as usize).copied().unwrap_or(0),
+            value,
         },
-        PackError::OutOfMemory => Status::OutOfMemory,
-    }
-}
-
-fn place_refusal(n: u32, error: PlaceError) -> Status
-    ensures { result ≡ place_refusal n error }
-{
-    match error {
-        PlaceError::OutOfRange(value) => Status::Overflow { n, value },
-        PlaceError::TooMany => Status::TooMuch {
+        StackError::TooMany => Status::TooMuch {
             kind: Much::Places,
             count: MAX_PLACES + 1,
         },
-        PlaceError::OutOfMemory => Status::OutOfMemory,
+        StackError::OutOfMemory => Status::OutOfMemory,
     }
 }
 
-// The places of a box whose left end is at 0 and whose top is at 0.
-fn page_places(alloc: Global, n: u32, body: &Packed) -> Result<PlaceList, Status>
-    ensures is { IsPure (page_result n (page_places (layout_of body.now))) result }
-    ensures few { IfOk result (λ page. length page ≤ max_places) }
-{
-    match places(alloc, body, 0, body.extents().height, MAX_PLACES) {
-        Ok(page) => Ok(page),
-        Err(error) => Err(place_refusal(n, error)),
-    }
-}
-
-// The page of formula n, of which this is the row.
-fn row_page(alloc: Global, n: u32, row: Row) -> Result<PlaceList, Status>
-    requires few { length row ≤ 2 ^ 21 }
-    requires modest { AllModest row }
-    ensures is { IsPure (row_page n (piece_values row)) result }
-    ensures few { IfOk result (λ page. length page ≤ max_places) }
-{
-    match hpack(alloc, row) {
-        Ok(body) => page_places(alloc, n, &body),
-        Err(error) => Err(pack_refusal(n, error)),
-    }
-}
-
-fn one_page(alloc: Global, page: PlaceList) -> Result<PageList, Status>
-    ensures { IsPure (Ok (page ∷ [])) result }
-{
-    let mut pages = Vec::new(alloc);
-    pages.push(page)?;
-    Ok(Items::from_vec(pages))
-}
-
-// The one page of a formula.
-fn formula_pages(alloc: Global, fonts: &FontSet, formula: Formula) -> Result<PageList, Status>
-    requires modest { HasModestLists formula }
-    ensures is { IsPure (formula_pages fonts.now formula) result }
-    ensures writable { IfOk result (λ pages. All (λ page. All (IsWritable fonts.now) page) pages) }
-    ensures few_places { IfOk result (λ pages. refusal_of pages ≡ None) }
-{
-    let n = formula.number;
-    let row = formula_row(alloc, fonts, formula)?;
-    let page = row_page(alloc, n, row)?;
-    one_page(alloc, page)
-}
-
-// The number of the first formula that is not built: a display, or one behind the first.
-fn first_unbuilt(formulas: &[Formula]) -> Option<u32>
-    ensures { result ≡ first_unbuilt formulas.now }
-{
-    match formulas {
-        [first, ..] if first.display => Some(first.number),
-        [_, next, ..] => Some(next.number),
-        _ => None,
-    }
-}
-
-fn formulas_pages(
+// The places of a page, where there is room for so many. Want of memory alone is an `Err` of the whole.
+fn page_places(
     alloc: Global,
-    fonts: &FontSet,
-    mut formulas: Vec<Formula>,
-) -> Result<PageList, Status>
-    requires modest { All HasModestLists formulas.items }
-    ensures is { IsPure (formulas_pages fonts.now formulas.items) result }
-    ensures writable { IfOk result (λ pages. All (λ page. All (IsWritable fonts.now) page) pages) }
-    ensures few_places { IfOk result (λ pages. refusal_of pages ≡ None) }
+    page: PageLines,
+    room: u64,
+) -> Result<Result<PlaceList, Status>, AllocError>
+    requires laid { LinesStack page.lines.items }
+    ensures is { IfOk result (λ (places : Result (List PlaceFields) Status). places ≡ page_places room (page_value page)) }
+    ensures told { IfOk result IsToldAnswer }
+    ensures few { IfOk result (λ places. IfOk places (λ page. length page ≤ room)) }
+    ensures writable { (fonts : SetValue) → LinesHold fonts (line_values page.lines.items)
+        → IfOk result (λ places. IfOk places (λ page. All (IsWritable fonts) page)) }
 {
-    if let Some(n) = first_unbuilt(&formulas) {
-        return Err(Status::NotBuilt { n });
-    }
-    match formulas.pop() {
-        Some(formula) => formula_pages(alloc, fonts, formula),
-        None => Ok(Items::from_vec(Vec::new(alloc))),
+    let PageLines { lines, formulas } = page;
+    match stack_lines(alloc, &Items::from_vec(lines), room) {
+        Ok(places) => Ok(Ok(places)),
+        Err(StackError::OutOfMemory) => Err(AllocError),
+        Err(error) => Ok(Err(stack_refusal(&formulas, error))),
     }
 }
 
-// The formulas of a document, in order.
-fn formulas_of(alloc: Global, document: Document) -> Result<Vec<Formula>, AllocError>
-    ensures { IfOk result (λ formulas. formulas.items ≡ flat_map (λ page. page) document) }
-{
-    let mut formulas = Vec::new(alloc);
-    for page in document.into_vec() {
-        formulas.append(&mut page.into_vec())?;
-    }
-    Ok(formulas)
+// Pages of places, up to the first fault of a place.
+#[derive(Drop)]
+struct PlacedPages {
+    pages: Vec<PlaceList>,
+    // how many places more there may be
+    room: u64,
+    fault: Option<Status>,
 }
 
-/// The pages of a document: none, or the one of its only formula, whose row begins at h = 0, with its top at v = 0.
+impl PlacedPages {
+    fn new(alloc: Global) -> PlacedPages
+        ensures is { placed_value result ≡ nothing_placed }
+        ensures holds { (fonts : SetValue) → PlacedHolds fonts 0 result }
+    {
+        PlacedPages {
+            pages: Vec::new(alloc),
+            room: MAX_PLACES,
+            fault: None,
+        }
+    }
+
+    // Finds the places of the next page, where none was at fault before.
+    fn add(&mut self, alloc: Global, page: PageLines) -> Result<(), AllocError>
+        requires laid { LinesStack page.lines.items }
+        ensures is { OnOk result (placed_value self.new ≡ add_page (page_value page) (placed_value self.old)) }
+        ensures holds { (fonts : SetValue) → (count : ℕ) → LinesHold fonts (line_values page.lines.items)
+            → PlacedHolds fonts count self.old → OnOk result (PlacedHolds fonts (count + 1) self.new) }
+    {
+        if self.fault.is_some() {
+            return Ok(());
+        }
+        match page_places(alloc, page, self.room)? {
+            Ok(places) => {
+                self.room -= places.len() as u64;
+                self.pages.push(places)?;
+            }
+            Err(status) => self.fault = Some(status),
+        }
+        Ok(())
+    }
+
+    // The pages, or the refusal of the first place at fault.
+    fn finish(self) -> Result<PageList, Status>
+        ensures { result ≡ place_rest (placed_value self) [] }
+    {
+        let PlacedPages { pages, fault, .. } = self;
+        match fault {
+            None => Ok(Items::from_vec(pages)),
+            Some(status) => Err(status),
+        }
+    }
+}
+
+/// The pages of a document. Each formula stands on a line of its own, or on two where its number does not stand beside it;
+/// `width` is the width of a line in scaled points. Lines stand one below another from v = 0 on, 12pt from
+/// baseline to baseline, or 1pt apart.
 ///
 /// # Errors
 ///
-/// `NotBuilt` for the first formula that is displayed, or stands behind another one. Else the first fault of the
-/// formula's row, as [`formula_row`] says, and then `Overflow` with the first coordinate of a place that is out of
-/// range, or `TooMuch` where there are more than 2,000,000 places. `OutOfMemory` where memory ran out.
-pub fn pages_of_document(
+/// The first refusal of a formula, as [`page_lines`] says. Where no formula is refused, the first of these, page by
+/// page and in the order of the places: `Overflow` with a coordinate that is out of range, and the number of its formula; `TooMuch` at
+/// place 2,000,001. `OutOfMemory` where memory ran out.
+pub fn document_pages(
     alloc: Global,
     fonts: &FontSet,
+    width: i64,
     document: Document,
 ) -> Result<PageList, Status>
+    requires width { IsLineWidth width }
     requires modest { IsModestDocument document }
-    ensures is { IsPure (pages_of_document fonts.now document) result }
+    requires few { pages_weight document ≤ 2 ^ 21 }
+    requires pages { length document ≤ 5000 }
+    ensures is { IsPure (document_pages fonts.now width document) result }
     ensures writable { IfOk result (λ pages. All (λ page. All (IsWritable fonts.now) page) pages) }
     ensures few_places { IfOk result (λ pages. refusal_of pages ≡ None) }
 {
-    let formulas = formulas_of(alloc, document)?;
-    formulas_pages(alloc, fonts, formulas)
+    let mut placed = PlacedPages::new(alloc);
+    for page in document.into_vec() {
+        let lines = page_lines(alloc, fonts, width, page)?;
+        placed.add(alloc, lines)?;
+    }
+    placed.finish()
 }

@@ -10,8 +10,20 @@ use mt_scaled::{Bytes, Name};
 use std::alloc::Global;
 use std::process::Abort;
 
-/// The words of a run.
+/// The words of a run that writes a DVI file.
 pub const SET: &[&str] = &["mathset", "set", "toy.fonts", "formula.tex"];
+
+/// The words of a run that writes a listing.
+pub const PLACES: &[&str] = &["mathset", "places", "toy.fonts", "formula.tex"];
+
+/// The words of a run that reads a DVI file.
+pub const READ: &[&str] = &["mathset", "read", "toy.fonts", "formula.tex"];
+
+/// The width of a line, in scaled points.
+pub const LINE: i64 = 30_785_863;
+
+/// How many bytes a sink has room for.
+const ROOM: usize = 100_000;
 
 /// A list of the toy fonts in which the letters are so wide that 17 of them are out of range.
 pub const LARGE: &[u8] =
@@ -53,8 +65,25 @@ fn add(rt: &impl Abort, files: &mut Vec<Held>, file: Held) {
     files.push(file).expect(rt, "memory");
 }
 
+/// A text so many times, between two others.
+pub fn repeated(
+    rt: &impl Abort,
+    alloc: Global,
+    count: usize,
+    head: &[u8],
+    text: &[u8],
+    tail: &[u8],
+) -> Vec<u8> {
+    let mut source = head.to_vec(alloc).expect(rt, "memory");
+    for _ in 0..count {
+        source.extend_from_slice(text).expect(rt, "memory");
+    }
+    source.extend_from_slice(tail).expect(rt, "memory");
+    source
+}
+
 /// A list of fonts, or that of the toy fonts, under the name `toy.fonts`; the toy fonts; `cut.tfm`, which is none; and a
-/// source under the name `formula.tex`.
+/// source, or a DVI file, under the name `formula.tex`.
 pub fn files(rt: &impl Abort, alloc: Global, list: Option<&[u8]>, source: &[u8]) -> FileList {
     let mut files = Vec::new(alloc);
     add(rt, &mut files, font_list(rt, alloc, list));
@@ -80,7 +109,7 @@ pub fn call(rt: &impl Abort, alloc: Global, number: u64) -> CallList {
 
 /// A sink in memory of which one call fails, by its number from 1.
 pub fn sink(rt: &impl Abort, alloc: Global, fail: u64) -> MemorySink {
-    MemorySink::new(alloc, 1000, call(rt, alloc, fail)).expect(rt, "memory")
+    MemorySink::new(alloc, ROOM, call(rt, alloc, fail)).expect(rt, "memory")
 }
 
 fn words_of(rt: &impl Abort, alloc: Global, texts: &[&str]) -> Vec<String> {

@@ -1,0 +1,17 @@
+use Rattle.std.proofs.Common.{ℕ, List}
+use Rattle.std.proofs.lemmas.Result.{err_from_is_err_and}
+use Rattle.mt_outside.specs.declared.files.Held.{Held}
+use Rattle.mt_token.specs.Tokens.{max_source}
+use Rattle.mathset.specs.Outcome.{plain}
+use Rattle.mathset.specs.Reads.{file_of}
+use Rattle.mathset.specs.Typeset.{TypesetValue, typeset_of}
+use Rattle.mathset.proofs.StepLemmas.{step_err}
+use Rattle.mathset.proofs.typesetting.read_source.Goals as goal
+
+pub returns-in_err-source : goal.returns-in_err-source
+returns-in_err-source g c = record {
+  is =
+      let p = err_from_is_err_and c.from_residual.result c.from_residual.ensures.1 in
+      rw (p.1, p.2)
+      (step_err {T = List ℕ} {U = TypesetValue} _ _ (file_of c.args.name.now max_source) (λ (held : List Held) (source : List ℕ). plain (typeset_of c.args.fonts c.args.width source)) c.in_err-source.field-0.0 c.in_err-source.ensures.is);
+}

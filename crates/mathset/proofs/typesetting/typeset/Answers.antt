@@ -1,0 +1,24 @@
+use Rattle.std.proofs.Common.{List}
+use Rattle.std.proofs.lemmas.Result.{err_from_is_err_and}
+use Rattle.mt_outside.specs.declared.files.Held.{Held}
+use Rattle.mt_family.specs.SetValue.{SetValue}
+use Rattle.mathset.specs.FontSteps.{font_set_step}
+use Rattle.mathset.specs.Steps.{source_step}
+use Rattle.mathset.specs.Typeset.{TypesetValue}
+use Rattle.mathset.proofs.LineLemmas.{line_kept}
+use Rattle.mathset.proofs.StepLemmas.{step_then, step_err}
+use Rattle.mathset.proofs.typesetting.typeset.Goals as goal
+
+pub returns : goal.returns
+returns g c = record {
+  is =
+      rw (← c.words.view_is) (step_then _ _ _ (font_set_step c.words.inside.fonts.now) c.in_ok-fonts.fonts (source_step c.words.inside.source.now c.words.inside.line) c.read_source.result c.in_ok-fonts.ensures.is (rw (line_kept c.words.inside.line c.words.invariant.0 c.words.invariant.1) at c.read_source.ensures.is));
+}
+
+pub returns-in_err-fonts : goal.returns-in_err-fonts
+returns-in_err-fonts g c = record {
+  is =
+      let p = err_from_is_err_and c.from_residual.result c.from_residual.ensures.1 in
+      rw (p.1, p.2, ← c.words.view_is)
+      (step_err {T = SetValue} {U = TypesetValue} _ _ (font_set_step c.words.inside.fonts.now) (λ (held : List Held) (fonts : SetValue). source_step c.words.inside.source.now c.words.inside.line fonts held) c.in_err-fonts.field-0.0 c.in_err-fonts.ensures.is);
+}

@@ -1,0 +1,33 @@
+-- What `gen` sets: the toy fonts and a generated source, as files (`sample_files`).
+use Rattle.std.specs.Prelude.{ℕ, pos, List, [], ◌∷◌, Result, Ok, Err, codes}
+use Rattle.mt_outside.specs.declared.files.Held.{Held}
+use Rattle.mt_samples.specs.Bytes.{toy_list_bytes}
+use Rattle.mt_samples.specs.Generator.{generated}
+use Rattle.mt_samples.specs.Which.{toy_bytes}
+use Rattle.mt_samples.specs.declared.Toy.TheVariants.{Roman, Italic, Symbols, Extension}
+use Rattle.mathset.specs.Listing.{summary}
+use Rattle.mathset.specs.RequestValues.{SourceValue}
+use Rattle.mathset.specs.Typeset.{TypesetValue}
+use Rattle.mathset.specs.declared.product.Product.{Product}
+use Rattle.mathset.specs.declared.product.Product.TheVariants.{Text}
+use Rattle.mathset.specs.declared.status.Status.{Status}
+
+-- the toy font list and the generated source, on lines of 6.5in
+abbrev pub sample_words : SourceValue
+sample_words = record { fonts = codes "toy.fonts"; source = codes "generated.tex"; line = pos 30785863 }
+
+-- the files that these words and the list name
+abbrev pub sample_files : ℕ → ℕ → List Held
+sample_files seed count =
+    record { name = codes "toy.fonts"; bytes = toy_list_bytes }
+    ∷ record { name = codes "toyr.tfm"; bytes = toy_bytes Roman }
+    ∷ record { name = codes "toym.tfm"; bytes = toy_bytes Italic }
+    ∷ record { name = codes "toys.tfm"; bytes = toy_bytes Symbols }
+    ∷ record { name = codes "toyx.tfm"; bytes = toy_bytes Extension }
+    ∷ record { name = codes "generated.tex"; bytes = generated seed count }
+    ∷ []
+
+-- the summary of so many formulas, set
+abbrev pub summed : ℕ → Result TypesetValue Status → Result Product Status
+summed count (Ok typeset) = Ok (Text (summary count typeset.pages))
+summed count (Err status) = Err status

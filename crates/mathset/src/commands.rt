@@ -1,0 +1,53 @@
+//! The commands, from their files to what is to be written.
+ghost use Rattle.mathset.specs.inner.Steps.{IsStep};
+ghost use Rattle.mathset.specs.Steps.{places_steps, request_steps, set_steps};
+
+use crate::dvi::read;
+use crate::listing::listing;
+use crate::product::Product;
+use crate::request::{Request, Source};
+use crate::sample::generated_summary;
+use crate::status::Status;
+use crate::typesetting::typeset;
+use mt_outside::Cabinet;
+use std::alloc::Global;
+
+// `set`: the DVI file of the source's pages.
+fn set<C: Cabinet>(alloc: Global, words: &Source<'_>, cabinet: &mut C) -> Result<Product, Status>
+    ensures is { IsStep C.holds C.faults C.lost cabinet.old cabinet.new
+        (set_steps words.now) result }
+{
+    let typeset = typeset(alloc, words, cabinet)?;
+    Ok(Product::File(typeset))
+}
+
+// `places`: the listing of the same pages.
+fn places<C: Cabinet>(alloc: Global, words: &Source<'_>, cabinet: &mut C) -> Result<Product, Status>
+    ensures is { IsStep C.holds C.faults C.lost cabinet.old cabinet.new
+        (places_steps words.now) result }
+{
+    let typeset = typeset(alloc, words, cabinet)?;
+    let text = listing(alloc, &typeset.pages)?;
+    Ok(Product::Text(text))
+}
+
+/// Does what a command line asks for, up to what is to be written.
+///
+/// # Errors
+///
+/// The first refusal of the command's files.
+pub fn perform<C: Cabinet>(
+    alloc: Global,
+    request: &Request<'_>,
+    cabinet: &mut C,
+) -> Result<Product, Status>
+    ensures is { IsStep C.holds C.faults C.lost cabinet.old cabinet.new
+        (request_steps request.now) result }
+{
+    match request {
+        Request::Set(words) => set(alloc, words, cabinet),
+        Request::Places(words) => places(alloc, words, cabinet),
+        Request::Read(words) => read(alloc, words, cabinet),
+        Request::Gen(sample) => generated_summary(alloc, sample),
+    }
+}

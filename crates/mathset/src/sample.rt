@@ -1,0 +1,70 @@
+//! The command `gen`: generated formulas, set with the toy fonts.
+ghost use Rattle.std.specs.Prelude.{◌≡◌, ◌≤◌, IfOk, List, codes};
+ghost use Rattle.mt_outside.specs.declared.files.Held.{Held as HeldFields};
+ghost use Rattle.mathset.specs.Samples.{sample_files, sample_words, summed};
+ghost use Rattle.mathset.specs.Steps.{typeset_steps};
+ghost use Rattle.mathset.specs.inner.Steps.{IsPure};
+
+use crate::product::{Product, Typeset};
+use crate::request::{Sample, Source};
+use crate::status::Status;
+use crate::summary::summary;
+use crate::typesetting::typeset;
+use mt_outside::{FileList, Held, SteadyCabinet};
+use mt_samples::{Toy, generate, toy_list, toy_tfm};
+use mt_scaled::{Bytes, Name};
+use std::alloc::{AllocError, Global};
+
+// The width of a line: 6.5in, the default of `--line`.
+const LINE: i64 = 30_785_863;
+
+fn held(alloc: Global, name: &str, bytes: Bytes) -> Result<Held, AllocError>
+    ensures { IfOk result (λ file. file ≡ record { name = name.now; bytes = bytes }) }
+{
+    Ok(Held {
+        name: Name::from_slice(alloc, name.as_bytes())?,
+        bytes,
+    })
+}
+
+// The toy font list, the toy fonts and the generated source.
+fn sample_files(alloc: Global, sample: &Sample) -> Result<FileList, AllocError>
+    ensures { IfOk result (λ files. files ≡ sample_files sample.now.seed sample.now.count) }
+{
+    let mut files = Vec::new(alloc);
+    files.push(held(alloc, "toy.fonts", toy_list(alloc)?)?)?;
+    files.push(held(alloc, "toyr.tfm", toy_tfm(alloc, Toy::Roman)?)?)?;
+    files.push(held(alloc, "toym.tfm", toy_tfm(alloc, Toy::Italic)?)?)?;
+    files.push(held(alloc, "toys.tfm", toy_tfm(alloc, Toy::Symbols)?)?)?;
+    files.push(held(alloc, "toyx.tfm", toy_tfm(alloc, Toy::Extension)?)?)?;
+    let source = generate(alloc, sample.seed, sample.count)?;
+    files.push(held(alloc, "generated.tex", source)?)?;
+    Ok(FileList::from_vec(files))
+}
+
+fn typeset_sample(alloc: Global, sample: &Sample) -> Result<Typeset, Status>
+    ensures is { IsPure (typeset_steps sample_words
+        (sample_files sample.now.seed sample.now.count)).result result }
+{
+    let mut cabinet = SteadyCabinet::new(sample_files(alloc, sample)?);
+    let words = Source {
+        fonts: "toy.fonts",
+        source: "generated.tex",
+        line: LINE,
+    };
+    typeset(alloc, &words, &mut cabinet)
+}
+
+/// Sets generated formulas with the toy fonts: the product is the summary of their pages.
+///
+/// # Errors
+///
+/// Those of a source that is set; `OutOfMemory` where memory ran out.
+pub fn generated_summary(alloc: Global, sample: &Sample) -> Result<Product, Status>
+    ensures is { IsPure (summed sample.now.count (typeset_steps sample_words
+        (sample_files sample.now.seed sample.now.count)).result) result }
+{
+    let typeset = typeset_sample(alloc, sample)?;
+    let text = summary(alloc, sample.count, &typeset.pages)?;
+    Ok(Product::Text(text))
+}
