@@ -87,7 +87,7 @@ pub fn expand(alloc: Global, macros: &Macros, list: &[Token]) -> Result<TokenLis
 fn copy_tokens(alloc: Global, list: &[&Token]) -> Result<TokenList, AllocError>
     ensures { IfOk result (λ tokens. tokens ≡ tokens_behind list.now) }
 {
-    let mut tokens = Vec::new(alloc);
+    let mut tokens = Vec::with_capacity(alloc, list.len())?;
     for token in list {
         tokens.push(token.copied(alloc)?)?;
     }
@@ -148,7 +148,7 @@ fn run_steps(alloc: Global, macros: &Macros, list: &[Token]) -> Result<TokenList
     requires { length list.now ≤ max_tokens }
     ensures { Expands result (run macros.now max_steps 0 list.now) }
 {
-    let mut passed = Vec::new(alloc);
+    let mut passed = Vec::with_capacity(alloc, list.len())?;
     let mut rest = Inputs::of(alloc, list)?;
     let mut spare = SpareLists::none(alloc);
     let mut steps = 0;

@@ -25,15 +25,9 @@ impl<'a> Inputs<'a> {
     pub fn of(alloc: Global, list: &'a [Token]) -> Result<Inputs<'a>, AllocError>
         ensures { IfOk result (λ w. w ≡ list.now) }
     {
-        let mut tokens = Vec::new(alloc);
-        for token in list {
-            tokens.push(token)?;
-        }
-        let mut inputs = Inputs {
-            items: Vec::new(alloc),
-        };
-        inputs.push_all(&tokens)?;
-        Ok(inputs)
+        let mut items = Vec::with_capacity(alloc, list.len())?;
+        items.extend(list.iter().rev())?;
+        Ok(Inputs { items })
     }
 
     /// How many tokens are left.

@@ -1,5 +1,5 @@
 //! Lists whose memory is used again.
-ghost use Rattle.std.specs.Prelude.{◌≡◌, []};
+ghost use Rattle.std.specs.Prelude.{◌≡◌, [], ◌∷◌, ◌++◌, OnOk};
 
 use mt_token::Token;
 use std::alloc::{AllocError, Global};
@@ -34,7 +34,9 @@ impl<'a> SpareLists<'a> {
     }
 
     /// Keeps a list that is done with.
-    pub fn keep(&mut self, list: Vec<&'a Token>) -> Result<(), AllocError> {
+    pub fn keep(&mut self, list: Vec<&'a Token>) -> Result<(), AllocError>
+        ensures { OnOk result (self.new.lists.items ≡ self.old.lists.items ++ list.entry ∷ []) }
+    {
         self.lists.push(list)?;
         Ok(())
     }
