@@ -12,9 +12,9 @@ use Rattle.mt_reader.specs.declared.read_error.ReadError.{ReadError}
 use Rattle.mt_reader.specs.declared.read_error.ReadError.TheVariants.{UnknownName, DoubleScript, TwoFractions, BadDelimiter, Unbalanced, MisplacedLimits, MissingField, BadNumber, BadDimension, MisplacedNumber, TooDeep, OutOfMemory as NoMemoryToRead}
 use Rattle.mt_reader.specs.declared.document_error.DocError.{DocError}
 use Rattle.mt_reader.specs.declared.document_error.DocError.TheVariants.{Source, Outside, Expand, Read, Total, Pages, OutOfMemory}
-use Rattle.mt_reader.specs.documents.Documents.{DocumentState, DocumentFault, DocumentAnswer, Turn, Goes, Ends, Stops, StopsOutside, document_pages, turn_by, outside_role, turn_answer, pages_from, document}
+use Rattle.mt_reader.specs.documents.Documents.{DocumentState, DocumentFault, DocumentAnswer, Turn, Goes, Ends, Stops, StopsOutside, state_pages, turn_by, outside_role, turn_answer, pages_from, document}
 use Rattle.mt_reader.specs.documents.Refusals.{IsExpandRefusal, IsReadRefusal, IsRefusal}
-use Rattle.mt_reader.specs.documents.Turns.{state_of, refusal_of, IsSpent, state_weight}
+use Rattle.mt_reader.specs.documents.Turns.{state_of, turn_refusal, IsSpent, state_weight}
 
 -- these tokens are left of a document's
 pub record Progress (units : Units) (tokens : List Token) (state : StateFields) (rest : List Token) : Type 0 where
@@ -26,7 +26,7 @@ pub record Progress (units : Units) (tokens : List Token) (state : StateFields) 
   pub total : state.total ≤ 1000000
   pub weight : 2 * state_weight state + length rest ≤ length tokens
 
-at_end : (units : Units) (whole turns : ℕ) (s : DocumentState) → pages_from units whole turns s [] ≡ Ok (document_pages s)
+at_end : (units : Units) (whole turns : ℕ) (s : DocumentState) → pages_from units whole turns s [] ≡ Ok (state_pages s)
 unfolding pages_from
 at_end units whole zero s = refl
 at_end units whole (suc turns) s = refl
@@ -63,25 +63,25 @@ module _ (units : Units) (tokens rest after : List Token) (state : StateFields) 
   turn_at zero enough is e = absurd (omega (arith, enough, ap length e))
   turn_at (suc n) enough is e = (n, is ∙ (ap (pages_from units (length tokens) (suc n) (state_of state)) e ∙ at_token units (length tokens) n (state_of state) t after))
 
-  pub progress_ends : (last : DocumentState) → Progress units tokens state rest → rest ≡ t ∷ after → turn_by units (state_of state) after (outside_role t.kind) ≡ Ends last → document units plain_codes plain_table tokens ≡ Ok (document_pages last)
+  pub progress_ends : (last : DocumentState) → Progress units tokens state rest → rest ≡ t ∷ after → turn_by units (state_of state) after (outside_role t.kind) ≡ Ends last → document units plain_codes plain_table tokens ≡ Ok (state_pages last)
   progress_ends last p e turn =
       let at = turn_at p.turns p.enough p.is e in
       at.1 ∙ ap (turn_answer units (length tokens) (pages_from units (length tokens) at.0)) turn
 
-  same_refusal : (again : DocumentState → List Token → DocumentAnswer) (turn : Turn) (f : DocumentFault) → refusal_of (length tokens) turn ≡ Err f → turn_answer units (length tokens) again turn ≡ Err f
+  same_refusal : (again : DocumentState → List Token → DocumentAnswer) (turn : Turn) (f : DocumentFault) → turn_refusal (length tokens) turn ≡ Err f → turn_answer units (length tokens) again turn ≡ Err f
   same_refusal again (Goes s left) f e = absurd (cc)
   same_refusal again (Ends s) f e = absurd (cc)
   same_refusal again (Stops refusal) f e = e
   same_refusal again (StopsOutside n cause left) f e = e
 
-  refused_expand : (again : DocumentState → List Token → DocumentAnswer) (turn : Turn) (n : ℕ) (cause : ExpandError) → IsExpandRefusal n cause (refusal_of (length tokens) turn) → IsExpandRefusal n cause (turn_answer units (length tokens) again turn)
+  refused_expand : (again : DocumentState → List Token → DocumentAnswer) (turn : Turn) (n : ℕ) (cause : ExpandError) → IsExpandRefusal n cause (turn_refusal (length tokens) turn) → IsExpandRefusal n cause (turn_answer units (length tokens) again turn)
   refused_expand again turn n (Budget steps size) e = same_refusal again turn _ e
   refused_expand again turn n (MissingArgument place) e = same_refusal again turn _ e
   refused_expand again turn n (UnbalancedList place) e = same_refusal again turn _ e
   refused_expand again turn n TooLong e = same_refusal again turn _ e
   refused_expand again turn n NoMemoryToExpand e = e
 
-  refused_read : (again : DocumentState → List Token → DocumentAnswer) (turn : Turn) (n : ℕ) (cause : ReadError) → IsReadRefusal n cause (refusal_of (length tokens) turn) → IsReadRefusal n cause (turn_answer units (length tokens) again turn)
+  refused_read : (again : DocumentState → List Token → DocumentAnswer) (turn : Turn) (n : ℕ) (cause : ReadError) → IsReadRefusal n cause (turn_refusal (length tokens) turn) → IsReadRefusal n cause (turn_answer units (length tokens) again turn)
   refused_read again turn n (UnknownName place) e = same_refusal again turn _ e
   refused_read again turn n (DoubleScript place) e = same_refusal again turn _ e
   refused_read again turn n (TwoFractions place) e = same_refusal again turn _ e
@@ -95,7 +95,7 @@ module _ (units : Units) (tokens rest after : List Token) (state : StateFields) 
   refused_read again turn n (TooDeep place) e = same_refusal again turn _ e
   refused_read again turn n NoMemoryToRead e = e
 
-  refused : (again : DocumentState → List Token → DocumentAnswer) (turn : Turn) (error : DocError) → IsRefusal error (refusal_of (length tokens) turn) → IsRefusal error (turn_answer units (length tokens) again turn)
+  refused : (again : DocumentState → List Token → DocumentAnswer) (turn : Turn) (error : DocError) → IsRefusal error (turn_refusal (length tokens) turn) → IsRefusal error (turn_answer units (length tokens) again turn)
   refused again turn (Source cause) e = same_refusal again turn _ e
   refused again turn (Outside n place cause) e = same_refusal again turn _ e
   refused again turn (Expand n cause) e = refused_expand again turn n cause e
@@ -104,11 +104,11 @@ module _ (units : Units) (tokens rest after : List Token) (state : StateFields) 
   refused again turn (Pages count) e = same_refusal again turn _ e
   refused again turn OutOfMemory e = tt
 
-  pub progress_refused : (error : DocError) → Progress units tokens state rest → rest ≡ t ∷ after → IsRefusal error (refusal_of (length tokens) (turn_by units (state_of state) after (outside_role t.kind))) → IsRefusal error (document units plain_codes plain_table tokens)
+  pub progress_refused : (error : DocError) → Progress units tokens state rest → rest ≡ t ∷ after → IsRefusal error (turn_refusal (length tokens) (turn_by units (state_of state) after (outside_role t.kind))) → IsRefusal error (document units plain_codes plain_table tokens)
   progress_refused error p e is =
       let at = turn_at p.turns p.enough p.is e in
       subst (IsRefusal error) (sym at.1) (refused (pages_from units (length tokens) at.0) (turn_by units (state_of state) after (outside_role t.kind)) error is)
 
 -- and where the tokens end
-pub progress_over : (units : Units) (tokens rest : List Token) (state : StateFields) → Progress units tokens state rest → rest ≡ [] → document units plain_codes plain_table tokens ≡ Ok (document_pages (state_of state))
+pub progress_over : (units : Units) (tokens rest : List Token) (state : StateFields) → Progress units tokens state rest → rest ≡ [] → document units plain_codes plain_table tokens ≡ Ok (state_pages (state_of state))
 progress_over units tokens rest state p e = p.is ∙ (ap (pages_from units (length tokens) p.turns (state_of state)) e ∙ at_end units (length tokens) p.turns (state_of state))

@@ -18,12 +18,12 @@ use Rattle.mt_reader.specs.Formulas.{Reading, Reads, ReadFault, reading}
 use Rattle.mt_reader.specs.documents.Definitions.{MacroDefinition, macro_definition}
 use Rattle.mt_reader.specs.documents.Assignments.{math_code_assignment, delcode_assignment}
 use Rattle.mt_reader.specs.documents.Dollars.{begins_display, between_dollars}
-use Rattle.mt_reader.specs.documents.Documents.{DocumentState, DocumentAnswer, start_state, Turn, Goes, Ends, Stops, StopsOutside, TooManyTokens, outside_role, with_page, document_pages, with_table, after_definition, after_assignment, is_empty_page, is_page_limit, after_reading, after_expansion, formula_in, formula_turn, turn_by, turn_answer, pages_from, document}
+use Rattle.mt_reader.specs.documents.Documents.{DocumentState, DocumentAnswer, start_state, Turn, Goes, Ends, Stops, StopsOutside, TooManyTokens, outside_role, with_page, state_pages, with_table, after_definition, after_assignment, is_empty_page, is_page_limit, after_reading, after_expansion, formula_in, formula_turn, turn_by, turn_answer, pages_from, document}
 use Rattle.mt_reader.specs.documents.Refusals.{IsDocument}
 
 -- what has been read makes at most so many pages
 abbrev FewPages : DocumentState → Type 0
-FewPages s = length (document_pages s) ≤ 5000
+FewPages s = length (state_pages s) ≤ 5000
 
 push_length : (pages : List (List Formula)) (page : List Formula) → length (pages ++ page ∷ []) ≡ length pages + 1
 push_length [] page = refl

@@ -6,7 +6,9 @@ ghost use Rattle.mt_reader.specs.Role.{is_open_brace};
 ghost use Rattle.mt_reader.specs.Meets.{Meets};
 ghost use Rattle.mt_reader.specs.machine.OpenLists.{hand_of};
 ghost use Rattle.mt_reader.specs.declared.part.ReadCause.TheVariants.{MissingField};
-ghost use Rattle.mt_reader.specs.machine.Actions.{HasRoom, Opens, field_start_here, field_start, coded_action, nucleus_action, script_action, amount_action, fence_action, action, action_here, spent, MeetsUnlessStop};
+ghost use Rattle.mt_reader.specs.machine.Actions.{HasRoom, Opens, field_start_here, field_start};
+ghost use Rattle.mt_reader.specs.machine.Actions.{coded_action, nucleus_action, script_action, amount_action};
+ghost use Rattle.mt_reader.specs.machine.Actions.{fence_action, action, action_here, spent, MeetsUnlessStop};
 ghost use Rattle.mt_reader.specs.machine.Words.{is_number_word, is_opening_word, is_hand_word};
 ghost use Rattle.mt_reader.specs.Atoms.{AtomValue};
 ghost use Rattle.mt_token.specs.declared.token.Token.{Token as TokenType};
@@ -242,7 +244,8 @@ fn script_action<'a>(
 fn glue_action<'a>(units: Units, mu: bool, tokens: &'a [Token]) -> Result<Part<'a, Action>, Fault>
     requires em { Within (2 ^ 31) units.em }
     requires ex { Within (2 ^ 31) units.ex }
-    ensures is { Meets result (then_read (glue units mu tokens.now) (λ g rest. Got (Item (if mu then MuSpace g else Space g)) rest)) }
+    ensures is { Meets result (then_read (glue units mu tokens.now)
+        (λ g rest. Got (Item (if mu then MuSpace g else Space g)) rest)) }
     ensures falls { IfOk result (λ part. length part.rest.now ≤ length tokens.now) }
 {
     match glue(units, mu, tokens) {
@@ -264,7 +267,8 @@ fn glue_action<'a>(units: Units, mu: bool, tokens: &'a [Token]) -> Result<Part<'
 fn kern_action<'a>(units: Units, mu: bool, tokens: &'a [Token]) -> Result<Part<'a, Action>, Fault>
     requires em { Within (2 ^ 31) units.em }
     requires ex { Within (2 ^ 31) units.ex }
-    ensures is { Meets result (then_read (dimension units mu tokens.now) (λ k rest. Got (Item (if mu then MuKern k else Kern k)) rest)) }
+    ensures is { Meets result (then_read (dimension units mu tokens.now)
+        (λ k rest. Got (Item (if mu then MuKern k else Kern k)) rest)) }
     ensures falls { IfOk result (λ part. length part.rest.now ≤ length tokens.now) }
 {
     match dimension(units, mu, tokens) {
@@ -335,7 +339,8 @@ fn number_action<'a>(
     after: &'a [Token],
 ) -> Result<Part<'a, Action>, Fault>
     requires { is_number_word role ≡ true }
-    ensures is { (hand : Option AtomValue) (t : TokenType) → Meets result (action codes.now units depth family hand t after.now role) }
+    ensures is { (hand : Option AtomValue) (t : TokenType) →
+        Meets result (action codes.now units depth family hand t after.now role) }
     ensures falls { IfOk result (λ part. length part.rest.now ≤ length after.now) }
 {
     match role {
@@ -397,7 +402,8 @@ fn opening_action<'a>(
 ) -> Result<Part<'a, Action>, Fault>
     requires role { role_of codes.now token.now ≡ role }
     requires opens { is_opening_word role ≡ true }
-    ensures is { (family : Option ℕ) (hand : Option AtomValue) → Meets result (action codes.now units depth family hand token.now after.now role) }
+    ensures is { (family : Option ℕ) (hand : Option AtomValue) →
+        Meets result (action codes.now units depth family hand token.now after.now role) }
     ensures falls { IfOk result (λ part. length part.rest.now ≤ length after.now) }
 {
     match role {
@@ -439,7 +445,8 @@ fn hand_action<'a>(
     after: &'a [Token],
 ) -> Result<Part<'a, Action>, Fault>
     requires { is_hand_word role ≡ true }
-    ensures is { (t : TokenType) → Meets result (action codes.now units list.now.depth list.now.family (hand_of list.now.hand) t after.now role) }
+    ensures is { (t : TokenType) → Meets result
+        (action codes.now units list.now.depth list.now.family (hand_of list.now.hand) t after.now role) }
     ensures falls { IfOk result (λ part. length part.rest.now + spent part.value ≤ length after.now + 1) }
 {
     match role {
@@ -486,8 +493,11 @@ fn role_action<'a>(
     requires em { Within (2 ^ 31) units.em }
     requires ex { Within (2 ^ 31) units.ex }
     requires role { role_of codes.now token.now ≡ role }
-    ensures is { MeetsUnlessStop result (action codes.now units list.now.depth list.now.family (hand_of list.now.hand) token.now after.now role) (token.now ∷ after.now) }
-    ensures falls { IfOk result (λ read. IfSome read (λ part. length part.rest.now + spent part.value ≤ length after.now + 1)) }
+    ensures is { MeetsUnlessStop result
+        (action codes.now units list.now.depth list.now.family (hand_of list.now.hand) token.now after.now role)
+        (token.now ∷ after.now) }
+    ensures falls { IfOk result (λ read. IfSome read
+        (λ part. length part.rest.now + spent part.value ≤ length after.now + 1)) }
 {
     let depth = list.depth;
     let family = list.family;
@@ -541,7 +551,8 @@ pub fn action_here<'a>(
 ) -> Result<Part<'a, Action>, Fault>
     requires em { Within (2 ^ 31) units.em }
     requires ex { Within (2 ^ 31) units.ex }
-    ensures is { Meets result (action_here codes.now units list.now.depth list.now.family (hand_of list.now.hand) tokens.now) }
+    ensures is { Meets result
+        (action_here codes.now units list.now.depth list.now.family (hand_of list.now.hand) tokens.now) }
     ensures falls { IfOk result (λ part. length part.rest.now + spent part.value ≤ length tokens.now) }
 {
     match tokens {

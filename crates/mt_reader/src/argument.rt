@@ -1,5 +1,6 @@
 //! The argument after primes and `^`.
-ghost use Rattle.std.specs.Prelude.{◌≡◌, ◌≤◌, ◌<◌, ℕ, ◌+◌, ◌^◌, ◌==◌, ◌&&◌, length, take, drop, IfOk, None, Some, MatchOption};
+ghost use Rattle.std.specs.Prelude.{◌≡◌, ◌≤◌, ◌<◌, ℕ, ◌+◌, ◌^◌, ◌==◌, ◌&&◌, length, take, drop, IfOk};
+ghost use Rattle.std.specs.Prelude.{None, Some, MatchOption};
 ghost use Rattle.mt_reader.specs.machine.Arguments.{GivesArgument, GivesBraced};
 ghost use Rattle.mt_reader.specs.machine.Frames.{left_after};
 

@@ -1,7 +1,8 @@
 //! Assignments of codes (The TeXbook, chapter 17).
 ghost use Rattle.std.specs.Prelude.{◌≡◌, ◌≤◌, length, true, IfOk};
 ghost use Rattle.mt_plain.specs.CodeTables.{is_delcode};
-ghost use Rattle.mt_reader.specs.documents.Assignments.{after_equals, code_or_none, delimiter_value, math_code_assignment, delcode_assignment};
+ghost use Rattle.mt_reader.specs.documents.Assignments.{after_equals, code_or_none, delimiter_value};
+ghost use Rattle.mt_reader.specs.documents.Assignments.{math_code_assignment, delcode_assignment};
 ghost use Rattle.mt_reader.specs.documents.Lent.{Assigns};
 ghost use Rattle.mt_reader.specs.Meets.{Meets};
 

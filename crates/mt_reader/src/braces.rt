@@ -1,5 +1,6 @@
 //! Braces and their partners.
-ghost use Rattle.std.specs.Prelude.{◌≡◌, ◌≤◌, ◌<◌, ℕ, ◌+◌, ◌^◌, ◌==◌, ◌&&◌, length, take, drop, None, Some, MatchOption};
+ghost use Rattle.std.specs.Prelude.{◌≡◌, ◌≤◌, ◌<◌, ℕ, ◌+◌, ◌^◌, ◌==◌, ◌&&◌, length, take, drop};
+ghost use Rattle.std.specs.Prelude.{None, Some, MatchOption};
 ghost use Rattle.mt_macro.specs.Braces.{group, is_close, is_open, level_after};
 
 use crate::spaces::character_code;

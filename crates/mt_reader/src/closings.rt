@@ -26,7 +26,7 @@ use crate::turned::Turned;
 use mt_plain::Codes;
 use mt_rules::Field;
 use mt_token::Token;
-use std::alloc::Global;
+use std::alloc::{AllocError, Global};
 
 // A group ends that is the nucleus of an atom of this kind.
 fn close_nucleus<'a>(
@@ -49,6 +49,7 @@ fn close_nucleus<'a>(
 
 // A group ends that is a script.
 fn close_script<'a>(
+    alloc: Global,
     list: OpenList,
     side: Side,
     all: InnerItems,
@@ -60,20 +61,25 @@ fn close_script<'a>(
     ensures falls { IfOk result (λ turned. length turned.rest.now ≤ length tokens.now) }
 {
     Ok(Turned {
-        list: resume_script(list, side, all),
+        list: resume_script(alloc, list, side, all)?,
         rest: after_first(tokens),
     })
 }
 
 // The argument ends of a superscript that primes begin, with these tokens behind it.
-fn close_argument<'a>(list: OpenList, all: InnerItems, after: &'a [Token]) -> Turned<'a>
-    ensures list { ResumesArgument (inner_sequence all) list result.list }
-    ensures rest { result.rest ≡ after.entry }
+fn close_argument<'a>(
+    alloc: Global,
+    list: OpenList,
+    all: InnerItems,
+    after: &'a [Token],
+) -> Result<Turned<'a>, AllocError>
+    ensures list { IfOk result (λ turned. ResumesArgument (inner_sequence all) list turned.list) }
+    ensures rest { IfOk result (λ turned. turned.rest ≡ after.entry) }
 {
-    Turned {
-        list: put_script(list, Side::Up, Field::List(into_list(all))),
+    Ok(Turned {
+        list: put_script(alloc, list, Side::Up, Field::List(into_list(all)))?,
         rest: after,
-    }
+    })
 }
 
 /// What becomes of the list of a frame when the one in it ends, with these items: by what that one
@@ -95,11 +101,11 @@ pub fn close_list<'a>(
     let Frame { owner, list } = frame;
     match owner {
         Owner::Nucleus(kind) => close_nucleus(alloc, list, kind, all, tokens),
-        Owner::Script(side) => close_script(list, side, all, tokens),
+        Owner::Script(side) => close_script(alloc, list, side, all, tokens),
         Owner::Fence(left) => close_fence(alloc, codes, list, left, all, tokens),
         Owner::Choice(lists) => close_choice(alloc, codes, frames, list, lists, all, tokens),
         Owner::Row(done) => close_row(alloc, codes, frames, list, done, all, tokens),
-        Owner::Argument(after, _) => Ok(close_argument(list, all, after)),
+        Owner::Argument(after, _) => Ok(close_argument(alloc, list, all, after)?),
         Owner::OpenArgument => Err(Stop::Fault(Fault {
             cause: ReadCause::Unbalanced,
             left: 0,

@@ -2,7 +2,8 @@
 ghost use Rattle.std.specs.Prelude.{◌≡◌, ◌≤◌, ◌^◌, codes, length, IfOk, IfSome};
 ghost use Rattle.mt_scaled.specs.Number.{Within, max_dimen};
 ghost use Rattle.mt_reader.specs.Numbers.{with_sign};
-ghost use Rattle.mt_reader.specs.Dimensions.{is_dimension, dimension_of, dimension_from, dimension, after_letters, amount, glue};
+ghost use Rattle.mt_reader.specs.Dimensions.{is_dimension, dimension_of, dimension_from, dimension};
+ghost use Rattle.mt_reader.specs.Dimensions.{after_letters, amount, glue};
 ghost use Rattle.mt_reader.specs.Meets.{Meets, IsAfter};
 
 use crate::decimals::{Decimal, bad_dimension, factor};

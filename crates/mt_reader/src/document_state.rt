@@ -8,7 +8,8 @@ ghost use Rattle.mt_macro.specs.Expansion.{Expands, expansion};
 ghost use Rattle.mt_reader.specs.Answers.{ReadsAs};
 ghost use Rattle.mt_reader.specs.Formulas.{reading};
 ghost use Rattle.mt_reader.specs.documents.Assignments.{math_code_assignment, delcode_assignment};
-ghost use Rattle.mt_reader.specs.documents.Documents.{start_state, document_pages, after_page_end, is_page_limit, with_formula};
+ghost use Rattle.mt_reader.specs.documents.Documents.{start_state, state_pages, after_page_end};
+ghost use Rattle.mt_reader.specs.documents.Documents.{is_page_limit, with_formula};
 ghost use Rattle.mt_reader.specs.documents.Turns.{state_of, SetsTables, changes_macros};
 
 use crate::assignments::{assign_delcode, assign_math_code};
@@ -169,7 +170,7 @@ impl DocumentState {
 
     /// The pages, where the document ends.
     pub fn into_document(self, alloc: Global) -> Result<Document, AllocError>
-        ensures { IfOk result (λ pages. pages ≡ document_pages (state_of self)) }
+        ensures { IfOk result (λ pages. pages ≡ state_pages (state_of self)) }
     {
         let mut last = self;
         last.end_page(alloc)?;

@@ -3,7 +3,9 @@ ghost use Rattle.std.specs.Prelude.{◌≡◌, ℕ, ◌≤◌, ◌<◌, ◌+◌,
 ghost use Rattle.mt_scaled.specs.Number.{Within};
 ghost use Rattle.mt_reader.specs.documents.Definitions.{macro_definition};
 ghost use Rattle.mt_reader.specs.documents.Assignments.{math_code_assignment, delcode_assignment};
-ghost use Rattle.mt_reader.specs.documents.Documents.{after_definition, after_assignment, after_reading, after_expansion, formula_turn, after_page_end, is_page_limit, turn_by, outside_role, Goes};
+ghost use Rattle.mt_reader.specs.documents.Documents.{after_definition, after_assignment, after_reading};
+ghost use Rattle.mt_reader.specs.documents.Documents.{after_expansion, formula_turn, after_page_end};
+ghost use Rattle.mt_reader.specs.documents.Documents.{is_page_limit, turn_by, outside_role, Goes};
 ghost use Rattle.mt_macro.specs.Expansion.{Expanded, expansion};
 ghost use Rattle.mt_reader.specs.Formulas.{reading};
 ghost use Rattle.mt_reader.specs.documents.Turns.{state_of, Turns, Spends, ReadsOne, expand_error, read_error};

@@ -1,7 +1,8 @@
 //! The tokens of a formula, between its dollars (The TeXbook, chapter 24).
 ghost use Rattle.std.specs.Prelude.{◌≡◌, ◌≤◌, ◌<◌, ◌+◌, ◌*◌, ◌==◌, ◌&&◌, length, IfSome, IsTrue};
-ghost use Rattle.mt_reader.specs.documents.Dollars.{is_math_shift_token, begins_with_dollar, ends_formula, after_end, up_to_end, begins_display, between_dollars};
-ghost use Rattle.mt_reader.specs.documents.Lent.{Takes};
+ghost use Rattle.mt_reader.specs.documents.Dollars.{is_math_shift_token, begins_with_dollar, ends_formula};
+ghost use Rattle.mt_reader.specs.documents.Dollars.{after_end, up_to_end, begins_display, between_dollars};
+ghost use Rattle.mt_reader.specs.documents.Lent.{TakesAs};
 ghost use Rattle.mt_reader.specs.documents.Weights.{dollars};
 
 use crate::braces::{closes_none, level_after};
@@ -52,8 +53,9 @@ fn after_end<'a>(display: bool, after: &'a [Token]) -> &'a [Token]
 
 // A formula up to its end outside of all groups; `None` without an end, or where a `}` closes no group.
 fn up_to_end<'a>(display: bool, tokens: &'a [Token]) -> Option<Taken<'a>>
-    ensures is { Takes result (up_to_end display 0 tokens.now) }
-    ensures falls { IfSome result (λ t. length t.argument.now + length t.after.now + dollars display ≤ length tokens.now) }
+    ensures is { TakesAs result (up_to_end display 0 tokens.now) }
+    ensures falls { IfSome result
+        (λ t. length t.argument.now + length t.after.now + dollars display ≤ length tokens.now) }
 {
     let mut level = 0;
     let mut at = 0;
@@ -85,7 +87,7 @@ pub fn begins_display(tokens: &[Token]) -> bool
 /// A formula after its first dollar, and the tokens after its last one; `None` where it has no end, or where a `}`
 /// closes no group.
 pub fn between_dollars<'a>(tokens: &'a [Token]) -> Option<Taken<'a>>
-    ensures is { Takes result (between_dollars tokens.now) }
+    ensures is { TakesAs result (between_dollars tokens.now) }
     ensures falls { IfSome result (λ t. length t.argument.now + length t.after.now
         + 2 * dollars (begins_display tokens.now) ≤ length tokens.now + 1) }
 {

@@ -50,9 +50,8 @@ fn resume_fence(
 {
     let inner = Field::List(into_fenced(left, all, right)?);
     put_hand(
-        alloc,
         list,
-        plain_hand(NucleusKind::Class(Class::Inner), inner),
+        plain_hand(alloc, NucleusKind::Class(Class::Inner), inner)?,
     )
 }
 

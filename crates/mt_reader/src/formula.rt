@@ -5,7 +5,8 @@ ghost use Rattle.mt_reader.specs.Parts.{Read};
 ghost use Rattle.mt_reader.specs.Answers.{IsFault, ReadsAs};
 ghost use Rattle.mt_reader.specs.Counts.{formula_items, IsModestFormula};
 ghost use Rattle.mt_reader.specs.Meets.{cause_number};
-ghost use Rattle.mt_reader.specs.Formulas.{FormulaParts, ReadFault, reading_of, is_at_left, body_ending, stretch, formula, reading};
+ghost use Rattle.mt_reader.specs.Formulas.{FormulaParts, ReadFault, reading_of, is_at_left, body_ending};
+ghost use Rattle.mt_reader.specs.Formulas.{stretch, formula, reading};
 ghost use Rattle.mt_reader.specs.machine.Reads.{HasFault, ReadsFormula};
 
 use crate::ending::Ending;

@@ -20,7 +20,8 @@ pub fn push_frame<'a>(frames: &mut Vec<Frame<'a>>, frame: Frame<'a>) -> Result<(
 
 /// The innermost frame, if there is one.
 pub fn pop_frame<'a>(frames: &mut Vec<Frame<'a>>) -> Option<Frame<'a>>
-    ensures { MatchOption result ((reverse frames.old.items ≡ []) × (reverse frames.new.items ≡ [])) (λ f. reverse frames.old.items ≡ f ∷ reverse frames.new.items) }
+    ensures { MatchOption result ((reverse frames.old.items ≡ []) × (reverse frames.new.items ≡ []))
+        (λ f. reverse frames.old.items ≡ f ∷ reverse frames.new.items) }
 {
     frames.pop()
 }
@@ -35,7 +36,8 @@ pub fn open_group<'a>(
 ) -> Result<OpenList, AllocError>
     requires { list.depth < 150 }
     ensures begins { IfOk result (λ new. Begins End None (list.depth + 1) list.family ending new) }
-    ensures pushed { OnOk result (reverse frames.new.items ≡ record { owner = owner.entry; list = list } ∷ reverse frames.old.items) }
+    ensures pushed { OnOk result (reverse frames.new.items
+        ≡ record { owner = owner.entry; list = list } ∷ reverse frames.old.items) }
     ensures count { OnOk result (length frames.new.items ≡ length frames.old.items + 1) }
 {
     let depth = list.depth + 1;

@@ -4,9 +4,10 @@ ghost use Rattle.mt_rules.specs.Sequence.{RowsPart};
 ghost use Rattle.mt_rules.specs.declared.kind.Kind.TheVariants.{Vcenter};
 ghost use Rattle.mt_rules.specs.View.{element_of, part_of_field};
 ghost use Rattle.mt_reader.specs.Role.{nucleus_kind};
-ghost use Rattle.mt_reader.specs.Atoms.{element_of_atom, plain_atom, scripted_atom, holds_nothing, is_free, is_op_kind, is_op, with_script, with_limits};
+ghost use Rattle.mt_reader.specs.Atoms.{element_of_atom, plain_atom, scripted_atom, holds_nothing, is_free};
+ghost use Rattle.mt_reader.specs.Atoms.{is_op_kind, is_op, with_script, with_limits};
 ghost use Rattle.mt_reader.specs.machine.Facts.{stands_inside, holds_rows};
-ghost use Rattle.mt_reader.specs.machine.OpenLists.{hand_value, hand_of};
+ghost use Rattle.mt_reader.specs.machine.OpenLists.{atom_value, hand_value, hand_of};
 
 use crate::hand::Hand;
 use crate::role::{NucleusKind, Side};
@@ -14,28 +15,11 @@ use mt_rules::{Atom, Class, Field, Item, Kind, Limits, RowList};
 use std::alloc::{AllocError, Global};
 
 /// The atom as an item.
-pub fn into_item(alloc: Global, hand: Hand) -> Result<Item, AllocError>
-    ensures is { IfOk result (λ item. element_of item ≡ element_of_atom (hand_value hand)) }
-    ensures inside { IfOk result (λ item. stands_inside (element_of item) ≡ true) }
+pub fn into_item(hand: Hand) -> Item
+    ensures is { element_of result ≡ element_of_atom (hand_value hand) }
+    ensures inside { stands_inside (element_of result) ≡ true }
 {
-    let Hand {
-        kind,
-        limits,
-        nucleus,
-        sup,
-        sub,
-    } = hand;
-    let atom = Box::new(
-        alloc,
-        Atom {
-            kind,
-            limits,
-            nucleus,
-            sup,
-            sub,
-        },
-    )?;
-    Ok(Item::Atom(atom))
+    Item::Atom(hand.atom)
 }
 
 fn nucleus_kind(kind: NucleusKind) -> Kind
@@ -50,13 +34,11 @@ fn nucleus_kind(kind: NucleusKind) -> Kind
     }
 }
 
-/// An atom of a kind without scripts.
-pub fn plain_hand(kind: NucleusKind, nucleus: Field) -> Hand
-    requires { holds_rows (part_of_field nucleus) ≡ false }
-    ensures { hand_value result ≡ plain_atom (nucleus_kind kind) (part_of_field nucleus) }
+fn plain_atom(kind: Kind, nucleus: Field) -> Atom
+    ensures { atom_value result ≡ plain_atom kind (part_of_field nucleus) }
 {
-    Hand {
-        kind: nucleus_kind(kind),
+    Atom {
+        kind,
         limits: Limits::Default,
         nucleus,
         sup: Field::Empty,
@@ -64,25 +46,30 @@ pub fn plain_hand(kind: NucleusKind, nucleus: Field) -> Hand
     }
 }
 
-/// A vcenter atom without scripts.
-pub fn vcenter_hand(rows: RowList) -> Hand
-    ensures { hand_value result ≡ plain_atom Vcenter (RowsPart rows) }
+/// An atom of a kind without scripts, at hand.
+pub fn plain_hand(alloc: Global, kind: NucleusKind, nucleus: Field) -> Result<Hand, AllocError>
+    requires { holds_rows (part_of_field nucleus) ≡ false }
+    ensures { IfOk result (λ hand. hand_value hand
+        ≡ plain_atom (nucleus_kind kind) (part_of_field nucleus)) }
 {
-    Hand {
-        kind: Kind::Vcenter,
-        limits: Limits::Default,
-        nucleus: Field::Rows(rows),
-        sup: Field::Empty,
-        sub: Field::Empty,
-    }
+    let atom = Box::new(alloc, plain_atom(nucleus_kind(kind), nucleus))?;
+    Ok(Hand { atom })
 }
 
-fn scripted(hand: Option<Hand>) -> Hand
-    ensures { hand_value result ≡ scripted_atom (hand_of hand) }
+/// A vcenter atom without scripts, at hand.
+pub fn vcenter_hand(alloc: Global, rows: RowList) -> Result<Hand, AllocError>
+    ensures { IfOk result (λ hand. hand_value hand ≡ plain_atom Vcenter (RowsPart rows)) }
+{
+    let atom = Box::new(alloc, plain_atom(Kind::Vcenter, Field::Rows(rows)))?;
+    Ok(Hand { atom })
+}
+
+fn scripted(alloc: Global, hand: Option<Hand>) -> Result<Hand, AllocError>
+    ensures { IfOk result (λ new. hand_value new ≡ scripted_atom (hand_of hand)) }
 {
     match hand {
-        Some(hand) => hand,
-        None => plain_hand(NucleusKind::Class(Class::Ord), Field::Empty),
+        Some(hand) => Ok(hand),
+        None => plain_hand(alloc, NucleusKind::Class(Class::Ord), Field::Empty),
     }
 }
 
@@ -90,51 +77,36 @@ fn with_sup(hand: Hand, part: Field) -> Hand
     requires { holds_rows (part_of_field part) ≡ false }
     ensures { hand_value result ≡ record (hand_value hand) { sup = part_of_field part } }
 {
-    let Hand {
-        kind,
-        limits,
-        nucleus,
-        sub,
-        ..
-    } = hand;
-    Hand {
-        kind,
-        limits,
-        nucleus,
-        sup: part,
-        sub,
-    }
+    let Hand { mut atom } = hand;
+    atom.sup = part;
+    Hand { atom }
 }
 
 fn with_sub(hand: Hand, part: Field) -> Hand
     requires { holds_rows (part_of_field part) ≡ false }
     ensures { hand_value result ≡ record (hand_value hand) { sub = part_of_field part } }
 {
-    let Hand {
-        kind,
-        limits,
-        nucleus,
-        sup,
-        ..
-    } = hand;
-    Hand {
-        kind,
-        limits,
-        nucleus,
-        sup,
-        sub: part,
-    }
+    let Hand { mut atom } = hand;
+    atom.sub = part;
+    Hand { atom }
 }
 
 /// The atom at hand, or a new one, with a script.
-pub fn with_script(side: Side, part: Field, hand: Option<Hand>) -> Hand
+pub fn with_script(
+    alloc: Global,
+    side: Side,
+    part: Field,
+    hand: Option<Hand>,
+) -> Result<Hand, AllocError>
     requires { holds_rows (part_of_field part) ≡ false }
-    ensures { hand_value result ≡ with_script side (part_of_field part) (hand_of hand) }
+    ensures { IfOk result (λ new. hand_value new
+        ≡ with_script side (part_of_field part) (hand_of hand)) }
 {
-    match side {
-        Side::Up => with_sup(scripted(hand), part),
-        Side::Down => with_sub(scripted(hand), part),
-    }
+    let hand = scripted(alloc, hand)?;
+    Ok(match side {
+        Side::Up => with_sup(hand, part),
+        Side::Down => with_sub(hand, part),
+    })
 }
 
 fn holds_nothing(part: &Field) -> bool
@@ -150,8 +122,8 @@ pub fn is_free(side: Side, hand: &Option<Hand>) -> bool
     match hand {
         None => true,
         Some(hand) => match side {
-            Side::Up => holds_nothing(&hand.sup),
-            Side::Down => holds_nothing(&hand.sub),
+            Side::Up => holds_nothing(&hand.atom.sup),
+            Side::Down => holds_nothing(&hand.atom.sub),
         },
     }
 }
@@ -168,7 +140,7 @@ pub fn is_op(hand: &Option<Hand>) -> bool
 {
     match hand {
         None => false,
-        Some(hand) => is_op_kind(hand.kind),
+        Some(hand) => is_op_kind(hand.atom.kind),
     }
 }
 
@@ -179,20 +151,9 @@ pub fn with_limits(limits: Limits, hand: Option<Hand>) -> Option<Hand>
     match hand {
         None => None,
         Some(hand) => {
-            let Hand {
-                kind,
-                nucleus,
-                sup,
-                sub,
-                ..
-            } = hand;
-            Some(Hand {
-                kind,
-                limits,
-                nucleus,
-                sup,
-                sub,
-            })
+            let Hand { mut atom } = hand;
+            atom.limits = limits;
+            Some(Hand { atom })
         }
     }
 }

@@ -6,7 +6,8 @@ ghost use Rattle.mt_reader.specs.Atoms.{append, hand_items, only_atom, is_bare_o
 ghost use Rattle.mt_reader.specs.Groups.{between_boundaries};
 ghost use Rattle.std.specs.Option.{option_map};
 ghost use Rattle.mt_reader.specs.machine.Facts.{stands_inside, is_inside};
-ghost use Rattle.mt_reader.specs.machine.OpenLists.{fits_option, inner_sequence, hand_value, hand_of, atom_value, is_only_bare, is_only_accent};
+ghost use Rattle.mt_reader.specs.machine.OpenLists.{fits_option, inner_sequence, hand_value, hand_of};
+ghost use Rattle.mt_reader.specs.machine.OpenLists.{atom_value, is_only_bare, is_only_accent};
 
 use crate::hand::Hand;
 use crate::hands::into_item;
@@ -24,8 +25,10 @@ pub fn no_items(alloc: Global) -> InnerItems
 }
 
 fn push_item(items: &mut Vec<Item>, item: Item) -> Result<(), AllocError>
-    ensures is { OnOk result (sequence_of items.new.items ≡ append (sequence_of items.old.items) (More (element_of item) End)) }
-    ensures inside { is_inside (sequence_of items.old.items) ≡ true → stands_inside (element_of item) ≡ true → OnOk result (is_inside (sequence_of items.new.items) ≡ true) }
+    ensures is { OnOk result (sequence_of items.new.items ≡ append (sequence_of items.old.items)
+        (More (element_of item) End)) }
+    ensures inside { is_inside (sequence_of items.old.items) ≡ true → stands_inside (element_of item) ≡ true
+        → OnOk result (is_inside (sequence_of items.new.items) ≡ true) }
 {
     items.push(item)?;
     Ok(())
@@ -42,15 +45,12 @@ pub fn with_item(items: InnerItems, item: Item) -> Result<InnerItems, AllocError
 }
 
 /// The items with the atom at hand at their end.
-pub fn with_hand(
-    alloc: Global,
-    items: InnerItems,
-    hand: Option<Hand>,
-) -> Result<InnerItems, AllocError>
-    ensures { IfOk result (λ new. inner_sequence new ≡ append (inner_sequence items) (hand_items (hand_of hand))) }
+pub fn with_hand(items: InnerItems, hand: Option<Hand>) -> Result<InnerItems, AllocError>
+    ensures { IfOk result (λ new. inner_sequence new
+        ≡ append (inner_sequence items) (hand_items (hand_of hand))) }
 {
     match hand {
-        Some(hand) => with_item(items, into_item(alloc, hand)?),
+        Some(hand) => with_item(items, into_item(hand)),
         None => Ok(items),
     }
 }
@@ -95,33 +95,20 @@ fn pop_item(items: &mut Vec<Item>) -> Option<Item>
     items.pop()
 }
 
-fn item_atom(item: Item) -> Option<Atom>
-    ensures { option_map atom_value result ≡ only_atom (More (element_of item) End) }
+fn item_atom(item: Item) -> Option<Box<Atom>>
+    ensures { option_map (λ b. atom_value b.value) result ≡ only_atom (More (element_of item) End) }
 {
     match item {
-        Item::Atom(atom) => Some(Box::into_inner(atom)),
+        Item::Atom(atom) => Some(atom),
         _ => None,
     }
 }
 
-fn hand_from(atom: Atom) -> Hand
-    requires { fits_option (Some (atom_value atom)) ≡ true }
-    ensures { hand_value result ≡ atom_value atom }
+fn hand_from(atom: Box<Atom>) -> Hand
+    requires { fits_option (Some (atom_value atom.value)) ≡ true }
+    ensures { hand_value result ≡ atom_value atom.value }
 {
-    let Atom {
-        kind,
-        limits,
-        nucleus,
-        sup,
-        sub,
-    } = atom;
-    Hand {
-        kind,
-        limits,
-        nucleus,
-        sup,
-        sub,
-    }
+    Hand { atom }
 }
 
 /// The atom that is the only item.

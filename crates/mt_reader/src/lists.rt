@@ -5,7 +5,8 @@ ghost use Rattle.mt_reader.specs.Role.{simple_element};
 ghost use Rattle.mt_rules.specs.View.{element_of, part_of_field};
 ghost use Rattle.mt_reader.specs.Atoms.{append, hand_items, with_script, with_limits};
 ghost use Rattle.mt_reader.specs.machine.Facts.{stands_inside, holds_rows};
-ghost use Rattle.mt_reader.specs.machine.OpenLists.{inner_sequence, items_of, hand_value, hand_of, numerator_of, finished_items, Begins, Becomes, Divides};
+ghost use Rattle.mt_reader.specs.machine.OpenLists.{inner_sequence, items_of, hand_value, hand_of};
+ghost use Rattle.mt_reader.specs.machine.OpenLists.{numerator_of, finished_items, Begins, Becomes, Divides};
 ghost use Rattle.mt_reader.specs.machine.PutsAction.{is_plain_action, PutsAction};
 
 use crate::action::Action;
@@ -36,8 +37,9 @@ pub fn new_list(alloc: Global, depth: usize, family: Option<u8>, ending: Ending)
 }
 
 /// The list with a new atom at hand; the one before is closed.
-pub fn put_hand(alloc: Global, list: OpenList, atom: Hand) -> Result<OpenList, AllocError>
-    ensures { IfOk result (λ new. Becomes (hand_items (hand_of list.hand)) (Some (hand_value atom)) list.family list new) }
+pub fn put_hand(list: OpenList, atom: Hand) -> Result<OpenList, AllocError>
+    ensures { IfOk result (λ new. Becomes (hand_items (hand_of list.hand)) (Some (hand_value atom))
+        list.family list new) }
 {
     let OpenList {
         items,
@@ -48,7 +50,7 @@ pub fn put_hand(alloc: Global, list: OpenList, atom: Hand) -> Result<OpenList, A
         numerator,
     } = list;
     Ok(OpenList {
-        items: with_hand(alloc, items, hand)?,
+        items: with_hand(items, hand)?,
         hand: Some(atom),
         depth,
         family,
@@ -58,9 +60,10 @@ pub fn put_hand(alloc: Global, list: OpenList, atom: Hand) -> Result<OpenList, A
 }
 
 /// The list with another item, after the atom at hand.
-pub fn put_item(alloc: Global, list: OpenList, item: Item) -> Result<OpenList, AllocError>
+pub fn put_item(list: OpenList, item: Item) -> Result<OpenList, AllocError>
     requires { stands_inside (element_of item) ≡ true }
-    ensures { IfOk result (λ new. Becomes (append (hand_items (hand_of list.hand)) (More (element_of item) End)) None list.family list new) }
+    ensures { IfOk result (λ new. Becomes
+        (append (hand_items (hand_of list.hand)) (More (element_of item) End)) None list.family list new) }
 {
     let OpenList {
         items,
@@ -70,7 +73,7 @@ pub fn put_item(alloc: Global, list: OpenList, item: Item) -> Result<OpenList, A
         ending,
         numerator,
     } = list;
-    let items = with_hand(alloc, items, hand)?;
+    let items = with_hand(items, hand)?;
     Ok(OpenList {
         items: with_item(items, item)?,
         hand: None,
@@ -82,9 +85,15 @@ pub fn put_item(alloc: Global, list: OpenList, item: Item) -> Result<OpenList, A
 }
 
 /// The list with a script at its atom at hand, or at a new one.
-pub fn put_script(list: OpenList, side: Side, part: Field) -> OpenList
+pub fn put_script(
+    alloc: Global,
+    list: OpenList,
+    side: Side,
+    part: Field,
+) -> Result<OpenList, AllocError>
     requires { holds_rows (part_of_field part) ≡ false }
-    ensures { Becomes End (Some (with_script side (part_of_field part) (hand_of list.hand))) list.family list result }
+    ensures { IfOk result (λ new. Becomes End
+        (Some (with_script side (part_of_field part) (hand_of list.hand))) list.family list new) }
 {
     let OpenList {
         items,
@@ -94,14 +103,14 @@ pub fn put_script(list: OpenList, side: Side, part: Field) -> OpenList
         ending,
         numerator,
     } = list;
-    OpenList {
+    Ok(OpenList {
         items,
-        hand: Some(with_script(side, part, hand)),
+        hand: Some(with_script(alloc, side, part, hand)?),
         depth,
         family,
         ending,
         numerator,
-    }
+    })
 }
 
 /// The list with other limits at its atom at hand.
@@ -150,7 +159,9 @@ pub fn put_family(list: OpenList, family: Option<u8>) -> OpenList
 
 // The fraction with this denominator.
 fn fraction_item(alloc: Global, numerator: Numerator, den: MathList) -> Result<Item, AllocError>
-    ensures is { IfOk result (λ item. element_of item ≡ FractionElement numerator.head.thickness numerator.head.left numerator.head.right numerator.list den) }
+    ensures is { IfOk result (λ item. element_of item
+        ≡ FractionElement numerator.head.thickness numerator.head.left numerator.head.right
+        numerator.list den) }
     ensures inside { IfOk result (λ item. stands_inside (element_of item) ≡ true) }
 {
     let Numerator { head, list: num } = numerator;
@@ -166,7 +177,8 @@ fn fraction_item(alloc: Global, numerator: Numerator, den: MathList) -> Result<I
 
 /// All the items of a list that ends: those that are there, or the fraction that divides it.
 pub fn finish_items(alloc: Global, list: OpenList) -> Result<InnerItems, AllocError>
-    ensures { IfOk result (λ all. inner_sequence all ≡ finished_items (numerator_of list) (append (items_of list) (hand_items (hand_of list.hand)))) }
+    ensures { IfOk result (λ all. inner_sequence all ≡ finished_items (numerator_of list)
+        (append (items_of list) (hand_items (hand_of list.hand)))) }
 {
     let OpenList {
         items,
@@ -174,11 +186,11 @@ pub fn finish_items(alloc: Global, list: OpenList) -> Result<InnerItems, AllocEr
         numerator,
         ..
     } = list;
-    let last = with_hand(alloc, items, hand)?;
+    let last = with_hand(items, hand)?;
     match numerator {
         None => Ok(last),
         Some(numerator) => {
-            let item = fraction_item(alloc, numerator, into_list(last))?;
+            let item = fraction_item(alloc, Box::into_inner(numerator), into_list(last))?;
             with_item(no_items(alloc), item)
         }
     }
@@ -196,14 +208,15 @@ pub fn divide(alloc: Global, list: OpenList, head: FractionHead) -> Result<OpenL
         ending,
         ..
     } = list;
-    let num = into_list(with_hand(alloc, items, hand)?);
+    let num = into_list(with_hand(items, hand)?);
+    let numerator = Box::new(alloc, Numerator { head, list: num })?;
     Ok(OpenList {
         items: no_items(alloc),
         hand: None,
         depth,
         family,
         ending,
-        numerator: Some(Numerator { head, list: num }),
+        numerator: Some(numerator),
     })
 }
 
@@ -214,9 +227,11 @@ pub fn put_action(alloc: Global, list: OpenList, action: Action) -> Result<OpenL
 {
     match action {
         Action::Skip => Ok(list),
-        Action::Atom(kind, symbol) => put_hand(alloc, list, plain_hand(kind, Field::Sym(symbol))),
-        Action::Script(side, symbol) => Ok(put_script(list, side, Field::Sym(symbol))),
-        Action::Item(item) => put_item(alloc, list, simple_item(item)),
+        Action::Atom(kind, symbol) => {
+            put_hand(list, plain_hand(alloc, kind, Field::Sym(symbol))?)
+        }
+        Action::Script(side, symbol) => put_script(alloc, list, side, Field::Sym(symbol)),
+        Action::Item(item) => put_item(list, simple_item(item)),
         Action::Family(family) => Ok(put_family(list, family)),
         Action::Limits(limits) => Ok(put_limits(list, limits)),
         _ => unreachable!(),

@@ -1,5 +1,5 @@
 //! What a group stands for.
-ghost use Rattle.std.specs.Prelude.{◌≡◌, true, false, is_some, Some};
+ghost use Rattle.std.specs.Prelude.{◌≡◌, true, false, is_some, IfOk, Some};
 ghost use Rattle.mt_rules.specs.View.{part_of_field};
 ghost use Rattle.mt_reader.specs.Role.{nucleus_kind};
 ghost use Rattle.mt_reader.specs.Atoms.{only_atom, nucleus_of, group_atom, nucleus_atom, InGroup};
@@ -12,13 +12,14 @@ use crate::inner_items::InnerItems;
 use crate::items::{into_list, is_only_accent, is_only_bare, take_only};
 use crate::role::NucleusKind;
 use mt_rules::{Class, Field};
+use std::alloc::{AllocError, Global};
 
 fn bare_nucleus(items: InnerItems) -> Field
     requires { is_only_bare (inner_sequence items) ≡ true }
     ensures is { part_of_field result ≡ nucleus_of (inner_sequence items) }
     ensures no_rows { holds_rows (part_of_field result) ≡ false }
 {
-    take_only(items).nucleus
+    Box::into_inner(take_only(items).atom).nucleus
 }
 
 /// The nucleus that a group makes: that of its one Ord atom without scripts, or else its list.
@@ -33,22 +34,23 @@ pub fn nucleus_of(items: InnerItems) -> Field
     }
 }
 
-fn group_hand(items: InnerItems) -> Hand
-    ensures { hand_value result ≡ group_atom (inner_sequence items) }
+fn group_hand(alloc: Global, items: InnerItems) -> Result<Hand, AllocError>
+    ensures { IfOk result (λ hand. hand_value hand ≡ group_atom (inner_sequence items)) }
 {
     if is_only_accent(&items) {
-        take_only(items)
+        Ok(take_only(items))
     } else {
-        plain_hand(NucleusKind::Class(Class::Ord), nucleus_of(items))
+        plain_hand(alloc, NucleusKind::Class(Class::Ord), nucleus_of(items))
     }
 }
 
 /// The atom of this kind that a group makes.
-pub fn nucleus_hand(kind: NucleusKind, items: InnerItems) -> Hand
-    ensures { hand_value result ≡ nucleus_atom (nucleus_kind kind) (InGroup (inner_sequence items)) }
+pub fn nucleus_hand(alloc: Global, kind: NucleusKind, items: InnerItems) -> Result<Hand, AllocError>
+    ensures { IfOk result (λ hand. hand_value hand
+        ≡ nucleus_atom (nucleus_kind kind) (InGroup (inner_sequence items))) }
 {
     match kind {
-        NucleusKind::Class(Class::Ord) => group_hand(items),
-        other => plain_hand(other, nucleus_of(items)),
+        NucleusKind::Class(Class::Ord) => group_hand(alloc, items),
+        other => plain_hand(alloc, other, nucleus_of(items)),
     }
 }

@@ -1,6 +1,8 @@
 //! Numbers.
 ghost use Rattle.std.specs.Prelude.{◌≡◌, ◌≤◌, ◌<◌, ◌*◌, ◌+◌, min, pos, false, length, IfOk, IfSome};
-ghost use Rattle.mt_reader.specs.Numbers.{turns_sign, sign_after, signs, with_sign, digit_value, digit_of, digits, digits_in, quoted_kind, quoted_code, unsigned_number, in_bound, whole_number, number_to};
+ghost use Rattle.mt_reader.specs.Numbers.{turns_sign, sign_after, signs, with_sign, digit_value, digit_of};
+ghost use Rattle.mt_reader.specs.Numbers.{digits, digits_in, quoted_kind, quoted_code, unsigned_number};
+ghost use Rattle.mt_reader.specs.Numbers.{in_bound, whole_number, number_to};
 ghost use Rattle.mt_reader.specs.declared.part.ReadCause.TheVariants.{BadNumber};
 ghost use Rattle.mt_reader.specs.Meets.{Meets, capped, capped_digits};
 

@@ -30,6 +30,6 @@ pub struct OpenList {
     /// Where it ends.
     pub ending: Ending,
     /// The fraction that divides it.
-    pub numerator: Option<Numerator>,
+    pub numerator: Option<Box<Numerator>>,
     ghost few_groups: { depth ≤ 150 },
 }

@@ -67,11 +67,11 @@ fn after_superscript<'a>(codes: &Codes, tokens: &'a [Token]) -> Option<&'a [Toke
 }
 
 // The atom of a prime.
-fn prime_hand() -> Hand
-    ensures { hand_value result ≡ prime_atom }
+fn prime_hand(alloc: Global) -> Result<Hand, AllocError>
+    ensures { IfOk result (λ hand. hand_value hand ≡ prime_atom) }
 {
     let prime = Symbol { fam: 2, code: 48 };
-    plain_hand(NucleusKind::Class(Class::Ord), Field::Sym(prime))
+    plain_hand(alloc, NucleusKind::Class(Class::Ord), Field::Sym(prime))
 }
 
 // A list that begins with so many primes and one more, which is at hand.
@@ -86,9 +86,9 @@ fn prime_list(
         Begins (prime_items count) (Some prime_atom) depth family AtEnd new) }
 {
     let empty = new_list(alloc, depth, family, Ending::AtEnd);
-    let mut list = put_hand(alloc, empty, prime_hand())?;
+    let mut list = put_hand(empty, prime_hand(alloc)?)?;
     for _put in 0..count {
-        list = put_hand(alloc, list, prime_hand())?;
+        list = put_hand(list, prime_hand(alloc)?)?;
     }
     Ok(list)
 }
@@ -153,7 +153,7 @@ pub fn put_primes<'a>(
             Err(fault) => Err(Stop::Fault(fault)),
         },
         None => Ok(Turned {
-            list: put_script(list, Side::Up, prime_field(alloc, more.value)?),
+            list: put_script(alloc, list, Side::Up, prime_field(alloc, more.value)?)?,
             rest: more.rest,
         }),
     }

@@ -104,7 +104,8 @@ pub fn read_list<'a>(
 ) -> Result<Part<'a, MathList>, Stop>
     requires em { Within (2 ^ 31) units.em }
     requires ex { Within (2 ^ 31) units.ex }
-    ensures { (n : ℕ) → length tokens.now < n → ReadsPart result (list codes.now units (stretch codes.now units n) ending 0 None tokens.now) }
+    ensures { (n : ℕ) → length tokens.now < n → ReadsPart result
+        (list codes.now units (stretch codes.now units n) ending 0 None tokens.now) }
 {
     read_open(
         alloc,

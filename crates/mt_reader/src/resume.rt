@@ -36,14 +36,19 @@ pub fn resume_nucleus(
 ) -> Result<OpenList, AllocError>
     ensures { IfOk result (λ new. ResumesNucleus kind (inner_sequence all) list new) }
 {
-    put_hand(alloc, list, nucleus_hand(kind, all))
+    put_hand(list, nucleus_hand(alloc, kind, all)?)
 }
 
 /// A list with a group as a script.
-pub fn resume_script(list: OpenList, side: Side, all: InnerItems) -> OpenList
-    ensures { ResumesScript side (inner_sequence all) list result }
+pub fn resume_script(
+    alloc: Global,
+    list: OpenList,
+    side: Side,
+    all: InnerItems,
+) -> Result<OpenList, AllocError>
+    ensures { IfOk result (λ new. ResumesScript side (inner_sequence all) list new) }
 {
-    put_script(list, side, nucleus_of(all))
+    put_script(alloc, list, side, nucleus_of(all))
 }
 
 fn choice_item(
@@ -78,7 +83,8 @@ pub fn resume_choice(
     script: InnerItems,
     small: InnerItems,
 ) -> Result<OpenList, AllocError>
-    ensures { IfOk result (λ new. ResumesChoice (inner_sequence display) (inner_sequence text) (inner_sequence script) (inner_sequence small) list new) }
+    ensures { IfOk result (λ new. ResumesChoice (inner_sequence display) (inner_sequence text)
+        (inner_sequence script) (inner_sequence small) list new) }
 {
     let item = choice_item(
         alloc,
@@ -87,7 +93,7 @@ pub fn resume_choice(
         into_inner_list(script),
         into_inner_list(small),
     )?;
-    put_item(alloc, list, item)
+    put_item(list, item)
 }
 
 fn into_inner_list(items: InnerItems) -> MathList

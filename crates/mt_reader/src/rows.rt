@@ -11,7 +11,8 @@ ghost use Rattle.mt_reader.specs.declared.frame.Owner.TheVariants.{Row};
 ghost use Rattle.mt_reader.specs.machine.Actions.{Opens};
 ghost use Rattle.mt_reader.specs.machine.Frames.{append_rows};
 ghost use Rattle.mt_reader.specs.machine.OpenLists.{inner_sequence};
-ghost use Rattle.mt_reader.specs.machine.Continues.{next_row_begins, first_row_begins, later_row_begins, brace_closes, row_ends, row_opens, TurnsRows};
+ghost use Rattle.mt_reader.specs.machine.Continues.{next_row_begins, first_row_begins, later_row_begins};
+ghost use Rattle.mt_reader.specs.machine.Continues.{brace_closes, row_ends, row_opens, TurnsRows};
 ghost use Rattle.mt_reader.specs.machine.Resumes.{ResumesRows};
 ghost use Rattle.mt_reader.specs.machine.Remaining.{remaining};
 ghost use Rattle.mt_reader.specs.machine.Turned.{Performs, Resumes};
@@ -152,7 +153,7 @@ fn push_row(rows: &mut Vec<MathList>, row: MathList) -> Result<(), AllocError>
 fn put_rows(alloc: Global, list: OpenList, rows: Vec<MathList>) -> Result<OpenList, AllocError>
     ensures { IfOk result (λ new. ResumesRows (rows_of rows.items) list new) }
 {
-    put_hand(alloc, list, vcenter_hand(RowList::from_vec(rows)))
+    put_hand(list, vcenter_hand(alloc, RowList::from_vec(rows))?)
 }
 
 // A row of the vcenter atom in this list, after these rows and a `\hbox`.

@@ -1,6 +1,7 @@
 //! What the numbers of math codes and delimiter codes stand for.
 ghost use Rattle.std.specs.Prelude.{◌≡◌, ◌≤◌};
-ghost use Rattle.mt_reader.specs.Symbols.{current_family, family_or, symbol_family, code_symbol, class_of, delim_of, null_delim};
+ghost use Rattle.mt_reader.specs.Symbols.{current_family, family_or, symbol_family, code_symbol, class_of};
+ghost use Rattle.mt_reader.specs.Symbols.{delim_of, null_delim};
 
 use mt_rules::{Class, Delim, Symbol};
 

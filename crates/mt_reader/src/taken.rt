@@ -1,7 +1,7 @@
 //! Tokens up to one that ends them.
 ghost use Rattle.std.specs.Prelude.{◌≡◌, ◌≤◌, ◌<◌, ◌+◌, length, IfSome};
 ghost use Rattle.mt_macro.specs.Braces.{group};
-ghost use Rattle.mt_reader.specs.documents.Lent.{Takes};
+ghost use Rattle.mt_reader.specs.documents.Lent.{TakesAs};
 
 use crate::braces::closing_brace;
 use mt_token::Token;
@@ -17,7 +17,7 @@ pub struct Taken<'a> {
 
 /// What stands in a group after its `{`, and what follows the group; `None` where it does not end.
 pub fn between_braces<'a>(tokens: &'a [Token]) -> Option<Taken<'a>>
-    ensures is { Takes result (group 0 tokens.now) }
+    ensures is { TakesAs result (group 0 tokens.now) }
     ensures falls { IfSome result (λ t. length t.argument.now + length t.after.now < length tokens.now) }
 {
     match closing_brace(tokens) {

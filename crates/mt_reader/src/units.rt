@@ -2,7 +2,8 @@
 ghost use Rattle.std.specs.Prelude.{◌≡◌, ◌≤◌, ◌<◌, ◌^◌, pos, ◌+ℤ◌, ◌*ℤ◌, ◌≤ℤ◌, length, IfOk};
 ghost use Rattle.mt_scaled.specs.Number.{Within, max_dimen};
 ghost use Rattle.mt_scaled.specs.Units.{unit_length, font_length};
-ghost use Rattle.mt_reader.specs.Dimensions.{small_letter, letter, measures, begins_measure, measure_of, second_letter, after_first_letter, measure, length_of};
+ghost use Rattle.mt_reader.specs.Dimensions.{small_letter, letter, measures, begins_measure, measure_of};
+ghost use Rattle.mt_reader.specs.Dimensions.{second_letter, after_first_letter, measure, length_of};
 ghost use Rattle.mt_reader.specs.Meets.{Meets};
 
 use crate::decimals::{Decimal, bad_dimension};

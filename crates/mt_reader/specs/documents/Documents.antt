@@ -83,8 +83,8 @@ abbrev pub after_page_end : DocumentState → DocumentState
 after_page_end s = record s { pages = with_page s.pages s.page; page = [] }
 
 -- the pages that a document has where it ends
-abbrev pub document_pages : DocumentState → List (List Formula)
-document_pages s = with_page s.pages s.page
+abbrev pub state_pages : DocumentState → List (List Formula)
+state_pages s = with_page s.pages s.page
 
 abbrev pub outside_fault : DocumentState → ℕ → ℕ → Turn
 outside_fault s cause left = StopsOutside (s.count + 1) cause left
@@ -155,17 +155,17 @@ module _ (units : Units) where
   module _ (length_of_all : ℕ) where
     abbrev pub turn_answer : (DocumentState → List Token → DocumentAnswer) → Turn → DocumentAnswer
     turn_answer again (Goes s rest) = again s rest
-    turn_answer again (Ends s) = Ok (document_pages s)
+    turn_answer again (Ends s) = Ok (state_pages s)
     turn_answer again (Stops refusal) = Err refusal
     turn_answer again (StopsOutside n cause left) = Err (Outside n cause (length_of_all - left))
 
     abbrev pub document_turn : (DocumentState → List Token → DocumentAnswer) → DocumentState → List Token → DocumentAnswer
-    document_turn again s [] = Ok (document_pages s)
+    document_turn again s [] = Ok (state_pages s)
     document_turn again s (t ∷ rest) = turn_answer again (turn_by s rest (outside_role t.kind))
 
     -- the pages after what has been read, by at most so many turns
     unfoldable pub pages_from : ℕ → DocumentState → List Token → DocumentAnswer
-    pages_from zero = λ (s : DocumentState) (tokens : List Token). Ok (document_pages s)
+    pages_from zero = λ (s : DocumentState) (tokens : List Token). Ok (state_pages s)
     pages_from (suc n) = document_turn (pages_from n)
 
   -- the pages, where this has been read before; each turn takes a token, so this many are enough

@@ -18,12 +18,12 @@ abbrev pub taken_tokens : Taken → TakenTokens
 taken_tokens t = record { argument = t.argument.now; after = t.after.now }
 
 -- what was taken, if anything
-abbrev pub Takes : Option Taken → Option TakenTokens → Type 0
-Takes None taken = taken ≡ None
-Takes (Some t) taken = taken ≡ Some (taken_tokens t)
+abbrev pub TakesAs : Option Taken → Option TakenTokens → Type 0
+TakesAs None taken = taken ≡ None
+TakesAs (Some t) taken = taken ≡ Some (taken_tokens t)
 
-abbrev pub definition_of : LentDefinition → MacroDefinition
-definition_of d = record { name = d.name.now; params = d.params; body = d.body.now }
+abbrev pub definition_value : LentDefinition → MacroDefinition
+definition_value d = record { name = d.name.now; params = d.params; body = d.body.now }
 
 -- the result is what is read
 abbrev pub MeetsOutside : {A : Type 0} → Result (Part A) OutsideFault → Read A → Type 0
@@ -31,7 +31,7 @@ MeetsOutside (Ok part) read = read ≡ Got part.value part.rest.now
 MeetsOutside (Err fault) read = read ≡ Fault (outside_number fault.cause) fault.left
 
 abbrev pub MeetsDefinition : Result (Part LentDefinition) OutsideFault → Read MacroDefinition → Type 0
-MeetsDefinition (Ok part) read = read ≡ Got (definition_of part.value) part.rest.now
+MeetsDefinition (Ok part) read = read ≡ Got (definition_value part.value) part.rest.now
 MeetsDefinition (Err fault) read = read ≡ Fault (outside_number fault.cause) fault.left
 
 -- the new tables and the tokens after the assignment are what is read

@@ -42,17 +42,17 @@ abbrev pub SetsTables : Result (Bor (List Token)) FaultFields → DocumentState 
 SetsTables result old new read = Assigns result new.tables read × (new ≡ changes_tables old new.tables)
 
 -- the refusal of a turn, where a source has so many tokens
-abbrev pub refusal_of : ℕ → Turn → DocumentAnswer
-refusal_of whole (Goes s rest) = Ok []
-refusal_of whole (Ends s) = Ok []
-refusal_of whole (Stops refusal) = Err refusal
-refusal_of whole (StopsOutside n cause left) = Err (Outside n cause (whole - left))
+abbrev pub turn_refusal : ℕ → Turn → DocumentAnswer
+turn_refusal whole (Goes s rest) = Ok []
+turn_refusal whole (Ends s) = Ok []
+turn_refusal whole (Stops refusal) = Err refusal
+turn_refusal whole (StopsOutside n cause left) = Err (Outside n cause (whole - left))
 
 -- the result and the new state are those of this turn
 abbrev pub Turns : Result AfterTurn DocError → StateFields → ℕ → Turn → Type 0
 Turns (Ok (Left rest)) new whole turn = turn ≡ Goes (state_of new) rest.now
 Turns (Ok Ended) new whole turn = turn ≡ Ends (state_of new)
-Turns (Err e) new whole turn = IsRefusal e (refusal_of whole turn)
+Turns (Err e) new whole turn = IsRefusal e (turn_refusal whole turn)
 
 -- why formula n is not expanded; want of memory is no cause of its own
 abbrev pub expand_error : ℕ → ExpandError → DocError

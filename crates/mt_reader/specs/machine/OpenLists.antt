@@ -14,11 +14,11 @@ use Rattle.mt_reader.specs.Lists.{fraction_list}
 use Rattle.mt_reader.specs.machine.Facts.{atom_fits}
 use Rattle.mt_reader.specs.Atoms.{AtomValue, append, hand_items, only_atom, is_bare_ord, is_accent_kind}
 
-abbrev pub hand_value : Hand → AtomValue
-hand_value h = record { kind = h.kind; limits = h.limits; nucleus = part_of_field h.nucleus; sup = part_of_field h.sup; sub = part_of_field h.sub }
-
 abbrev pub atom_value : AtomFields → AtomValue
 atom_value a = record { kind = a.kind; limits = a.limits; nucleus = part_of_field a.nucleus; sup = part_of_field a.sup; sub = part_of_field a.sub }
+
+abbrev pub hand_value : Hand → AtomValue
+hand_value h = atom_value h.atom.value
 
 abbrev pub fits_option : Option AtomValue → Bool
 fits_option None = true
@@ -57,7 +57,7 @@ abbrev pub numerator_value : Numerator → NumeratorValue
 numerator_value n = (n.head, n.list)
 
 abbrev pub numerator_of : OpenList → Option NumeratorValue
-numerator_of l = option_map numerator_value l.numerator
+numerator_of l = option_map (λ b. numerator_value b.value) l.numerator
 
 -- a list that begins with these items and this atom at hand
 pub record Begins (items : Sequence) (hand : Option AtomValue) (depth : ℕ) (family : Option ℕ) (ending : Ending) (l : OpenList) : Type 0 where

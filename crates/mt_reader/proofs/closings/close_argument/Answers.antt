@@ -6,4 +6,4 @@ use Rattle.mt_reader.specs.machine.OpenLists.{hand_of, Becomes}
 use Rattle.mt_reader.proofs.closings.close_argument.Goals as goal
 
 pub returns-clause-list : goal.returns-clause-list
-returns-clause-list c = subst (λ (all : Sequence). Becomes End (Some (with_script Up (ListPart all) (hand_of c.args.list.hand))) c.args.list.family c.args.list c.put_script.result) c.into_list.ensures c.put_script.ensures
+returns-clause-list c = subst (λ (all : Sequence). Becomes End (Some (with_script Up (ListPart all) (hand_of c.args.list.hand))) c.args.list.family c.args.list c.in_ok-put_script.field-0) c.into_list.ensures c.in_ok-put_script.ensures

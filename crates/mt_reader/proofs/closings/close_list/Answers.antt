@@ -44,13 +44,13 @@ returns-in-Row-clause-is c = λ units.
 pub returns-in-Row-clause-falls : goal.returns-in-Row-clause-falls
 returns-in-Row-clause-falls c = falls_by c.close_row.result (reverse c.close_row.new.frames.items) (reverse c.args.frames.now.items) c.args.frame.owner (Row c.in-Row.done) (length c.args.tokens.now) c.in-Row.is refl c.close_row.ensures.falls
 
-pub returns-in-Argument-clause-is : goal.returns-in-Argument-clause-is
-returns-in-Argument-clause-is c = λ units.
-    resumes_owner c.args.codes.now units c.args.frame.owner (Argument c.in-Argument.after c.in-Argument.field-1) c.args.frame.list (reverse c.args.frames.now.items) (inner_sequence c.args.all) c.args.tokens.now (Ok c.close_argument.result) (reverse c.args.frames.now.items) c.in-Argument.is
-    (λ whole u. argument_closed c.args.codes.now units whole c.args.frame.list c.close_argument.result.list (reverse c.args.frames.now.items) (inner_sequence c.args.all) c.args.tokens.now c.in-Argument.after c.in-Argument.field-1 c.close_argument.result.rest c.close_argument.ensures.rest c.close_argument.ensures.list u)
+pub returns-in_ok-close_argument-in-Argument-clause-is : goal.returns-in_ok-close_argument-in-Argument-clause-is
+returns-in_ok-close_argument-in-Argument-clause-is c = λ units.
+    resumes_owner c.args.codes.now units c.args.frame.owner (Argument c.in-Argument.after c.in-Argument.field-1) c.args.frame.list (reverse c.args.frames.now.items) (inner_sequence c.args.all) c.args.tokens.now (Ok c.in_ok-close_argument-in-Argument.field-0) (reverse c.args.frames.now.items) c.in-Argument.is
+    (λ whole u. argument_closed c.args.codes.now units whole c.args.frame.list c.in_ok-close_argument-in-Argument.field-0.list (reverse c.args.frames.now.items) (inner_sequence c.args.all) c.args.tokens.now c.in-Argument.after c.in-Argument.field-1 c.in_ok-close_argument-in-Argument.field-0.rest c.in_ok-close_argument-in-Argument.ensures.rest c.in_ok-close_argument-in-Argument.ensures.list u)
 
-pub returns-in-Argument-clause-falls : goal.returns-in-Argument-clause-falls
-returns-in-Argument-clause-falls c = argument_falls (reverse c.args.frames.now.items) c.args.frame.owner c.in-Argument.after c.close_argument.result.rest c.in-Argument.field-1 (length c.args.tokens.now) c.in-Argument.is c.close_argument.ensures.rest
+pub returns-in_ok-close_argument-in-Argument-clause-falls : goal.returns-in_ok-close_argument-in-Argument-clause-falls
+returns-in_ok-close_argument-in-Argument-clause-falls c = argument_falls (reverse c.args.frames.now.items) c.args.frame.owner c.in-Argument.after c.in_ok-close_argument-in-Argument.field-0.rest c.in-Argument.field-1 (length c.args.tokens.now) c.in-Argument.is c.in_ok-close_argument-in-Argument.ensures.rest
 
 pub returns-in-OpenArgument-clause-is : goal.returns-in-OpenArgument-clause-is
 returns-in-OpenArgument-clause-is c = λ units whole u. argument_unclosed c.args.codes.now units whole c.args.frame.list (reverse c.args.frames.now.items) (inner_sequence c.args.all) c.args.tokens.now c.args.frame.owner c.in-OpenArgument.is u

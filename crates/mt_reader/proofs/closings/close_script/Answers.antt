@@ -4,5 +4,5 @@ use Rattle.mt_reader.proofs.closings.close_script.Goals as goal
 
 pub returns-clause-is : goal.returns-clause-is
 returns-clause-is c = λ tables units outer whole u.
-    script_closed tables units whole c.args.list c.resume_script.result outer (inner_sequence c.args.all) c.args.tokens.now c.args.side
-    c.after_first.result.now c.after_first.ensures.is c.after_first.ensures.falls c.resume_script.ensures u
+    script_closed tables units whole c.args.list c.in_ok-resume_script.field-0 outer (inner_sequence c.args.all) c.args.tokens.now c.args.side
+    c.after_first.result.now c.after_first.ensures.is c.after_first.ensures.falls c.in_ok-resume_script.ensures u

@@ -6,7 +6,7 @@ pub hand_from-requires : goal.hand_from-requires
 hand_from-requires c = last_fits _ _ _ c.in-Some.ensures c.requires _ c.in-Some-item_atom.ensures c.args.items.inside
 
 pub returns : goal.returns
-returns c = sym (last_atom _ _ _ c.in-Some.ensures c.requires (Some c.in-Some-item_atom.atom) c.in-Some-item_atom.ensures) ∙ ap (λ a. Some a) (sym c.hand_from.ensures)
+returns c = sym (last_atom _ _ _ c.in-Some.ensures c.requires (Some c.in-Some-item_atom.atom.value) c.in-Some-item_atom.ensures) ∙ ap (λ a. Some a) (sym c.hand_from.ensures)
 
 pub unreachable-requires : goal.unreachable-requires
 unreachable-requires c = last_some _ _ _ c.in-Some.ensures c.requires c.in-None-item_atom.ensures

@@ -5,7 +5,7 @@ use Rattle.mt_reader.proofs.lists.put_script.Goals as goal
 pub returns : goal.returns
 returns c = record {
   is_items = sym (append_end _);
-  is_hand = ap (λ a. Some a) c.with_script.ensures;
+  is_hand = ap (λ a. Some a) c.in_ok-with_script.ensures;
   is_depth = refl;
   is_family = refl;
   is_ending = refl;

@@ -1,9 +1,9 @@
 use Rattle.mt_reader.proofs.Priming.{primes_end, primes_fault, primes_open}
 use Rattle.mt_reader.proofs.primes.put_primes.Goals as goal
 
-pub returns-in_ok-prime_field-in-None-clause-is : goal.returns-in_ok-prime_field-in-None-clause-is
-returns-in_ok-prime_field-in-None-clause-is c = λ units ts h whole g.
-    primes_end c.args.codes.now units whole _ c.args.list ts c.args.tokens.now h g _ _ c.primes-more.ensures.count c.primes-more.ensures.rest c.primes-more.ensures.falls _ _ c.in-None.ensures.is c.in_ok-prime_field-in-None.ensures c.put_script.ensures
+pub returns-in_ok-put_script-in-None-clause-is : goal.returns-in_ok-put_script-in-None-clause-is
+returns-in_ok-put_script-in-None-clause-is c = λ units ts h whole g.
+    primes_end c.args.codes.now units whole _ c.args.list ts c.args.tokens.now h g _ _ c.primes-more.ensures.count c.primes-more.ensures.rest c.primes-more.ensures.falls _ _ c.in-None.ensures.is c.in_ok-prime_field-in-None.ensures c.in_ok-put_script-in-None.ensures
 
 pub returns-in-Err-clause-is : goal.returns-in-Err-clause-is
 returns-in-Err-clause-is c = λ units ts h whole g.
