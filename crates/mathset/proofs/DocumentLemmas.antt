@@ -9,7 +9,7 @@ use Rattle.mt_rules.specs.declared.document.Formula.{Formula}
 use Rattle.mt_display.specs.Lines.{LineValue}
 use Rattle.mt_reader.specs.documents.Weights.{page_weight, pages_weight}
 use Rattle.mathset.specs.FormulaLines.{formula_lines}
-use Rattle.mathset.specs.Pages.{PageLinesValue, with_lines, no_lines, page_lines, document_lines, document_pages, page_places, pages_places}
+use Rattle.mathset.specs.Pages.{PageLinesValue, with_formula_lines, no_lines, page_lines, document_lines, document_pages, page_places, pages_places}
 use Rattle.mathset.specs.inner.Placed.{PlacedValue, add_page, nothing_placed, place_page, place_rest}
 use Rattle.mathset.specs.inner.Steps.{IsPure, PureBy, Told, origin_of, refusal_origin}
 use Rattle.mathset.specs.declared.status.Status.{Status}
@@ -19,12 +19,12 @@ use Rattle.mathset.proofs.PureLemmas.{pure_err, pure_by}
 
 -- one formula more
 pub page_next : (set : SetValue) (width : ℤ) (page : PageLinesValue) (f : Formula) (fs : List Formula) (lines : List LineValue) → formula_lines set width f ≡ Ok lines
-    → page_lines set width page (f ∷ fs) ≡ page_lines set width (with_lines page f.number lines) fs
-page_next set width page f fs lines is = ap (λ (r : Result (List LineValue) Status). r >>= (λ ls. page_lines set width (with_lines page f.number ls) fs)) is
+    → page_lines set width page (f ∷ fs) ≡ page_lines set width (with_formula_lines page f.number lines) fs
+page_next set width page f fs lines is = ap (λ (r : Result (List LineValue) Status). r >>= (λ ls. page_lines set width (with_formula_lines page f.number ls) fs)) is
 
 pub page_err : (set : SetValue) (width : ℤ) (page : PageLinesValue) (f : Formula) (fs : List Formula) (status : Status) → IsPure (formula_lines set width f) (Err status)
     → IsPure (page_lines set width page (f ∷ fs)) (Err status)
-page_err set width page f fs status is = pure_err (formula_lines set width f) (λ ls. page_lines set width (with_lines page f.number ls) fs) status is
+page_err set width page f fs status is = pure_err (formula_lines set width f) (λ ls. page_lines set width (with_formula_lines page f.number ls) fs) status is
 
 -- ---- the pages of a document
 

@@ -25,7 +25,7 @@ use Rattle.mt_display.specs.Displays.{NumberValue}
 use Rattle.mt_display.specs.Lines.{LineValue, LinesAnswer, LinesFit, line_value, line_values}
 use Rattle.mt_display.proofs.PagePlaces.{LineHas, NumberHas}
 use Rattle.mathset.specs.FormulaLines.{set_by}
-use Rattle.mathset.specs.Pages.{PageLinesValue, with_lines}
+use Rattle.mathset.specs.Pages.{PageLinesValue, with_formula_lines}
 use Rattle.mathset.specs.inner.Lines.{AreLaid, LinesHold, LinesStack, NumberHolds, RowStands}
 use Rattle.mathset.specs.inner.Steps.{IsPure}
 use Rattle.mathset.specs.declared.status.Status.{Status}
@@ -88,7 +88,7 @@ filled_up a b old new x len is =
 
 -- the lines of formula n behind those of a page
 pub page_append : (old new ls : List LineFields) (old_formulas new_formulas : List ℕ) (n : ℕ) → new ≡ old ++ ls → new_formulas ≡ old_formulas ++ replicate (length ls) n
-    → page_of (line_values new) new_formulas ≡ with_lines (page_of (line_values old) old_formulas) n (line_values ls)
+    → page_of (line_values new) new_formulas ≡ with_formula_lines (page_of (line_values old) old_formulas) n (line_values ls)
 page_append old new ls old_formulas new_formulas n is has =
     let lines : line_values new ≡ line_values old ++ line_values ls = ap line_values is ∙ lines_append old ls in
     let formulas : new_formulas ≡ old_formulas ++ replicate (length (line_values ls)) n = has ∙ ap (λ (k : ℕ). old_formulas ++ replicate k n) (sym (values_length ls)) in

@@ -4,7 +4,7 @@ use Rattle.mt_outside.specs.declared.files.Held.{Held}
 use Rattle.mt_family.specs.SetValue.{SetValue}
 use Rattle.mt_box.specs.declared.place.Place.{Place}
 use Rattle.mt_dvi.specs.File.{Fault, pages_of}
-use Rattle.mt_dviread.specs.Faults.{number_of}
+use Rattle.mt_dviread.specs.Faults.{dvi_cause_number}
 use Rattle.mathset.specs.Limits.{max_dvi}
 use Rattle.mathset.specs.Listing.{listing}
 use Rattle.mathset.specs.Outcome.{Outcome, plain, ◌>>=◌}
@@ -16,7 +16,7 @@ use Rattle.mathset.specs.declared.status.Status.TheVariants.{BadDvi}
 
 -- a file that is refused: the offset of the opcode at fault, and the number of the cause
 abbrev pub dvi_refusal : Fault → Status
-dvi_refusal fault = BadDvi fault.at (number_of fault.cause)
+dvi_refusal fault = BadDvi fault.at (dvi_cause_number fault.cause)
 
 abbrev pub dvi_by : Result (List (List Place)) Fault → Result Product Status
 dvi_by (Ok pages) = Ok (Text (listing pages))

@@ -30,18 +30,18 @@ pages_text n (page ∷ pages) = page_text n page ++ pages_text (n + 1) pages
 unfoldable pub listing : List (List Place) → List ℕ
 listing pages = pages_text 1 pages ++ number_line (codes "pages") (length pages)
 
-abbrev pub is_glyph : Place → Bool
-is_glyph (Glyph font code h v) = true
-is_glyph (Rule h v height width) = false
+abbrev pub is_glyph_place : Place → Bool
+is_glyph_place (Glyph font code h v) = true
+is_glyph_place (Rule h v height width) = false
 
-abbrev pub is_rule : Place → Bool
-is_rule (Glyph font code h v) = false
-is_rule (Rule h v height width) = true
+abbrev pub is_rule_place : Place → Bool
+is_rule_place (Glyph font code h v) = false
+is_rule_place (Rule h v height width) = true
 
 -- so many formulas gave these pages
 unfoldable pub summary : ℕ → List (List Place) → List ℕ
 summary formulas pages =
     concat (number_line (codes "formulas") formulas
     ∷ number_line (codes "pages") (length pages)
-    ∷ number_line (codes "glyphs") (count_by is_glyph (all_places pages))
-    ∷ number_line (codes "rules") (count_by is_rule (all_places pages)) ∷ [])
+    ∷ number_line (codes "glyphs") (count_by is_glyph_place (all_places pages))
+    ∷ number_line (codes "rules") (count_by is_rule_place (all_places pages)) ∷ [])

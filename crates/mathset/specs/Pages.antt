@@ -24,8 +24,8 @@ abbrev pub no_lines : PageLinesValue
 no_lines = record { lines = []; formulas = [] }
 
 -- a page with the lines of formula n behind its own
-abbrev pub with_lines : PageLinesValue → ℕ → List LineValue → PageLinesValue
-with_lines page n lines = record {
+abbrev pub with_formula_lines : PageLinesValue → ℕ → List LineValue → PageLinesValue
+with_formula_lines page n lines = record {
   lines = page.lines ++ lines;
   formulas = page.formulas ++ replicate (length lines) n;
 }
@@ -35,7 +35,7 @@ abbrev pub page_lines : SetValue → ℤ → PageLinesValue → List Formula →
 page_lines set width page [] = Ok page
 page_lines set width page (f ∷ fs) = do
   lines ← formula_lines set width f
-  page_lines set width (with_lines page f.number lines) fs
+  page_lines set width (with_formula_lines page f.number lines) fs
 
 -- the lines of a document, page by page
 abbrev pub document_lines : SetValue → ℤ → List (List Formula) → Result (List PageLinesValue) Status

@@ -68,8 +68,8 @@ fn command_line<'a>(alloc: Global) -> Result<Command<'a>, AllocError>
     with_action.arg(names)
 }
 
-/// What `clap` finds in the words, the program's name first: `--line` with a number, ACTION, and NAMES. `None` where its reading
-/// of them has a fault.
+/// What `clap` finds in the words, the program's name first: `--line` with a number, ACTION, and
+/// NAMES. `None` where its reading of them has a fault.
 ///
 /// # Errors
 ///

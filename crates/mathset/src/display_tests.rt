@@ -1,4 +1,5 @@
-//! Displayed formulas and their numbers, on lines of several widths. The places are those that TeX gives with the toy fonts.
+//! Displayed formulas and their numbers, on lines of several widths. The places are those that TeX
+//! gives with the toy fonts.
 use crate::formula_listing::{page_listing, test_listing};
 use std::alloc::Global;
 use std::process::Abort;

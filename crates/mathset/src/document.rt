@@ -90,20 +90,21 @@ fn document_refusal(error: DocError) -> Status
     }
 }
 
-/// The document of a source of at most 4,194,304 bytes. In a dimension an em and an ex are parameters 6 and 5 of the
-/// text font of family 0, 0 without one.
+/// The document of a source of at most 4,194,304 bytes. In a dimension an em and an ex are
+/// parameters 6 and 5 of the text font of family 0, 0 without one.
 ///
 /// # Errors
 ///
-/// The first of these. `BadSource`, before all others, at the first byte that is not ASCII (cause 1) or cannot stand
-/// where it stands (cause 2). Then, in the order of the source, `BadFormula` for a token outside of formulas (31 to
-/// 36), a macro of a formula without an argument (21) and a token at which a formula cannot be read on (1 to 10);
-/// `Budget` for a formula whose macros do not come to an end, and where the formulas have too many tokens together;
-/// `TooDeep` where too many groups of a formula are open; `TooMuch` pages, at the formula that would begin one.
+/// The first of these. `BadSource`, before all others, at the first byte that is not ASCII (cause
+/// 1) or cannot stand where it stands (cause 2). Then, in the order of the source, `BadFormula` for
+/// a token outside of formulas (31 to 36), a macro of a formula without an argument (21) and a
+/// token at which a formula cannot be read on (1 to 10); `Budget` for a formula whose macros do not
+/// come to an end, and where the formulas have too many tokens together; `TooDeep` where too many
+/// groups of a formula are open; `TooMuch` pages, at the formula that would begin one.
 /// `OutOfMemory` where memory ran out.
 ///
-/// Its lists are modest: body and number of each formula can be set. It has at most 5,000 pages, and at most 2^21 formulas,
-/// each display counted twice.
+/// Its lists are modest: body and number of each formula can be set. It has at most 5,000 pages,
+/// and at most 2^21 formulas, each display counted twice.
 pub fn document_of(alloc: Global, fonts: &FontSet, source: &[u8]) -> Result<Document, Status>
     ensures is { IsPure (document_of fonts.now source.now) result }
     ensures modest { IfOk result IsModestDocument }

@@ -58,8 +58,9 @@ fn read_file<C: Cabinet>(
 ///
 /// # Errors
 ///
-/// The first refusal of the font list, of its fonts in order and of the families; then `ReadFault` or `TooLong` of the DVI
-/// file; then `BadDvi` with the offset and the number of the file's first fault. `OutOfMemory` where memory ran out.
+/// The first refusal of the font list, of its fonts in order and of the families; then `ReadFault`
+/// or `TooLong` of the DVI file; then `BadDvi` with the offset and the number of the file's first
+/// fault. `OutOfMemory` where memory ran out.
 pub fn read<C: Cabinet>(
     alloc: Global,
     words: &DviFile<'_>,

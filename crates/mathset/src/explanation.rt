@@ -233,8 +233,9 @@ fn write_explained<L: Sink>(log: &mut L, status: &Status, text: &str)
     }
 }
 
-/// Writes what a refusal means, in one line for a person, and nothing for `Done`. The name of a file stands in it as it is. A fault of the stream changes nothing
-/// else. Line and texts are those of docs/FORMATS.md ("Explanations").
+/// Writes what a refusal means, in one line for a person, and nothing for `Done`. The name of a
+/// file stands in it as it is. A fault of the stream changes nothing else. Line and texts are those
+/// of docs/FORMATS.md ("Explanations").
 pub fn write_explanation<L: Sink>(log: &mut L, status: &Status)
     ensures { (text : List ℕ) × IsLine text
         × Gets L.written L.faults log.old log.new (explained status.now text) }

@@ -112,10 +112,12 @@ fn request_in<'a>(matches: &ArgMatches<'a>) -> Option<Request<'a>>
     request_by(action, names, matches)
 }
 
-/// What the words of a command line ask for, the program's name first. `None` where they are none of the forms of `Request`.
+/// What the words of a command line ask for, the program's name first. `None` where they are none
+/// of the forms of `Request`.
 ///
-/// They are read by `clap` as an option `--line` with a number from 1 to 1073741823, 30785863 (6.5in) by default, a required
-/// ACTION, and NAMES, two in each form. `--line` goes with `set` and `places` alone. SEED and COUNT are digits alone.
+/// They are read by `clap` as an option `--line` with a number from 1 to 1073741823, 30785863
+/// (6.5in) by default, a required ACTION, and NAMES, two in each form. `--line` goes with `set` and
+/// `places` alone. SEED and COUNT are digits alone.
 ///
 /// # Errors
 ///

@@ -6,7 +6,8 @@ ghost use Rattle.mt_display.specs.Lines.{LineValue, LinesAnswer};
 ghost use Rattle.mt_reader.specs.documents.Weights.{HasModestLists, formula_weight};
 ghost use Rattle.mt_rules.specs.Modest.{IsModestList};
 ghost use Rattle.mt_rules.specs.Setting.{Setting};
-ghost use Rattle.mathset.specs.FormulaLines.{displayed_lines, formula_lines, formula_row, number_row, set_by, text_lines};
+ghost use Rattle.mathset.specs.FormulaLines.{displayed_lines, formula_lines, formula_row, number_row, set_by};
+ghost use Rattle.mathset.specs.FormulaLines.{text_lines};
 ghost use Rattle.mathset.specs.inner.Lines.{AreLaid, IsLines, IsLineWidth, IsNumber, IsRow, NumberStands, RowStands};
 ghost use Rattle.mathset.specs.inner.Steps.{IsPure};
 
@@ -135,16 +136,18 @@ fn displayed_lines(
     }
 }
 
-/// The lines of a formula: one in the text, and one or two where it is displayed. A displayed formula stands in a line that is
-/// `width` scaled points wide. Its body is set in text or display style (The TeXbook, Appendix G), and its number in text style.
+/// The lines of a formula: one in the text, and one or two where it is displayed. A displayed
+/// formula stands in a line that is `width` scaled points wide. Its body is set in text or display
+/// style (The TeXbook, Appendix G), and its number in text style.
 ///
 /// # Errors
 ///
-/// The first of these, in the order in which the items and their parts are set, those of the body before those of the
-/// number: `MissingFamily` where a family has no font at a size, `MissingChar` where its font has no such character,
-/// `SmartLigature` where two characters form a ligature that is not set, `Overflow` of an extent out of range, `TooTall`
-/// where a delimiter needs more than 2,000 repeats. Then `Overflow` of an extent of a box on the lines. `OutOfMemory` where memory ran
-/// out.
+/// The first of these, in the order in which the items and their parts are set, those of the body
+/// before those of the number: `MissingFamily` where a family has no font at a size, `MissingChar`
+/// where its font has no such character, `SmartLigature` where two characters form a ligature that
+/// is not set, `Overflow` of an extent out of range, `TooTall` where a delimiter needs more than
+/// 2,000 repeats. Then `Overflow` of an extent of a box on the lines. `OutOfMemory` where memory
+/// ran out.
 #[tactic(auto, unfolding(crate::specs::FormulaLines::formula_lines))]
 pub fn formula_lines(
     alloc: Global,

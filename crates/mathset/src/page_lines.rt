@@ -2,7 +2,7 @@
 ghost use Rattle.std.specs.Prelude.{◌≡◌, ◌++◌, [], All, IfOk, OnOk};
 ghost use Rattle.mt_display.specs.Lines.{line_values};
 ghost use Rattle.mt_reader.specs.documents.Weights.{HasModestLists, page_weight};
-ghost use Rattle.mathset.specs.Pages.{no_lines, page_lines, with_lines};
+ghost use Rattle.mathset.specs.Pages.{no_lines, page_lines, with_formula_lines};
 ghost use Rattle.mathset.specs.inner.Lines.{AreLaid, IsLineWidth, IsPageLines, page_value};
 
 use crate::formula_lines::formula_lines;
@@ -35,7 +35,8 @@ impl PageLines {
     // Puts the lines of formula n behind the others.
     fn append(&mut self, n: u32, lines: Lines) -> Result<(), AllocError>
         ensures lines { OnOk result (self.new.lines.items ≡ self.old.lines.items ++ lines) }
-        ensures is { OnOk result (page_value self.new ≡ with_lines (page_value self.old) n (line_values lines)) }
+        ensures is { OnOk result (page_value self.new
+            ≡ with_formula_lines (page_value self.old) n (line_values lines)) }
     {
         self.formulas.resize(self.formulas.len() + lines.len(), n)?;
         self.lines.append(&mut lines.into_vec())?;

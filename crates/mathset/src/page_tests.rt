@@ -1,4 +1,5 @@
-//! Lines one below another, pages, and refusals of formulas behind others. The places are those that TeX gives with the toy fonts.
+//! Lines one below another, pages, and refusals of formulas behind others. The places are those
+//! that TeX gives with the toy fonts.
 use crate::formula_listing::{Case, test_listing};
 use crate::test_runs::{PLACES, end_of};
 

@@ -8,7 +8,8 @@ ghost use Rattle.mt_dvi.specs.Writable.{IsWritable};
 ghost use Rattle.mt_reader.specs.documents.Weights.{IsModestDocument, pages_weight};
 ghost use Rattle.mathset.specs.Pages.{document_pages, page_places, stack_refusal};
 ghost use Rattle.mathset.specs.inner.Lines.{IsLineWidth, LinesHold, LinesStack, page_value};
-ghost use Rattle.mathset.specs.inner.Placed.{IsToldAnswer, PlacedHolds, add_page, nothing_placed, place_rest, placed_value};
+ghost use Rattle.mathset.specs.inner.Placed.{IsToldAnswer, PlacedHolds, add_page, nothing_placed, place_rest};
+ghost use Rattle.mathset.specs.inner.Placed.{placed_value};
 ghost use Rattle.mathset.specs.inner.Steps.{IsPure};
 
 use crate::page_lines::{PageLines, page_lines};
@@ -45,7 +46,8 @@ fn page_places(
     room: u64,
 ) -> Result<Result<PlaceList, Status>, AllocError>
     requires laid { LinesStack page.lines.items }
-    ensures is { IfOk result (λ (places : Result (List PlaceFields) Status). places ≡ page_places room (page_value page)) }
+    ensures is { IfOk result (λ (places : Result (List PlaceFields) Status).
+        places ≡ page_places room (page_value page)) }
     ensures told { IfOk result IsToldAnswer }
     ensures few { IfOk result (λ places. IfOk places (λ page. length page ≤ room)) }
     ensures writable { (fonts : SetValue) → LinesHold fonts (line_values page.lines.items)
@@ -112,15 +114,16 @@ impl PlacedPages {
     }
 }
 
-/// The pages of a document. Each formula stands on a line of its own, or on two where its number does not stand beside it;
-/// `width` is the width of a line in scaled points. Lines stand one below another from v = 0 on, 12pt from
-/// baseline to baseline, or 1pt apart.
+/// The pages of a document. Each formula stands on a line of its own, or on two where its number
+/// does not stand beside it; `width` is the width of a line in scaled points. Lines stand one below
+/// another from v = 0 on, 12pt from baseline to baseline, or 1pt apart.
 ///
 /// # Errors
 ///
-/// The first refusal of a formula, as [`page_lines`] says. Where no formula is refused, the first of these, page by
-/// page and in the order of the places: `Overflow` with a coordinate that is out of range, and the number of its formula; `TooMuch` at
-/// place 2,000,001. `OutOfMemory` where memory ran out.
+/// The first refusal of a formula, as [`page_lines`] says. Where no formula is refused, the first
+/// of these, page by page and in the order of the places: `Overflow` with a coordinate that is out
+/// of range, and the number of its formula; `TooMuch` at place 2,000,001. `OutOfMemory` where
+/// memory ran out.
 pub fn document_pages(
     alloc: Global,
     fonts: &FontSet,

@@ -13,7 +13,8 @@ use mt_scaled::Bytes;
 use std::alloc::Global;
 use std::marker::Model;
 
-/// Pages, with the fonts that they are set in. A DVI file can have them: each place can be written, and they are not too many.
+/// Pages, with the fonts that they are set in. A DVI file can have them: each place can be written,
+/// and they are not too many.
 #[derive(Drop)]
 pub struct Typeset {
     /// The fonts.

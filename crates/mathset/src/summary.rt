@@ -1,7 +1,7 @@
 //! What was set, counted.
 ghost use Rattle.std.specs.Prelude.{◌≡◌, count_by, IfOk};
 ghost use Rattle.mt_dvi.specs.WrittenPlaces.{all_places};
-ghost use Rattle.mathset.specs.Listing.{is_glyph, is_rule, summary};
+ghost use Rattle.mathset.specs.Listing.{is_glyph_place, is_rule_place, summary};
 
 use crate::text_line::push_number_line;
 use mt_box::{PageList, Place, PlaceList};
@@ -10,7 +10,7 @@ use std::alloc::{AllocError, Global};
 
 // How many glyphs there are on a page.
 fn glyphs_on(page: &[Place]) -> usize
-    ensures { result ≡ count_by is_glyph page.now }
+    ensures { result ≡ count_by is_glyph_place page.now }
 {
     page.iter()
         .filter(|place| matches!(place, Place::Glyph { .. }))
@@ -19,7 +19,7 @@ fn glyphs_on(page: &[Place]) -> usize
 
 // How many rules there are on a page.
 fn rules_on(page: &[Place]) -> usize
-    ensures { result ≡ count_by is_rule page.now }
+    ensures { result ≡ count_by is_rule_place page.now }
 {
     page.iter()
         .filter(|place| matches!(place, Place::Rule { .. }))
@@ -28,7 +28,7 @@ fn rules_on(page: &[Place]) -> usize
 
 // The number of glyphs on all pages.
 fn glyph_count(pages: &[PlaceList]) -> u128
-    ensures { result ≡ count_by is_glyph (all_places pages.now) }
+    ensures { result ≡ count_by is_glyph_place (all_places pages.now) }
 {
     let mut count: u128 = 0;
     for page in pages {
@@ -39,7 +39,7 @@ fn glyph_count(pages: &[PlaceList]) -> u128
 
 // The number of rules on all pages.
 fn rule_count(pages: &[PlaceList]) -> u128
-    ensures { result ≡ count_by is_rule (all_places pages.now) }
+    ensures { result ≡ count_by is_rule_place (all_places pages.now) }
 {
     let mut count: u128 = 0;
     for page in pages {

@@ -82,8 +82,8 @@ pub fn repeated(
     source
 }
 
-/// A list of fonts, or that of the toy fonts, under the name `toy.fonts`; the toy fonts; `cut.tfm`, which is none; and a
-/// source, or a DVI file, under the name `formula.tex`.
+/// A list of fonts, or that of the toy fonts, under the name `toy.fonts`; the toy fonts; `cut.tfm`,
+/// which is none; and a source, or a DVI file, under the name `formula.tex`.
 pub fn files(rt: &impl Abort, alloc: Global, list: Option<&[u8]>, source: &[u8]) -> FileList {
     let mut files = Vec::new(alloc);
     add(rt, &mut files, font_list(rt, alloc, list));

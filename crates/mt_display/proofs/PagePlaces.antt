@@ -18,7 +18,7 @@ use Rattle.mt_box.proofs.Still.{IsStill, PieceHas, lowered_have, pack_has, pack_
 use Rattle.mt_rules.specs.Setting.{Setting, ◌>>=◌, ◌>>◌, pass_unless}
 use Rattle.mt_display.specs.declared.error.StackError.{StackError}
 use Rattle.mt_display.specs.Lines.{LineValue, inline_lines}
-use Rattle.mt_display.specs.Displays.{NumberValue, beside, begins_with_space, display_lines, fit, fitted, indent, line_of_both, number_room, number_width, numbered_lines, one_line, own_lines, placed_lines, room_between, row_shift}
+use Rattle.mt_display.specs.Displays.{NumberValue, beside, begins_with_space_piece, display_lines, fit, fitted, indent, line_of_both, number_room, number_width, numbered_lines, one_line, own_lines, placed_lines, room_between, row_shift}
 use Rattle.mt_display.specs.Stack.{AboveValue, first_stack_fault, line_places, next_above, or_fault_below, places_below, places_unless, reference_below, stacked_lines}
 
 abbrev pub LineHas : (Place → Type 0) → LineValue → Type 0
@@ -91,7 +91,7 @@ module _ (P : Place → Type 0) (still : IsStill P) where
   display_has quad z row number ls h k is =
       let f = fit z (row_width row) (row_shrink row) (number_width number) (number_room quad number) in
       let display = fitted row f.target in
-      let flush = begins_with_space row in
+      let flush = begins_with_space_piece row in
       placed_have z f.e (indent flush z display.extents.width f.e) display number ls (fitted_has row f.target h) k
       (made_then (first_out display.extents) display (λ l. placed_lines z f.e (indent flush z l.extents.width f.e) l number) ls is)
 

@@ -9,9 +9,11 @@ ghost use Rattle.mt_box.specs.Packs.{Packs};
 ghost use Rattle.mt_family.specs.Sets.{sy};
 ghost use Rattle.mt_family.specs.declared.size.Size.TheVariants.{Text};
 ghost use Rattle.mt_display.specs.Lines.{LinesAnswer, LinesFit};
-ghost use Rattle.mt_display.specs.Displays.{NumberFits, number_level, number_value, number_width as width_of_number, number_room as room_of_number};
-ghost use Rattle.mt_display.specs.Displays.{fit as fit_of, fitted as fitted_row, begins_with_space as begins_with_a_space, indent as indent_of};
-ghost use Rattle.mt_display.specs.Displays.{beside as row_of_both, row_shift as shift_of_row, one_line as line_at, own_lines as lines_of_their_own};
+ghost use Rattle.mt_display.specs.Displays.{NumberFits, number_level, number_value};
+ghost use Rattle.mt_display.specs.Displays.{number_width as width_of_number, number_room as room_of_number};
+ghost use Rattle.mt_display.specs.Displays.{fit as fit_of, fitted as fitted_row, begins_with_space_piece, indent as indent_of};
+ghost use Rattle.mt_display.specs.Displays.{beside as row_of_both, row_shift as shift_of_row};
+ghost use Rattle.mt_display.specs.Displays.{one_line as line_at, own_lines as lines_of_their_own};
 ghost use Rattle.mt_display.specs.Displays.{display_lines, fitted_lines, placed_lines, numbered_lines};
 ghost use Rattle.mt_display.specs.inner.Fits.{AreWidths, IsSmallSlot, target_value};
 
@@ -163,7 +165,7 @@ fn place_fitted(
 }
 
 fn begins_with_space(row: &Row) -> bool
-    ensures { result ≡ begins_with_a_space (piece_values row.now) }
+    ensures { result ≡ begins_with_space_piece (piece_values row.now) }
 {
     matches!(row.as_slice(), [Piece::Space { .. }, ..])
 }
@@ -288,7 +290,8 @@ fn beside(
     requires room { Within (2 ^ 40) room.sp }
     requires display { display.level ≤ 2 ^ 20 - 3 }
     requires number { number.level ≤ 2 ^ 20 - 3 }
-    ensures is { IfOk result (λ row. piece_values row ≡ row_of_both left room.sp (layout_of display) (layout_of number)) }
+    ensures is { IfOk result (λ row. piece_values row
+        ≡ row_of_both left room.sp (layout_of display) (layout_of number)) }
     ensures modest { IfOk result AllModest }
     ensures few { IfOk result (λ row. length row ≡ 3) }
     ensures level { IfOk result (λ row. row_level row ≡ max display.level number.level + 1) }

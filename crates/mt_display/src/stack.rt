@@ -4,7 +4,8 @@ ghost use Rattle.mt_scaled.specs.Number.{Within, max_dimen};
 ghost use Rattle.mt_box.specs.Extents.{ExtentsInRange};
 ghost use Rattle.mt_box.specs.Placing.{Placed};
 ghost use Rattle.mt_display.specs.Lines.{line_value, line_values};
-ghost use Rattle.mt_display.specs.Stack.{fault_in_line as fault_of_line, line_places, top_below as top_of_line, stacked_lines, StackAnswers};
+ghost use Rattle.mt_display.specs.Stack.{fault_in_line as fault_of_line, line_places};
+ghost use Rattle.mt_display.specs.Stack.{top_below as top_of_line, stacked_lines, StackAnswers};
 ghost use Rattle.mt_display.specs.inner.NextLines.{above_value, IsNear, AddsLine};
 ghost use Rattle.mt_display.specs.declared.line.Line.{Line as LineFields};
 

@@ -26,18 +26,18 @@ fault_of (errors.TooMany at) = some_fault at TooMany
 fault_of errors.OutOfMemory = None
 
 -- the number of a cause
-abbrev pub number_of : Cause → ℕ
-number_of Truncated = 1
-number_of BadOpcode = 2
-number_of BadPreamble = 3
-number_of BadPointer = 4
-number_of BadPost = 5
-number_of UnknownFont = 6
-number_of MissingChar = 7
-number_of StackEmpty = 8
-number_of TooDeep = 9
-number_of OutOfRange = 10
-number_of TooMany = 11
+abbrev pub dvi_cause_number : Cause → ℕ
+dvi_cause_number Truncated = 1
+dvi_cause_number BadOpcode = 2
+dvi_cause_number BadPreamble = 3
+dvi_cause_number BadPointer = 4
+dvi_cause_number BadPost = 5
+dvi_cause_number UnknownFont = 6
+dvi_cause_number MissingChar = 7
+dvi_cause_number StackEmpty = 8
+dvi_cause_number TooDeep = 9
+dvi_cause_number OutOfRange = 10
+dvi_cause_number TooMany = 11
 
 -- these pages, unless memory ran out
 abbrev pub ReadsBack : Result (List (List Place)) DviError → List (List Place) → Type 0

@@ -1,7 +1,7 @@
 //! Why a file is refused.
 ghost use Rattle.std.specs.Prelude.{◌≡◌, IfSome, option_map};
 ghost use Rattle.mt_dvi.specs.File.{Fault};
-ghost use Rattle.mt_dviread.specs.Faults.{fault_of, number_of};
+ghost use Rattle.mt_dviread.specs.Faults.{fault_of, dvi_cause_number};
 
 use thiserror::Error;
 
@@ -10,7 +10,8 @@ use thiserror::Error;
 /// Where an opcode has several faults, the first of them in this order is told.
 #[derive(Clone, Copy, Debug, PartialEq, Eq, Error)]
 pub enum DviError {
-    /// The file ends inside the operation, or before it, or before the fourth byte after post_post.
+    /// The file ends inside the operation, or before the fourth byte after post_post. Where it ends
+    /// between two operations, the offset is its length.
     #[error("byte {0}: the file ends too soon")]
     Truncated(u64),
     /// The opcode cannot stand there.
@@ -26,8 +27,9 @@ pub enum DviError {
     /// post_post: its offset or its identifier is wrong, or a byte after it is not 223.
     #[error("byte {0}: a wrong postamble")]
     BadPost(u64),
-    /// A glyph without a font; a font that is not defined, or not in the set; a second definition of
-    /// a font with another name or size.
+    /// A glyph without a font; the selection of a font that is not defined, that has an area, or
+    /// whose name and size no font of the set has; a second definition of a font with another name
+    /// or size.
     #[error("byte {0}: an unknown font")]
     UnknownFont(u64),
     /// The font does not have the character.
@@ -42,10 +44,10 @@ pub enum DviError {
     /// h or v is more than 2^31 - 1 in size after the operation.
     #[error("byte {0}: a move out of range")]
     OutOfRange(u64),
-    /// A place more than a DVI file can have.
+    /// There is a place 2,000,001.
     #[error("byte {0}: too many places")]
     TooMany(u64),
-    /// There is no memory for the pages.
+    /// Memory ran out.
     #[error("out of memory")]
     OutOfMemory,
 }
@@ -53,7 +55,7 @@ pub enum DviError {
 impl DviError {
     /// The number of the cause, from 1 to 11 in the order of the variants; 12 for want of memory.
     pub fn cause(self) -> u8
-        ensures { IfSome (fault_of self) (λ fault. result ≡ number_of fault.cause) }
+        ensures { IfSome (fault_of self) (λ fault. result ≡ dvi_cause_number fault.cause) }
     {
         match self {
             DviError::Truncated(_) => 1,

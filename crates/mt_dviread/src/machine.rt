@@ -8,7 +8,8 @@ ghost use Rattle.mt_dvi.specs.Fonts.{first_definition};
 ghost use Rattle.mt_dvi.specs.Machine as machine;
 ghost use Rattle.mt_dviread.specs.inner.Operations.{IsOperation, register_of};
 ghost use Rattle.mt_dviread.specs.inner.Defined.{Knows};
-ghost use Rattle.mt_dviread.specs.inner.Performs.{Performs, MovesTo, MovesMachine, registers_of, registers_with, registers_moved, with_registers};
+ghost use Rattle.mt_dviread.specs.inner.Performs.{Performs, MovesTo, MovesMachine, registers_of};
+ghost use Rattle.mt_dviread.specs.inner.Performs.{registers_with, registers_moved, with_registers};
 
 use crate::cause::Cause;
 use crate::coordinate::Coordinate;

@@ -1,5 +1,6 @@
 //! Numbers in the bytes of a file.
-ghost use Rattle.std.specs.Prelude.{◌≡◌, ◌<◌, ◌≤◌, ◌+◌, ◌*◌, ◌^◌, ◌-ℤ◌, ◌<ℤ◌, ◌≤ℤ◌, pos, int_lt, length, take, drop, get_or, if◌then◌else◌};
+ghost use Rattle.std.specs.Prelude.{◌≡◌, ◌<◌, ◌≤◌, ◌+◌, ◌*◌, ◌^◌, ◌-ℤ◌, ◌<ℤ◌, ◌≤ℤ◌, pos, int_lt, length};
+ghost use Rattle.std.specs.Prelude.{take, drop, get_or, if◌then◌else◌};
 ghost use Rattle.mt_dvi.specs.Codes.{unsigned, signed, part};
 
 use byteorder::{BigEndian, ByteOrder};

@@ -1,6 +1,7 @@
 //! The operations that opcodes and their operands stand for (tex.web §585 to §590).
 ghost use Rattle.std.specs.Prelude.{◌≡◌, ◌≤◌, ◌<◌, length, take, drop};
-ghost use Rattle.mt_dvi.specs.Codes.{Rule, operand_size, operation, signed, definition, definition_size, preamble, postamble};
+ghost use Rattle.mt_dvi.specs.Codes.{Rule, operand_size, operation, signed, definition, definition_size};
+ghost use Rattle.mt_dvi.specs.Codes.{preamble, postamble};
 ghost use Rattle.mt_dvi.specs.Opcodes.{right1, fnt_num_0};
 ghost use Rattle.mt_dviread.specs.inner.Operations.{IsDefinition, IsPreamble, IsPostamble, IsOperation};
 

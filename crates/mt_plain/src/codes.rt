@@ -1,6 +1,7 @@
 //! The codes of characters and names.
 ghost use Rattle.std.specs.Prelude.{◌≡◌, ◌<◌, ◌≤◌, true, IfOk};
-ghost use Rattle.mt_plain.specs.CodeTables.{plain_codes, math_code_of, delcode_of, with_math_code, with_delcode, is_delcode, ChangesMathCode, ChangesDelcode};
+ghost use Rattle.mt_plain.specs.CodeTables.{plain_codes, math_code_of, delcode_of, with_math_code};
+ghost use Rattle.mt_plain.specs.CodeTables.{with_delcode, is_delcode, ChangesMathCode, ChangesDelcode};
 ghost use Rattle.mt_plain.specs.Names.{control};
 
 use crate::characters::{delcodes, math_codes};

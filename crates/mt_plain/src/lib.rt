@@ -1,4 +1,5 @@
-//! The tables of plain TeX for formulas (The TeXbook, Appendix B): the codes of characters and names, the commands, and the macros.
+//! The tables of plain TeX for formulas (The TeXbook, Appendix B): the codes of characters and
+//! names, the commands, and the macros.
 #![tactic(auto)]
 
 mod characters;

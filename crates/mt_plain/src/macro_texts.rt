@@ -1,6 +1,7 @@
 //! The macros of plain TeX for formulas, by their names, with the texts of their bodies.
 ghost use Rattle.std.specs.Prelude.{◌≡◌};
-ghost use Rattle.mt_plain.specs.MacroTexts.{accent_macros, delimiter_macros, other_macros, family_macros, function_macros, limit_macros};
+ghost use Rattle.mt_plain.specs.MacroTexts.{accent_macros, delimiter_macros, other_macros, family_macros};
+ghost use Rattle.mt_plain.specs.MacroTexts.{function_macros, limit_macros};
 ghost use Rattle.mt_plain.specs.PlainMacros.{lent_texts, AreBodyTexts};
 
 /// A name and the text of its macro's body.

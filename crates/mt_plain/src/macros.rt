@@ -2,7 +2,8 @@
 ghost use Rattle.std.specs.Prelude.{◌≡◌, map, Ok, [], ◌∷◌, IfOk, OnOk};
 ghost use Rattle.mt_token.specs.Tokens.{source_tokens, spanned};
 ghost use Rattle.mt_plain.specs.MacroTexts.{macro_texts};
-ghost use Rattle.mt_plain.specs.PlainMacros.{lent_texts, body_of, IsBodyText, AreBodyTexts, PutsIn, HasMacros, plain_table};
+ghost use Rattle.mt_plain.specs.PlainMacros.{lent_texts, body_of, IsBodyText, AreBodyTexts, PutsIn};
+ghost use Rattle.mt_plain.specs.PlainMacros.{HasMacros, plain_table};
 
 use crate::error::CodeError;
 use crate::macro_texts::{
@@ -55,7 +56,8 @@ fn preload_all(alloc: Global, macros: &mut Macros, list: &[MacroText]) -> Result
     Ok(())
 }
 
-/// The macros of plain TeX for formulas: those of the names of accents, delimiters, functions and families, and a few more.
+/// The macros of plain TeX for formulas: those of the names of accents, delimiters, functions and
+/// families, and a few more.
 ///
 /// # Errors
 ///
@@ -63,7 +65,8 @@ fn preload_all(alloc: Global, macros: &mut Macros, list: &[MacroText]) -> Result
 pub fn plain_macros(alloc: Global) -> Result<Macros, CodeError>
     ensures is { IfOk result (λ macros. macros ≡ plain_table) }
     ensures has { IfOk result (λ macros. HasMacros macros macro_texts) }
-    ensures bodies { IfOk result (λ _. map (λ d. source_tokens d.1) macro_texts ≡ map (λ d. Ok (map spanned (body_of d.1))) macro_texts) }
+    ensures bodies { IfOk result (λ _. map (λ d. source_tokens d.1) macro_texts
+        ≡ map (λ d. Ok (map spanned (body_of d.1))) macro_texts) }
 {
     let mut macros = Macros::empty(alloc);
     preload_all(alloc, &mut macros, accent_macros())?;

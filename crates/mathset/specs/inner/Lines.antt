@@ -28,13 +28,13 @@ row_values (Err status) = Err status
 abbrev pub IsRow : Result (List PieceValue) Status → Result (List Piece) Status → Type 0
 IsRow step result = IsPure step (row_values result)
 
-abbrev pub number_by : Result (Option Numbered) Status → Result (Option NumberValue) Status
-number_by (Ok n) = Ok (option_map number_value n)
-number_by (Err status) = Err status
+abbrev pub number_answer : Result (Option Numbered) Status → Result (Option NumberValue) Status
+number_answer (Ok n) = Ok (option_map number_value n)
+number_answer (Err status) = Err status
 
 -- its number is that of the step's answer
 abbrev pub IsNumber : Result (Option NumberValue) Status → Result (Option Numbered) Status → Type 0
-IsNumber step result = IsPure step (number_by result)
+IsNumber step result = IsPure step (number_answer result)
 
 -- a row that can stand on a line
 pub record RowStands (fonts : SetValue) (row : List Piece) : Type 0 where
