@@ -36,5 +36,3 @@ pub mod BothPasses
 mod cases
 -- atoms of each kind, and fractions
 pub mod kinds
--- lists that the tests make
-pub mod TestLists

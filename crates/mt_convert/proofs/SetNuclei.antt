@@ -49,6 +49,10 @@ fits_by most n row e few fits reach delta = record {
   delta = delta;
 }
 
+-- boxes of a level of at most this are of a level of at most more
+pub small_below : (m n : ℕ) (x : SetNucleus) → m ≤ n → NucleusIsSmall m x → NucleusIsSmall n x
+small_below m n x le h = record { few = h.few; fits = record { measurable = h.fits.measurable; level = omega (arith, le, h.fits.level) }; reach = h.reach; delta = h.delta }
+
 pub glyph_fits : (p : Piece) (n : SetNucleus) → IsGlyphInRange p → n.row ≡ p ∷ [] → Within (2 ^ 31) n.delta.sp → NucleusIsSmall 0 n
 glyph_fits (Glyph f c e) n h is delta =
     fits_by 0 n (Glyph f c e ∷ []) is (lit≤ tt)

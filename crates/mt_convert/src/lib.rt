@@ -19,8 +19,6 @@ mod scripts;
 mod second;
 mod settle;
 mod space;
-#[cfg(test)]
-mod tests;
 mod turn;
 mod worklist;
 

@@ -18,6 +18,3 @@ pub use error::StackError;
 pub use inline::place_inline;
 pub use line::{Line, Lines, Numbered};
 pub use stack::stack_lines;
-
-#[cfg(test)]
-mod tests;

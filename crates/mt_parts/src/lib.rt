@@ -9,8 +9,6 @@ mod fraction;
 mod lines;
 mod radical;
 mod shifts;
-#[cfg(test)]
-mod tests;
 
 pub use accents::accent_box;
 pub use centred::vcenter_box;

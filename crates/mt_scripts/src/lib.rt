@@ -5,8 +5,6 @@
 mod attach;
 mod limits;
 mod shifts;
-#[cfg(test)]
-mod tests;
 
 pub use attach::attach_scripts;
 pub use limits::limits_box;

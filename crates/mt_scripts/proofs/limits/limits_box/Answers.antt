@@ -1,9 +1,23 @@
-use Rattle.std.proofs.Common.{arith, ap}
+use Rattle.std.proofs.Common.{arith, ap, refl, ◌+◌, ◌≤◌, ◌^◌}
+use Rattle.std.specs.Prelude.{Option, Some, None}
+use Rattle.std.specs.Option.{ForSome}
 use Rattle.std.proofs.lemmas.Int.{ints}
 use Rattle.mt_box.specs.declared.extents.Extents.{Extents}
 use Rattle.mt_box.specs.Columns.{entry_values}
+use Rattle.mt_box.specs.Layout.{BoxValue}
+use Rattle.mt_scripts.specs.Levels.{script_level}
 use Rattle.mt_scripts.proofs.LimitLayouts.{limits_ok, limits_err, handed_on}
 use Rattle.mt_scripts.proofs.limits.limits_box.Goals as goal
+
+low_level : (s : Option BoxValue) → ForSome s (λ b. b.level + 4 ≤ 2 ^ 20) → script_level s + 4 ≤ 2 ^ 20
+low_level None h = omega arith
+low_level (Some b) h = h b refl
+
+pub limits_column-requires-clause-sup_level : goal.limits_column-requires-clause-sup_level
+limits_column-requires-clause-sup_level c = omega (arith, c.in_ok-sup.ensures.level, low_level c.args.sup c.requires.sup_level)
+
+pub limits_column-requires-clause-sub_level : goal.limits_column-requires-clause-sub_level
+limits_column-requires-clause-sub_level c = omega (arith, c.in_ok-sub.ensures.level, low_level c.args.sub c.requires.sub_level)
 
 pub vpack-requires-clause-top : goal.vpack-requires-clause-top
 vpack-requires-clause-top c = record { low = omega (arith, ints, c.height_with-height.ensures.small); high = omega (arith, ints, c.height_with-height.ensures.small) }

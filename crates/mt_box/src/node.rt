@@ -1,0 +1,40 @@
+//! The nodes of a box.
+
+/// The number of a node among the nodes of its box, counted from 0. The number of all nodes stands for their end.
+#[derive(Clone, Copy, Debug, PartialEq, Eq)]
+pub struct NodeId(pub usize);
+
+/// What stands at a node. All numbers but the font, the code and the count are scaled points.
+#[derive(Clone, Copy, Debug, PartialEq, Eq)]
+pub enum Mark {
+    /// Nothing: the node holds others together.
+    Group,
+    /// A character of a font. The font is its number in the font list.
+    Glyph {
+        font: u16,
+        code: u8,
+    },
+    /// A black rectangle, of a positive height and width.
+    Rule {
+        height: i64,
+        width: i64,
+    },
+    /// So many glyphs, each a step below the one before.
+    Stack {
+        font: u16,
+        code: u8,
+        step: i64,
+        count: u64,
+    },
+}
+
+/// A node of a box, with its offset from its parent, or from the reference point where it has none. x grows to the
+/// right and y upward, in scaled points.
+#[derive(Clone, Copy, Debug, PartialEq, Eq)]
+pub struct Node {
+    pub x: i64,
+    pub y: i64,
+    pub mark: Mark,
+    /// The first node behind this one that is not in it, or the end where there is none.
+    pub after: NodeId,
+}
