@@ -26,3 +26,15 @@ mod RequestCases
 pub mod ListingLemmas
 -- small pages as texts
 mod ListingWorked
+-- steps that never answer a certain error
+pub mod Avoiding
+-- each brace of a formula has its partner
+pub mod Balanced
+-- a document is never refused for want of memory
+pub mod DocumentRefusals
+-- fonts are never refused for want of memory
+pub mod FontRefusals
+-- pages are never refused for want of memory
+pub mod PageRefusals
+-- no words and files ask for a refusal for want of memory
+pub mod NoMemory

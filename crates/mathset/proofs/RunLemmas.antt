@@ -21,8 +21,8 @@ use Rattle.mathset.specs.Request.{request_of}
 use Rattle.mathset.specs.RequestValues.{DviValue, SourceValue}
 use Rattle.mathset.specs.Steps.{read_steps, typeset_steps}
 use Rattle.mathset.specs.Typeset.{TypesetValue}
-use Rattle.mathset.specs.Ends.{EndsAs, GotPart, IsQuiet, IsToldRefusal, ListsPages, SetsAs}
-use Rattle.mathset.specs.inner.Runs.{EndLeaves, IsRun, LeavesOutput}
+use Rattle.mathset.specs.Ends.{EndsAs, GotLean, GotPart, GotWhole, IsQuiet, IsToldRefusal, ListsPages, SetsAs, WritesLean, WritesWhole}
+use Rattle.mathset.specs.inner.Runs.{EndLeaves, IsRun, LeavesOutput, WritesWholeLean}
 use Rattle.mathset.specs.inner.Steps.{IsStep}
 use Rattle.mathset.specs.declared.product.Product.{Product}
 use Rattle.mathset.specs.declared.product.Product.TheVariants.{File, Text}
@@ -193,6 +193,29 @@ no_words_run holds reads last written writes steps cabinet out = record {
   kept = refl;
 }
 
+same_product : (p q : Product) → (let r : Result Product Status = Ok p in r) ≡ Ok q → p ≡ q
+same_product p q is = cc
+
+got_whole : {product : Product} {before now : Option (List ℕ)} → GotLean product before now → GotWhole product before now
+got_whole got = record { bytes = got.bytes; made = got.made; appended = got.appended }
+
+-- a product that is lean is a product
+pub done : (holds : Option (List Held)) (steps : List Held → Outcome Product) (before now : Option (List ℕ)) → WritesWholeLean holds steps before now
+    → WritesWhole holds steps before now
+done holds steps before now whole = record { gives = whole.gives; got = got_whole whole.got }
+
+lean_by : (r : Result TypesetValue Status) (asked : List (List ℕ)) (product : Product) (before now : Option (List ℕ))
+    → (outcome_after r asked (λ t. plain (Ok (File t)))).result ≡ Ok product → GotLean product before now → WritesLean r before now
+lean_by (Ok t) asked product before now is got = subst (λ (p : Product). GotLean p before now) (sym (same_product (File t) product is)) got
+lean_by (Err refusal) asked product before now is got = absurd (cc)
+
+-- words that ask for a source to be set, whose file is written
+pub lean : (words : List (List ℕ)) (w : SourceValue) (files : List Held) (holds : Option (List Held)) (before now : Option (List ℕ)) → request_of words ≡ Some (Set w)
+    → holds ≡ Some files → WritesWholeLean holds (steps words) before now → WritesLean (typeset_steps w files).result before now
+lean words w files holds before now is told whole =
+    lean_by (typeset_steps w files).result (typeset_steps w files).asked whole.gives.product before now
+    (subst (λ (r : Option Request). (steps_by r files).result ≡ Ok whole.gives.product) is (whole.gives.is files told)) whole.got
+
 not_both : (before now : ℕ) → IsSteady before now → Rose before now → ⊥
 not_both before now steady rose = omega (arith, steady, rose.1)
 
@@ -206,7 +229,7 @@ ends holds reads last written writes steps cabinet cabinet' out out' status run 
     (λ s. IsRun holds reads last written writes steps cabinet cabinet' out out' s → (s ≡ OutOfMemory) ⊎ EndsAs (steps files).result (written out) (written out') s)
     (λ run.
     let whole = run.done refl in
-    inr (subst (λ (r : Result Product Status). EndsAs r (written out) (written out') Done) (sym (whole.gives.is files told)) (refl, whole.got)))
+    inr (subst (λ (r : Result Product Status). EndsAs r (written out) (written out') Done) (sym (whole.gives.is files told)) (refl, got_whole whole.got)))
     (λ name run. absurd (not_both (reads cabinet) (reads cabinet') read (run.lost name refl).0))
     (λ count run. absurd (not_both (writes out) (writes out') wrote (run.cut count refl).0))
     (λ run. inl refl)

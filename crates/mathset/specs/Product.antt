@@ -1,5 +1,6 @@
--- What a run is to write (`Makes`): a DVI file of pages, or a text.
-use Rattle.std.specs.Prelude.{◌≡◌, ℕ, List}
+-- What a run is to write (`Makes`): a DVI file of pages, or a text; and which files are lean (`IsLean`).
+use Rattle.std.specs.Prelude.{◌≡◌, ℕ, List, ⊤}
+use Rattle.mt_dvi.specs.Lean.{Lean}
 use Rattle.mt_dvi.specs.Written.{Written}
 use Rattle.mathset.specs.declared.product.Product.{Product}
 use Rattle.mathset.specs.declared.product.Product.TheVariants.{File, Text}
@@ -8,3 +9,8 @@ use Rattle.mathset.specs.declared.product.Product.TheVariants.{File, Text}
 abbrev pub Makes : Product → List ℕ → Type 0
 Makes (File typeset) bytes = Written typeset.fonts bytes typeset.pages
 Makes (Text text) bytes = bytes ≡ text
+
+-- a DVI file is lean; of a text nothing is said
+abbrev pub IsLean : Product → List ℕ → Type 0
+IsLean (File typeset) bytes = Lean typeset.fonts bytes
+IsLean (Text text) bytes = ⊤

@@ -1,7 +1,7 @@
 //! What a run is to write: a DVI file of pages, or a text.
 ghost use Rattle.std.specs.Prelude.{◌≡◌};
 ghost use Rattle.mathset.specs.inner.Runs.{EndLeaves, LeavesOutput};
-ghost use Rattle.mathset.specs.Product.{Makes};
+ghost use Rattle.mathset.specs.Product.{Makes, IsLean};
 ghost use Rattle.mathset.specs.declared.product.Product.{Product};
 
 use crate::status::Status;
@@ -47,7 +47,7 @@ pub enum Product {
 }
 
 fn put_bytes<K: Sink>(out: &mut K, bytes: &[u8]) -> Status
-    ensures { (product : Product) → Makes product bytes.now
+    ensures { (product : Product) → Makes product bytes.now → IsLean product bytes.now
         → LeavesOutput K.written K.faults product out.old out.new result }
 {
     match write_all(out, bytes) {

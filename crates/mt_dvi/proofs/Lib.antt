@@ -1,12 +1,18 @@
 -- worked files, evaluated by the definition of the format
 mod SampleFiles
 mod MutatedFiles
+mod LeanFiles
+mod FilesNotLean
+-- which sentences on lean files hold of a file
+pub mod Sentences
 -- which bytes are which operation
 pub mod CodeLemmas
 -- one operation more leads to the next state
 pub mod Prefix
--- moves to the right and down
-pub mod Moves
+-- the opcodes of a page so far
+pub mod LeanLemmas
+-- moves across and downward
+pub mod MoveLemmas
 -- definitions and selections of fonts
 pub mod FontLemmas
 -- one place: a glyph or a rule

@@ -4,53 +4,68 @@ use Rattle.std.specs.Prelude.{ℤ, pos, negsuc, true, All, min, ◌^◌, ◌-◌
 use Rattle.std.specs.Ordering.{int_eq}
 use Rattle.std.proofs.lemmas.Bool.Decides.{nat_tests}
 use Rattle.std.proofs.lemmas.List.{append-nil, take_more}
+use Rattle.std.proofs.lemmas.List.Elements.{All-append}
 use Rattle.mt_dvi.specs.Limits.{max_pages, max_places}
 use Rattle.mt_dvi.specs.Codes.{Bop, Eop}
 use Rattle.mt_dvi.specs.writer.Emits.{FitsFourBytes, Emits}
-use Rattle.mt_dvi.specs.File.{BetweenPages, Continues, File, Page, at_start, empty_page, file_step}
-use Rattle.mt_dvi.specs.writer.LeadsTo.{Advances, LeadsTo, WritesPlaces, at_origin, in_page, numbers_after, numbers_after_all, with_definitions, with_places}
+use Rattle.mt_dvi.specs.File.{BetweenPages, Continues, Page, at_start, empty_page, file_step}
+use Rattle.mt_dvi.specs.Trace.{Opcode, no_trace}
+use Rattle.mt_dvi.specs.Lean.{LeanPage}
+use Rattle.mt_dvi.specs.writer.LeadsTo.{LeadsTo, Reached, at_origin, in_page, numbers_after, numbers_after_all, with_definitions, with_opcodes, with_places}
+use Rattle.mt_dvi.specs.writer.Stands.{Arrived, StandsWith, WritesPlaces}
 use Rattle.mt_dvi.specs.Machine.{WrittenPlace}
 use Rattle.mt_dvi.specs.WrittenPlaces.{all_places, written_places, numbered_pages, page_counts, numbered_page}
-use Rattle.mt_dvi.specs.writer.Pages.{PagesWritten, WritesPage, between_pages}
+use Rattle.mt_dvi.specs.writer.Pages.{PagesWritten, WritesPage, WrittenPages, between_pages}
 use Rattle.mt_family.specs.SetValue.{SetValue}
 use Rattle.mt_box.specs.declared.place.Place.{Place}
 use Rattle.mt_dvi.specs.declared.page.Cursor.{Cursor}
 use Rattle.mt_dvi.proofs.Prefix.{leads_next}
+use Rattle.mt_dvi.proofs.LeanLemmas.{lean_end, lean_start}
 use Rattle.mt_dvi.proofs.PagePlaces.{long}
 
 pub same_int : (z : ℤ) → int_eq z z ≡ true
 same_int (pos n) = grind (arith, nat_tests)
 same_int (negsuc n) = grind (arith, nat_tests)
 
--- the file in a page without places, where last is the offset of its bop
-abbrev open_file : List Page → ℤ → ℕ → List ℕ → File
-open_file pages last place_count counts = record at_start { phase = BetweenPages; mag = pos 1000; pages = pages; last = last; place_count = place_count; page = empty_page counts }
+-- in a page without places, where last is the offset of its bop
+abbrev opened : List Page → ℤ → ℕ → List (List Opcode) → List ℕ → Reached
+opened pages last place_count opcodes counts = record {
+  file = record at_start { phase = BetweenPages; mag = pos 1000; pages = pages; last = last; place_count = place_count; page = empty_page counts };
+  trace = record no_trace { pages = opcodes };
+}
 
-step_bop : (fonts : SetValue) (numbers : List ℕ) (pages : List Page) (last : ℤ) (place_count at : ℕ) (counts : List ℕ) (rest : List ℕ)
-    → file_step fonts (record (between_pages fonts numbers pages last place_count) { at = at }) (Bop counts last) rest ≡ Continues (record (in_page (with_definitions fonts (open_file pages (pos at) place_count counts) numbers) at_origin) { at = at })
-step_bop fonts numbers pages last place_count at counts rest = rw (same_int last) refl
+step_bop : (fonts : SetValue) (numbers : List ℕ) (pages : List Page) (last : ℤ) (place_count at : ℕ) (opcodes : List (List Opcode)) (counts : List ℕ) (rest : List ℕ)
+    → file_step fonts (record ((between_pages fonts numbers pages last place_count opcodes).file) { at = at }) (Bop counts last) rest ≡ Continues (record ((in_page (with_definitions fonts (opened pages (pos at) place_count opcodes counts) numbers) at_origin).file) { at = at })
+step_bop fonts numbers pages last place_count at opcodes counts rest = rw (same_int last) refl
 
-step_eop : (fonts : SetValue) (numbers : List ℕ) (pages : List Page) (last : ℤ) (place_count at : ℕ) (counts : List ℕ) (places : List WrittenPlace) (cursor : Cursor) (rest : List ℕ)
-    → file_step fonts (record (in_page (with_definitions fonts (with_places (open_file pages last place_count counts) places) numbers) cursor) { at = at }) Eop rest
-    ≡ Continues (record (between_pages fonts numbers (pages ++ record { counts = counts; places = places; specials = [] } ∷ []) last (place_count + length places)) { at = at })
-step_eop fonts numbers pages last place_count at counts places cursor rest = refl
+step_eop : (fonts : SetValue) (numbers : List ℕ) (pages : List Page) (last : ℤ) (place_count at : ℕ) (opcodes : List (List Opcode)) (counts : List ℕ) (places : List WrittenPlace) (page : List Opcode) (cursor : Cursor) (rest : List ℕ)
+    → file_step fonts (record ((in_page (with_opcodes (with_definitions fonts (with_places (opened pages last place_count opcodes counts) places) numbers) page) cursor).file) { at = at }) Eop rest
+    ≡ Continues (record ((between_pages fonts numbers (pages ++ record { counts = counts; places = places; specials = [] } ∷ []) last (place_count + length places) (opcodes ++ page ∷ [])).file) { at = at })
+step_eop fonts numbers pages last place_count at opcodes counts places page cursor rest = refl
 
 pub page_written : (fonts : SetValue) (o0 o1 o2 o3 : List ℕ) (old_defined new_defined : List ℕ) (number : ℕ) (last : ℤ) (page : List Place)
     → Emits 45 o0 o1 (Bop (page_counts number) last)
     → WritesPlaces fonts o1 o2 old_defined new_defined page
     → Emits 1 o2 o3 Eop
     → WritesPage fonts o0 o3 old_defined new_defined number last page
-page_written fonts o0 o1 o2 o3 old_defined new_defined number last page bop places eop = λ pages place_count few leads.
+page_written fonts o0 o1 o2 o3 old_defined new_defined number last page bop places eop = λ pages place_count before few leads.
     let counts = page_counts number in
-    let file = open_file pages (pos (length o0)) place_count counts in
-    let s1 : LeadsTo fonts o1 (in_page (with_definitions fonts file old_defined) at_origin) =
-    leads_next fonts o0 o1 (between_pages fonts old_defined pages last place_count) (in_page (with_definitions fonts file old_defined) at_origin) (Bop counts last) 45 leads bop
-    (λ rest. step_bop fonts old_defined pages last place_count (length o0) counts rest) in
-    let s2 = places file few s1 in
-    let s3 : LeadsTo fonts o3 (between_pages fonts new_defined (pages ++ numbered_page fonts number page ∷ []) (pos (length o0)) (place_count + length (written_places fonts page))) =
-    leads_next fonts o2 o3 (in_page (with_definitions fonts (with_places file (written_places fonts page)) new_defined) s2.0) (between_pages fonts new_defined (pages ++ numbered_page fonts number page ∷ []) (pos (length o0)) (place_count + length (written_places fonts page))) Eop 1 s2.1 eop
-    (λ rest. step_eop fonts new_defined pages (pos (length o0)) place_count (length o2) counts (written_places fonts page) s2.0 rest) in
-    subst (λ (n : ℕ). LeadsTo fonts o3 (between_pages fonts new_defined (pages ++ numbered_page fonts number page ∷ []) (pos (length o0)) (place_count + n))) (long fonts page) s3
+    let start = opened pages (pos (length o0)) place_count before counts in
+    let s1 : StandsWith fonts o1 start old_defined at_origin Arrived = record {
+      page = [];
+      lean = lean_start;
+      leads = leads_next fonts o0 o1 (between_pages fonts old_defined pages last place_count before) (in_page (with_opcodes (with_definitions fonts start old_defined) []) at_origin) (Bop counts last) 45 leads bop
+          (λ rest. step_bop fonts old_defined pages last place_count (length o0) before counts rest) refl;
+    } in
+    let s2 = places start few s1 in
+    let s3 : LeadsTo fonts o3 (between_pages fonts new_defined (pages ++ numbered_page fonts number page ∷ []) (pos (length o0)) (place_count + length (written_places fonts page)) (before ++ s2.1.page ∷ [])) =
+    leads_next fonts o2 o3 (in_page (with_opcodes (with_definitions fonts (with_places start (written_places fonts page)) new_defined) s2.1.page) s2.0) (between_pages fonts new_defined (pages ++ numbered_page fonts number page ∷ []) (pos (length o0)) (place_count + length (written_places fonts page)) (before ++ s2.1.page ∷ [])) Eop 1 s2.1.leads eop
+    (λ rest. step_eop fonts new_defined pages (pos (length o0)) place_count (length o2) before counts (written_places fonts page) s2.1.page s2.0 rest) refl in
+    record {
+      opcodes = s2.1.page;
+      lean = lean_end s2.1.page s2.0 s2.1.lean;
+      leads = subst (λ (n : ℕ). LeadsTo fonts o3 (between_pages fonts new_defined (pages ++ numbered_page fonts number page ∷ []) (pos (length o0)) (place_count + n) (before ++ s2.1.page ∷ []))) (long fonts page) s3;
+    }
 
 joined_more : (pages : List (List Place)) (page : List Place) → all_places (pages ++ page ∷ []) ≡ all_places pages ++ page
 joined_more [] page = append-nil page
@@ -69,12 +84,12 @@ used_more numbers (x ∷ xs) ys = used_more (numbers_after numbers x) xs ys
 -- the pages so far
 pub record PagesSoFar (fonts : SetValue) (old_out out defined : List ℕ) (last : ℤ) (pages : List (List Place)) : Type 0 where
   pub used : defined ≡ numbers_after_all [] (all_places pages)
-  pub leads : Advances fonts old_out out (between_pages fonts [] [] (negsuc 0) 0)
-      (between_pages fonts defined (numbered_pages fonts 1 pages) last (length (all_places pages)))
+  pub written : LeadsTo fonts old_out (between_pages fonts [] [] (negsuc 0) 0 [])
+      → WrittenPages fonts out defined (numbered_pages fonts 1 pages) last (length (all_places pages))
   pub long : length out ≤ length old_out + 19 * length (all_places pages) + 46 * length pages + 271 * length defined
 
 pub pages_none : (fonts : SetValue) (out : List ℕ) → PagesSoFar fonts out out [] (negsuc 0) []
-pages_none fonts out = record { used = refl; leads = λ leads. leads; long = omega arith }
+pages_none fonts out = record { used = refl; written = λ leads. record { opcodes = []; lean = λ k d lt. absurd (omega arith); leads = leads }; long = omega arith }
 
 pub take_long : (xs : List (List Place)) (i : ℕ) → i ≤ length xs → length (take i xs) ≡ i
 take_long xs zero lt = refl
@@ -92,12 +107,20 @@ pub pages_end : (fonts : SetValue) (old_out out defined : List ℕ) (last : ℤ)
     → FitsFourBytes last → length defined ≤ 48 → All (λ (n : ℕ). n < length fonts.fonts) defined → PagesWritten fonts old_out out defined last all
 pages_end fonts old_out out defined last all i lt so_far fits few there =
     let whole = subst (λ (pages : List (List Place)). PagesSoFar fonts old_out out defined last pages) (take_whole all i lt) so_far in
-    record { used = whole.used; leads = whole.leads; long = whole.long; last_fits = fits; few = few; there = there }
+    record { used = whole.used; written = whole.written; long = whole.long; last_fits = fits; few = few; there = there }
 
 pub joined_take : (xs : List (List Place)) (i : ℕ) → length (all_places (take i xs)) ≤ length (all_places xs)
 joined_take xs zero = omega arith
 joined_take [] (suc i) = omega arith
 joined_take (x ∷ xs) (suc i) = omega (arith, joined_take xs i, length-append x (all_places (take i xs)), length-append x (all_places xs))
+
+one_of : (page : List Opcode) → LeanPage page → All LeanPage (page ∷ [])
+one_of page lean zero d lt = lean
+one_of page lean (suc k) d lt = absurd (omega arith)
+
+counted_so : (fonts : SetValue) (out defined : List ℕ) (pages all : List Page) (last : ℤ) (m n : ℕ) (opcodes : List (List Opcode)) → pages ≡ all → m ≡ n → LeadsTo fonts out (between_pages fonts defined pages last m opcodes) → LeadsTo fonts out (between_pages fonts defined all last n opcodes)
+counted_so fonts out defined pages all last m n opcodes e f leads =
+    subst (λ (ps : List Page). LeadsTo fonts out (between_pages fonts defined ps last n opcodes)) e (subst (λ (k : ℕ). LeadsTo fonts out (between_pages fonts defined pages last k opcodes)) f leads)
 
 pages_more : (fonts : SetValue) (old_out out new_out defined new_defined : List ℕ) (last : ℤ) (pages : List (List Place)) (page : List Place)
     → PagesSoFar fonts old_out out defined last pages
@@ -113,9 +136,14 @@ pages_more fonts old_out out new_out defined new_defined last pages page so_far 
     let before = so_far.long in
     record {
       used = used ∙ ap (λ (l : List ℕ). numbers_after_all l page) so_far.used ∙ sym (used_more [] (all_places pages) page) ∙ ap (λ (l : List Place). numbers_after_all [] l) (sym all);
-      leads = λ leads.
-          let s = one (numbered_pages fonts 1 pages) (length (all_places pages)) (omega (arith, few, count)) (so_far.leads leads) in
-          rw (numbered_more fonts 1 pages page, number, count) s;
+      written = λ leads.
+          let w = so_far.written leads in
+          let s = one (numbered_pages fonts 1 pages) (length (all_places pages)) w.opcodes (omega (arith, few, count)) w.leads in
+          record {
+            opcodes = w.opcodes ++ s.opcodes ∷ [];
+            lean = All-append LeanPage w.opcodes (s.opcodes ∷ []) w.lean (one_of s.opcodes s.lean);
+            leads = counted_so fonts new_out new_defined _ _ (pos (length out)) _ _ _ (sym (numbered_more fonts 1 pages page ∙ ap (λ (k : ℕ). numbered_pages fonts 1 pages ++ numbered_page fonts k page ∷ []) number)) (sym count) s.leads;
+          };
       long = omega (arith, before, long, count, length-append pages (page ∷ []));
     }
 

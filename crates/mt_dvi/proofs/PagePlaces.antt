@@ -1,6 +1,6 @@
 -- The places of a page so far (`places_next`).
 use Rattle.std.proofs.Common.{◌≡◌, ℕ, ◌+◌, ◌<◌, ◌≤◌, List, [], ◌∷◌, ◌++◌, suc, get_or, length, take, drop, ◌-◌, refl, sym, ◌∙◌, ap, subst, arith, append_assoc, length-append}
-use Rattle.std.specs.Prelude.{ℤ, ◌-ℤ◌, nat_abs, true, false, Bool, All, if◌then◌else◌}
+use Rattle.std.specs.Prelude.{ℤ, ◌-ℤ◌, nat_abs, true, false, Bool, Option, Some, None, All, if◌then◌else◌}
 use Rattle.std.proofs.lemmas.Bool.Decides.{nat_tests}
 use Rattle.std.proofs.lemmas.Int.{ints}
 use Rattle.std.proofs.lemmas.List.{append-nil}
@@ -8,14 +8,15 @@ use Rattle.mt_scaled.specs.Number.{max_dimen}
 use Rattle.mt_box.specs.Places.{h_of, v_of}
 use Rattle.mt_dvi.specs.Limits.{max_places}
 use Rattle.mt_dvi.specs.writer.Emits.{FitsFourBytes}
-use Rattle.mt_dvi.specs.File.{File}
-use Rattle.mt_dvi.specs.writer.LeadsTo.{Advances, IsReachable, LeadsTo, WritesPlace, WritesPlaces, at_cursor, at_origin, cursor_after, numbers_after, numbers_after_all, with_place, with_places}
+use Rattle.mt_dvi.specs.writer.LeadsTo.{IsReachable, Reached, at_origin, cursor_after, cursor_past, font_after, is_among, is_beyond, numbers_after, numbers_after_all, with_place, with_places}
+use Rattle.mt_dvi.specs.writer.Stands.{Arrived, IsAt, IsNoneOrAmong, StandsWith, WritesPlace, WritesPlaces}
 use Rattle.mt_dvi.specs.Machine.{WrittenPlace, is_far}
 use Rattle.mt_dvi.specs.Edges.{right_edge}
 use Rattle.mt_dvi.specs.Writable.{InRange, IsWritable}
 use Rattle.mt_dvi.specs.WrittenPlaces.{first_of, written_places, must_put}
 use Rattle.mt_family.specs.SetValue.{SetValue}
-use Rattle.mt_dvi.proofs.Moves.{half}
+use Rattle.mt_dvi.proofs.FontLemmas.{added_among}
+use Rattle.mt_dvi.proofs.MoveLemmas.{half}
 use Rattle.mt_box.specs.declared.place.Place.{Place}
 use Rattle.mt_box.specs.declared.place.Place.TheVariants.{Glyph, Rule}
 use Rattle.mt_dvi.specs.declared.page.Cursor.{Cursor}
@@ -24,11 +25,12 @@ pub record PlacesWritten (fonts : SetValue) (page : List Place) (old_out old_def
   pub can : All (IsWritable fonts) rest
   pub v : InRange cursor.v
   pub reach : IsReachable cursor (first_of rest)
+  pub selected : IsNoneOrAmong defined cursor.font
   pub used : numbers_after_all defined rest ≡ numbers_after_all old_defined page
   pub done : List WrittenPlace
   pub is : written_places fonts page ≡ done ++ written_places fonts rest
-  pub leads : (file : File) → file.place_count + length page ≤ max_places
-      → Advances fonts old_out out (at_cursor fonts file old_defined at_origin) (at_cursor fonts (with_places file done) defined cursor)
+  pub leads : (reached : Reached) → reached.file.place_count + length page ≤ max_places
+      → StandsWith fonts old_out reached old_defined at_origin Arrived → StandsWith fonts out (with_places reached done) defined cursor Arrived
 
 pub all_head : (P : Place → Type 0) (x : Place) (xs : List Place) → All P (x ∷ xs) → P x
 all_head P x xs all = all 0 x (omega arith)
@@ -40,20 +42,20 @@ pub long : (fonts : SetValue) (page : List Place) → length (written_places fon
 long fonts [] = refl
 long fonts (place ∷ page) = omega (arith, long fonts page)
 
-with_none : (file : File) → with_places file [] ≡ file
-with_none file = let e : file.place_count + 0 ≡ file.place_count = omega arith in rw (e, append-nil file.page.places) refl
+with_none : (reached : Reached) → with_places reached [] ≡ reached
+with_none reached = let e : reached.file.place_count + 0 ≡ reached.file.place_count = omega arith in rw (e, append-nil reached.file.page.places) refl
 
-with_more : (file : File) (done : List WrittenPlace) (place : Place) (put : Bool) → with_place (with_places file done) place put ≡ with_places file (done ++ record { place = place; put = put } ∷ [])
-with_more file done place put =
+with_more : (reached : Reached) (done : List WrittenPlace) (place : Place) (put : Bool) → with_place (with_places reached done) place put ≡ with_places reached (done ++ record { place = place; put = put } ∷ [])
+with_more reached done place put =
     let m : WrittenPlace = record { place = place; put = put } in
-    let e : file.place_count + length done + 1 ≡ file.place_count + length (done ++ m ∷ []) = omega (arith, length-append done (m ∷ [])) in
-    rw (e, append_assoc file.page.places done (m ∷ [])) refl
+    let e : reached.file.place_count + length done + 1 ≡ reached.file.place_count + length (done ++ m ∷ []) = omega (arith, length-append done (m ∷ [])) in
+    rw (e, append_assoc reached.file.page.places done (m ∷ [])) refl
 
-can_v : (fonts : SetValue) (place : Place) → IsWritable fonts place → InRange (v_of place)
+pub can_v : (fonts : SetValue) (place : Place) → IsWritable fonts place → InRange (v_of place)
 can_v fonts (Glyph n code h v) can = can.v_in_range
 can_v fonts (Rule h v height width) can = can.v_in_range
 
-can_h : (fonts : SetValue) (place : Place) → IsWritable fonts place → InRange (h_of place)
+pub can_h : (fonts : SetValue) (place : Place) → IsWritable fonts place → InRange (h_of place)
 can_h fonts (Glyph n code h v) can = can.h_in_range
 can_h fonts (Rule h v height width) can = can.h_in_range
 
@@ -68,42 +70,56 @@ reach_next : (fonts : SetValue) (place : Place) (cursor : Cursor) (rest : List P
 reach_next fonts place cursor [] can rest = tt
 reach_next fonts place cursor (next ∷ later) can rest = reach_from (h_of place) (right_edge fonts place) (h_of next) (is_far (h_of next -ℤ right_edge fonts place)) refl (half _ (can_h fonts place can)) (half _ (can_h fonts next (all_head (IsWritable fonts) next later rest)))
 
+beyond : (fonts : SetValue) (place : Place) (next : Option Place) → is_beyond (right_edge fonts place) next ≡ must_put fonts place next
+beyond fonts place None = refl
+beyond fonts place (Some next) = refl
+
+selected_next : (defined new_defined : List ℕ) (place : Place) (font : Option ℕ) → new_defined ≡ numbers_after defined place → IsNoneOrAmong defined font → IsNoneOrAmong new_defined (font_after place font)
+selected_next defined new_defined (Glyph n code h v) font used selected = subst (λ (numbers : List ℕ). is_among numbers n ≡ true) (sym used) (added_among defined n)
+selected_next defined new_defined (Rule h v height width) font used selected = subst (λ (numbers : List ℕ). IsNoneOrAmong numbers font) (sym used) selected
+
+past : (fonts : SetValue) (place : Place) (put : Bool) (edge : ℤ) (cursor there : Cursor) → edge ≡ right_edge fonts place → IsAt place cursor there → cursor_past place put edge there ≡ cursor_after fonts place put there
+past fonts place put edge cursor there right arrived = rw (right, arrived.h, arrived.v) refl
+
 pub places_start : (fonts : SetValue) (page : List Place) (out defined : List ℕ) → All (IsWritable fonts) page → PlacesWritten fonts page out defined out defined at_origin page
 places_start fonts page out defined can = record {
   can = can;
   v = record { low = omega (arith, ints); high = omega (arith, ints) };
   reach = reach_top page can;
+  selected = tt;
   used = refl;
   done = [];
   is = refl;
-  leads = λ file few leads. subst (λ (f : File). LeadsTo fonts out (at_cursor fonts f defined at_origin)) (sym (with_none file)) leads;
+  leads = λ reached few stands. subst (λ (r : Reached). StandsWith fonts out r defined at_origin Arrived) (sym (with_none reached)) stands;
 } where
   reach_top : (page : List Place) → All (IsWritable fonts) page → IsReachable at_origin (first_of page)
   reach_top [] can = tt
   reach_top (place ∷ page) can = let s = half _ (can_h fonts place (all_head (IsWritable fonts) place page can)) in omega (arith, ints, s)
 
-pub places_more : (fonts : SetValue) (page : List Place) (old_out old_defined out defined new_out new_defined : List ℕ) (cursor : Cursor) (place : Place) (rest : List Place)
+pub places_more : (fonts : SetValue) (page : List Place) (old_out old_defined out defined new_out new_defined : List ℕ) (cursor there : Cursor) (place : Place) (rest : List Place)
     → PlacesWritten fonts page old_out old_defined out defined cursor (place ∷ rest)
     → new_defined ≡ numbers_after defined place
-    → WritesPlace fonts out new_out defined new_defined cursor place (must_put fonts place (first_of rest))
-    → PlacesWritten fonts page old_out old_defined new_out new_defined (cursor_after fonts place (must_put fonts place (first_of rest)) cursor) rest
-places_more fonts page old_out old_defined out defined new_out new_defined cursor place rest written used one =
+    → IsAt place cursor there
+    → WritesPlace fonts out new_out defined new_defined cursor there place (must_put fonts place (first_of rest))
+    → PlacesWritten fonts page old_out old_defined new_out new_defined (cursor_after fonts place (must_put fonts place (first_of rest)) there) rest
+places_more fonts page old_out old_defined out defined new_out new_defined cursor there place rest written used arrived one =
     let put = must_put fonts place (first_of rest) in
     let here = all_head (IsWritable fonts) place rest written.can in
-    let there = all_tail (IsWritable fonts) place rest written.can in
+    let others = all_tail (IsWritable fonts) place rest written.can in
     let m : WrittenPlace = record { place = place; put = put } in
     record {
-      can = there;
+      can = others;
       v = can_v fonts place here;
-      reach = reach_next fonts place cursor rest here there;
+      reach = reach_next fonts place there rest here others;
+      selected = selected_next defined new_defined place there.font used (subst (IsNoneOrAmong defined) (sym arrived.font) written.selected);
       used = ap (λ (l : List ℕ). numbers_after_all l rest) used ∙ written.used;
       done = written.done ++ m ∷ [];
       is = written.is ∙ sym (append_assoc written.done (m ∷ []) (written_places fonts rest));
-      leads = λ file few leads.
-          let count : file.place_count + length written.done < max_places =
+      leads = λ reached few stands.
+          let count : reached.file.place_count + length written.done < max_places =
           omega (arith, long fonts page, ap length written.is, length-append written.done (written_places fonts (place ∷ rest)), long fonts rest) in
-          subst (λ (f : File). LeadsTo fonts new_out (at_cursor fonts f new_defined (cursor_after fonts place put cursor))) (with_more file written.done place put)
-          (one (with_places file written.done) count (written.leads file few leads));
+          subst (λ (r : Reached). StandsWith fonts new_out r new_defined (cursor_after fonts place put there) Arrived) (with_more reached written.done place put)
+          (one (with_places reached written.done) count (written.leads reached few stands));
     }
 
 abbrev pub later : List Place → List Place
@@ -119,29 +135,31 @@ pub all_later : (P : Place → Type 0) (xs : List Place) → 1 ≤ length xs →
 all_later P [] lt all = absurd (omega arith)
 all_later P (x ∷ xs) lt all = subst (All P) (sym (later_is x xs)) (all_tail P x xs all)
 
-pub places_next : (fonts : SetValue) (page : List Place) (old_out old_defined out defined new_out new_defined : List ℕ) (cursor next : Cursor) (rest : List Place) (d : Place) (put : Bool)
+pub places_next : (fonts : SetValue) (page : List Place) (old_out old_defined out defined new_out new_defined : List ℕ) (cursor there next : Cursor) (rest : List Place) (d : Place) (put : Bool) (edge : ℤ)
     → 1 ≤ length rest
     → PlacesWritten fonts page old_out old_defined out defined cursor rest
-    → put ≡ must_put fonts (get_or rest 0 d) (first_of (later rest))
+    → edge ≡ right_edge fonts (get_or rest 0 d)
+    → put ≡ is_beyond edge (first_of (later rest))
     → new_defined ≡ numbers_after defined (get_or rest 0 d)
-    → WritesPlace fonts out new_out defined new_defined cursor (get_or rest 0 d) put
-    → next ≡ cursor_after fonts (get_or rest 0 d) put cursor
+    → IsAt (get_or rest 0 d) cursor there
+    → WritesPlace fonts out new_out defined new_defined cursor there (get_or rest 0 d) put
+    → next ≡ cursor_past (get_or rest 0 d) put edge there
     → PlacesWritten fonts page old_out old_defined new_out new_defined next (later rest)
-places_next fonts page old_out old_defined out defined new_out new_defined cursor next [] d put lt written is used one after = absurd (omega arith)
-places_next fonts page old_out old_defined out defined new_out new_defined cursor next (x ∷ xs) d put lt written is used one after =
-    let e : put ≡ must_put fonts x (first_of xs) = is ∙ ap (λ (l : List Place). must_put fonts x (first_of l)) (later_is x xs) in
-    let n : cursor_after fonts x (must_put fonts x (first_of xs)) cursor ≡ next = sym (after ∙ ap (λ (b : Bool). cursor_after fonts x b cursor) e) in
-    let one' = subst (λ (b : Bool). WritesPlace fonts out new_out defined new_defined cursor x b) e one in
+places_next fonts page old_out old_defined out defined new_out new_defined cursor there next [] d put edge lt written right is used arrived one after = absurd (omega arith)
+places_next fonts page old_out old_defined out defined new_out new_defined cursor there next (x ∷ xs) d put edge lt written right is used arrived one after =
+    let e : put ≡ must_put fonts x (first_of xs) = is ∙ ap (λ (l : List Place). is_beyond edge (first_of l)) (later_is x xs) ∙ ap (λ (z : ℤ). is_beyond z (first_of xs)) right ∙ beyond fonts x (first_of xs) in
+    let n : cursor_after fonts x (must_put fonts x (first_of xs)) there ≡ next = sym (after ∙ past fonts x put edge cursor there right arrived ∙ ap (λ (b : Bool). cursor_after fonts x b there) e) in
+    let one' = subst (λ (b : Bool). WritesPlace fonts out new_out defined new_defined cursor there x b) e one in
     subst (λ (l : List Place). PlacesWritten fonts page old_out old_defined new_out new_defined next l) (sym (later_is x xs))
     (subst (λ (c : Cursor). PlacesWritten fonts page old_out old_defined new_out new_defined c xs) n
-    (places_more fonts page old_out old_defined out defined new_out new_defined cursor x xs written used one'))
+    (places_more fonts page old_out old_defined out defined new_out new_defined cursor there x xs written used arrived one'))
 
 -- no place is left
 pub places_end : (fonts : SetValue) (page : List Place) (old_out old_defined out defined : List ℕ) (cursor : Cursor) (rest : List Place) → length rest < 1 → PlacesWritten fonts page old_out old_defined out defined cursor rest
     → (defined ≡ numbers_after_all old_defined page) × WritesPlaces fonts old_out out old_defined defined page
 places_end fonts page old_out old_defined out defined cursor [] lt written =
     let e : written.done ≡ written_places fonts page = sym (written.is ∙ append-nil written.done) in
-    (written.used, λ file few leads. (cursor, subst (λ (ms : List WrittenPlace). LeadsTo fonts out (at_cursor fonts (with_places file ms) defined cursor)) e (written.leads file few leads)))
+    (written.used, λ reached few stands. (cursor, subst (λ (ms : List WrittenPlace). StandsWith fonts out (with_places reached ms) defined cursor Arrived) e (written.leads reached few stands)))
 places_end fonts page old_out old_defined out defined cursor (x ∷ xs) lt written = absurd (omega arith)
 
 pub later_length : (xs : List Place) → 1 ≤ length xs → length (later xs) + 1 ≡ length xs

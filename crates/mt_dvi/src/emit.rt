@@ -1,12 +1,13 @@
 //! The bytes of each operation that the writer uses.
 ghost use Rattle.std.specs.Prelude.{◌≡◌, ◌<◌, ◌++◌, [], length, OnOk, if◌then◌else◌};
-ghost use Rattle.mt_dvi.specs.Codes.{Char, Rule, Right, Down, Select, Bop, Eop, Define, Pre, Post, PostPost, signed_of};
-ghost use Rattle.mt_dvi.specs.writer.Emits.{four_bytes, Emits, AppendsSigned, FitsFourBytes, own_preamble, own_postamble};
+ghost use Rattle.mt_dvi.specs.Codes.{Char, Rule, Set, Add, Select, Bop, Eop, Define, Pre, Post, PostPost, signed_of};
+ghost use Rattle.mt_dvi.specs.Moves.{least_size};
+ghost use Rattle.mt_dvi.specs.writer.Emits.{four_bytes, Emits, AppendsSigned, FitsFourBytes, own_preamble, own_postamble, register_value, zero_code};
 ghost use Rattle.mt_dvi.specs.WrittenPlaces.{page_counts};
 
 use crate::opcode::{
-    BOP, DOWN4, EOP, FNT_DEF1, FNT_NUM_0, IDENTIFIER, POST, POST_POST, PRE, PUT_RULE, PUT1, RIGHT4,
-    SET_RULE, SET1, UNIT,
+    BOP, EOP, FNT_DEF1, FNT_NUM_0, IDENTIFIER, POST, POST_POST, PRE, PUT_RULE, PUT1, SET_RULE,
+    SET1, UNIT, W0, X0, Y0, Z0,
 };
 use std::alloc::AllocError;
 
@@ -21,7 +22,8 @@ fn push4(out: &mut Vec<u8>, x: u32) -> Result<(), AllocError>
 // The number that the two's complement of x is in four bytes.
 fn twos_complement(x: i64) -> u32
     requires { FitsFourBytes x }
-    ensures { signed_of 4 result ≡ x }
+    ensures is { signed_of 4 result ≡ x }
+    ensures fits { result < 4294967296 }
 {
     if x < 0 {
         (x + 4294967296) as u32
@@ -39,24 +41,62 @@ fn push_signed(out: &mut Vec<u8>, x: i64) -> Result<(), AllocError>
     Ok(())
 }
 
-/// right4: moves to the right.
-pub fn right(out: &mut Vec<u8>, by: i64) -> Result<(), AllocError>
-    requires { FitsFourBytes by }
-    ensures { OnOk result (Emits 5 out.old.items out.new.items (Right by)) }
+/// The registers that hold amounts: w and x are added to h, y and z to v.
+#[derive(Clone, Copy, Debug)]
+pub enum Register {
+    W,
+    X,
+    Y,
+    Z,
+}
+
+// The opcode that moves by the amount of a register.
+fn zero_opcode(register: Register) -> u8
+    ensures { result ≡ zero_code (register_value register) }
 {
-    out.push(RIGHT4)?;
-    push_signed(out, by)?;
+    match register {
+        Register::W => W0,
+        Register::X => X0,
+        Register::Y => Y0,
+        Register::Z => Z0,
+    }
+}
+
+/// w0 and the like: moves by the amount of a register.
+pub fn add(out: &mut Vec<u8>, register: Register) -> Result<(), AllocError>
+    ensures { OnOk result (Emits 1 out.old.items out.new.items (Add (register_value register))) }
+{
+    out.push(zero_opcode(register))?;
     Ok(())
 }
 
-/// down4: moves down.
-pub fn down(out: &mut Vec<u8>, by: i64) -> Result<(), AllocError>
-    requires { FitsFourBytes by }
-    ensures { OnOk result (Emits 5 out.old.items out.new.items (Down by)) }
+/// w1 to w4 and the like: sets a register to an amount and moves by it. The size is the least number of
+/// bytes that hold the amount.
+pub fn set(out: &mut Vec<u8>, register: Register, amount: i64, size: u8) -> Result<(), AllocError>
+    requires fits { FitsFourBytes amount }
+    requires size { size ≡ least_size amount }
+    ensures { OnOk result (Emits 5 out.old.items out.new.items (Set (register_value register) amount)) }
 {
-    out.push(DOWN4)?;
-    push_signed(out, by)?;
-    Ok(())
+    let opcode = zero_opcode(register) + size;
+    let bytes = twos_complement(amount).to_be_bytes();
+    match size {
+        1 => {
+            out.extend_from_slice(&[opcode, bytes[3]])?;
+            Ok(())
+        }
+        2 => {
+            out.extend_from_slice(&[opcode, bytes[2], bytes[3]])?;
+            Ok(())
+        }
+        3 => {
+            out.extend_from_slice(&[opcode, bytes[1], bytes[2], bytes[3]])?;
+            Ok(())
+        }
+        _ => {
+            out.extend_from_slice(&[opcode, bytes[0], bytes[1], bytes[2], bytes[3]])?;
+            Ok(())
+        }
+    }
 }
 
 /// fnt_num: selects the font of this number.

@@ -7,11 +7,13 @@ ghost use Rattle.mt_dvi.specs.writer.Emits.{FitsFourBytes};
 ghost use Rattle.mt_dvi.specs.Writable.{IsWritable};
 ghost use Rattle.mt_dvi.specs.WrittenPlaces.{all_places};
 ghost use Rattle.mt_dvi.specs.Written.{Written};
+ghost use Rattle.mt_dvi.specs.Lean.{Lean};
 ghost use Rattle.mt_dvi.specs.Refusal.{refusal_of, refusal_in};
+ghost use Rattle.mt_dvi.specs.writer.Greatest.{edges_after};
 ghost use Rattle.mt_dvi.specs.writer.LeadsTo.{GrowsBy, GrowsWith, numbers_after_all};
 ghost use Rattle.mt_dvi.specs.writer.Pages.{DefinesAgain, IsTail, PagesWritten, WritesPage};
 
-use crate::edges::{tallest, widest};
+use crate::edges::{GreatestEdges, NO_EDGES};
 use crate::emit;
 use crate::error::DviWriteError;
 use crate::fonts::define;
@@ -36,6 +38,7 @@ pub const MAX_PLACES: u64 = 2_000_000;
 fn write_page(
     out: &mut Vec<u8>,
     defined: &mut Vec<u16>,
+    greatest: &mut GreatestEdges,
     fonts: &FontSet,
     number: u32,
     last: i64,
@@ -45,13 +48,14 @@ fn write_page(
     requires can { All (IsWritable fonts.now) page.now }
     requires last { FitsFourBytes last }
     ensures defined { OnOk result (defined.new.items ≡ numbers_after_all defined.old.items page.now) }
+    ensures edges { OnOk result (greatest.new ≡ edges_after fonts.now greatest.old page.now) }
     ensures leads { OnOk result (WritesPage fonts.now
         out.old.items out.new.items defined.old.items defined.new.items number last page.now) }
     ensures long { OnOk result (GrowsWith (19 * length page.now + 46)
         out.old.items out.new.items defined.old.items defined.new.items) }
 {
     emit::bop(out, number, last)?;
-    write_places(out, defined, fonts, page)?;
+    write_places(out, defined, greatest, fonts, page)?;
     emit::eop(out)?;
     Ok(())
 }
@@ -60,6 +64,7 @@ fn write_page(
 fn write_pages(
     out: &mut Vec<u8>,
     defined: &mut Vec<u16>,
+    greatest: &mut GreatestEdges,
     fonts: &FontSet,
     pages: &[PlaceList],
 ) -> Result<i64, AllocError>
@@ -69,7 +74,8 @@ fn write_pages(
     requires places { length (all_places pages.now) ≤ max_places }
     requires first { length out.old.items ≤ 15 }
     requires none { defined.old.items ≡ [] }
-    ensures { IfOk result (λ last.
+    ensures edges { OnOk result (greatest.new ≡ edges_after fonts.now greatest.old (all_places pages.now)) }
+    ensures written { IfOk result (λ last.
         PagesWritten fonts.now out.old.items out.new.items defined.new.items last pages.now) }
 {
     let mut last = -1;
@@ -77,7 +83,7 @@ fn write_pages(
     for page in pages {
         number += 1;
         let start = out.len() as i64;
-        write_page(out, defined, fonts, number, last, page.as_slice())?;
+        write_page(out, defined, greatest, fonts, number, last, page.as_slice())?;
         last = start;
     }
     Ok(last)
@@ -125,18 +131,22 @@ fn write_file(alloc: Global, fonts: &FontSet, pages: &[PlaceList]) -> Result<Vec
     requires can { All (λ page. All (IsWritable fonts.now) page) pages.now }
     requires few { length pages.now ≤ max_pages }
     requires places { length (all_places pages.now) ≤ max_places }
-    ensures { IfOk result (λ bytes. Written fonts.now bytes.items pages.now) }
+    ensures written { IfOk result (λ bytes. Written fonts.now bytes.items pages.now) }
+    ensures lean { IfOk result (λ bytes. Lean fonts.now bytes.items) }
 {
-    let mut out = Vec::new(alloc);
+    // Mostly enough for the whole file.
+    let room = 1024 + 48 * pages.len() + 8 * count_places(pages);
+    let mut out = Vec::with_capacity(alloc, room)?;
     let mut defined = Vec::with_capacity(alloc, fonts.font_count())?;
+    let mut greatest = NO_EDGES;
     emit::pre(&mut out)?;
-    let last = write_pages(&mut out, &mut defined, fonts, pages)?;
+    let last = write_pages(&mut out, &mut defined, &mut greatest, fonts, pages)?;
     let start = out.len() as u32;
     emit::post(
         &mut out,
         last,
-        tallest(fonts, pages),
-        widest(fonts, pages),
+        greatest.lower,
+        greatest.right,
         pages.len() as u16,
     )?;
     define_again(&mut out, &defined, fonts)?;
@@ -168,6 +178,7 @@ pub fn write_dvi(
 ) -> Result<DviBytes, DviWriteError>
     requires can { All (λ page. All (IsWritable fonts.now) page) pages.now }
     ensures written { IfOk result (λ bytes. Written fonts.now bytes pages.now) }
+    ensures lean { IfOk result (λ bytes. Lean fonts.now bytes) }
     ensures read_back { IfOk result (λ bytes. Dvi fonts.now bytes pages.now) }
     ensures refused { refusal_in result ≡ refusal_of pages.now }
 {

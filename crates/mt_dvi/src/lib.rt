@@ -6,10 +6,10 @@ mod emit;
 mod error;
 mod file;
 mod fonts;
+mod moves;
 mod opcode;
 mod page;
-#[cfg(test)]
-mod tests;
 
 pub use error::DviWriteError;
 pub use file::{DviBytes, MAX_PLACES, write_dvi};
+pub use moves::{MoveForm, move_code};

@@ -1,84 +1,122 @@
 //! The places of a page, and the moves between them.
-ghost use Rattle.std.specs.Prelude.{◌≡◌, ◌<◌, ◌≤◌, ◌+◌, ◌*◌, ◌-ℤ◌, List, ℕ, All, OnOk, IsSomeAnd, length, nat_abs, Some};
+ghost use Rattle.std.specs.Prelude.{◌≡◌, ◌<◌, ◌≤◌, ◌*◌, ◌-ℤ◌, List, ℕ, All, OnOk, IsSomeAnd, length, nat_abs, Some, if◌then◌else◌};
 ghost use Rattle.mt_box.specs.Places.{h_of, v_of};
 ghost use Rattle.mt_family.specs.SetValue.{IsSet, SetValue};
 ghost use Rattle.mt_dvi.specs.Fonts.{metrics_at};
 ghost use Rattle.mt_dvi.specs.Machine.{is_far};
-ghost use Rattle.mt_dvi.specs.File.{File};
-ghost use Rattle.mt_dvi.specs.writer.Emits.{FitsFourBytes};
-ghost use Rattle.mt_dvi.specs.Edges.{lower_edge, right_edge};
+ghost use Rattle.mt_dvi.specs.Moves.{move_form};
+ghost use Rattle.mt_dvi.specs.writer.Emits.{FitsFourBytes, register_value};
+ghost use Rattle.mt_dvi.specs.writer.Greatest.{edges_after};
+ghost use Rattle.mt_dvi.specs.writer.Held.{EmitsMove, held_after};
+ghost use Rattle.mt_dvi.specs.writer.Stands.{Arrived, FillsPlace, Introduces, IsAt, IsNoneOrAmong, Lowered, Selects, Stands, WritesPlace, WritesPlaces};
 ghost use Rattle.mt_dvi.specs.Writable.{HasGlyph, InRange, IsWritable};
-ghost use Rattle.mt_dvi.specs.WrittenPlaces.{first_of, must_put};
-ghost use Rattle.mt_dvi.specs.writer.LeadsTo.{Advances, GrowsBy, GrowsWith, Introduces, Selects, WritesPlace, WritesPlaces, cursor_after, in_page, numbers_after, numbers_after_all, with_number};
+ghost use Rattle.mt_dvi.specs.WrittenPlaces.{first_of};
+ghost use Rattle.mt_dvi.specs.writer.LeadsTo.{GrowsBy, GrowsWith, Reached, cursor_past, is_beyond, numbers_after, numbers_after_all, with_number};
 
+use crate::edges::{GreatestEdges, lower_edge, right_edge};
 use crate::emit;
-use crate::fonts::{define, depth, is_defined, width};
+use crate::emit::Register;
+use crate::fonts::{define, is_defined};
+use crate::moves::{Held, MoveForm, move_code};
 use mt_box::Place;
 use mt_family::FontSet;
 use std::alloc::AllocError;
 
-/// Where the machine is in a page, and the font that is selected.
+/// Where the machine is in a page, what its registers hold, and the font that is selected.
 #[derive(Clone, Copy, Debug)]
 pub struct Cursor {
     /// In scaled points, to the right of the page's origin.
     pub h: i64,
     /// In scaled points, below the page's origin.
     pub v: i64,
+    /// w and x.
+    pub across: Held,
+    /// y and z.
+    pub downward: Held,
     /// The font's number in the set.
     pub font: Option<u16>,
 }
 
+// As bop leaves the machine.
+const AT_ORIGIN: Cursor = Cursor {
+    h: 0,
+    v: 0,
+    across: NOTHING_HELD,
+    downward: NOTHING_HELD,
+    font: None,
+};
+
+const NOTHING_HELD: Held = Held {
+    first: 0,
+    second: 0,
+    second_next: false,
+};
+
+// The register that the next operand goes to.
+fn next_register(second_next: bool, first: Register, second: Register) -> Register
+    ensures { register_value result ≡ (if second_next then register_value second else register_value first) }
+{
+    if second_next { second } else { first }
+}
+
+// Moves by an amount along the axis of two registers.
+#[tactic(auto, using(crate::proofs::Prefix::longer))]
+fn write_move(
+    out: &mut Vec<u8>,
+    held: &mut Held,
+    first: Register,
+    second: Register,
+    amount: i64,
+) -> Result<(), AllocError>
+    requires { FitsFourBytes amount }
+    ensures moves { OnOk result (EmitsMove (register_value first) (register_value second) held.old amount
+        out.old.items out.new.items (move_form amount held.old.first held.old.second)) }
+    ensures held { OnOk result
+        (held.new ≡ held_after held.old amount (move_form amount held.old.first held.old.second)) }
+    ensures long { OnOk result (GrowsBy 5 out.old.items out.new.items) }
+{
+    match move_code(amount, held.first, held.second) {
+        MoveForm::None => Ok(()),
+        MoveForm::First => {
+            emit::add(out, first)?;
+            Ok(())
+        }
+        MoveForm::Second => {
+            emit::add(out, second)?;
+            Ok(())
+        }
+        MoveForm::Bytes(size) => {
+            emit::set(
+                out,
+                next_register(held.second_next, first, second),
+                amount,
+                size,
+            )?;
+            held.set_next(amount);
+            Ok(())
+        }
+    }
+}
+
 // Moves to a place: to the right, and then down.
-fn move_to(out: &mut Vec<u8>, cursor: Cursor, place: Place) -> Result<(), AllocError>
-    requires right { FitsFourBytes (h_of place -ℤ cursor.h) }
-    requires down { FitsFourBytes (v_of place -ℤ cursor.v) }
+fn move_to(out: &mut Vec<u8>, cursor: &mut Cursor, place: Place) -> Result<(), AllocError>
+    requires right { FitsFourBytes (h_of place -ℤ cursor.now.h) }
+    requires down { FitsFourBytes (v_of place -ℤ cursor.now.v) }
     requires h { InRange (h_of place) }
     requires v { InRange (v_of place) }
-    requires from { FitsFourBytes cursor.v }
-    ensures leads { OnOk result (
-        (fonts : SetValue) → (file : File) → Advances fonts out.old.items out.new.items
-        (in_page file cursor)
-        (in_page file (record cursor { h = h_of place; v = v_of place }))) }
+    requires from { FitsFourBytes cursor.now.v }
+    ensures there { OnOk result (IsAt place cursor.old cursor.new) }
+    ensures leads { OnOk result ((fonts : SetValue) → (reached : Reached)
+        → Stands fonts out.old.items reached cursor.old Arrived
+        → Stands fonts out.new.items reached cursor.new Lowered) }
     ensures long { OnOk result (GrowsBy 10 out.old.items out.new.items) }
 {
-    move_right(out, cursor, place)?;
-    move_down(out, cursor, place)?;
-    Ok(())
-}
-
-#[tactic(auto, using(crate::proofs::Prefix::longer))]
-fn move_right(out: &mut Vec<u8>, cursor: Cursor, place: Place) -> Result<(), AllocError>
-    requires right { FitsFourBytes (h_of place -ℤ cursor.h) }
-    requires h { InRange (h_of place) }
-    requires from { FitsFourBytes cursor.v }
-    ensures leads { OnOk result (
-        (fonts : SetValue) → (file : File) → Advances fonts out.old.items out.new.items
-        (in_page file cursor)
-        (in_page file (record cursor { h = h_of place }))) }
-    ensures long { OnOk result (GrowsBy 5 out.old.items out.new.items) }
-{
-    let h = place.h();
-    if h != cursor.h {
-        emit::right(out, h - cursor.h)?;
-    }
-    Ok(())
-}
-
-#[tactic(auto, using(crate::proofs::Prefix::longer))]
-fn move_down(out: &mut Vec<u8>, cursor: Cursor, place: Place) -> Result<(), AllocError>
-    requires down { FitsFourBytes (v_of place -ℤ cursor.v) }
-    requires h { InRange (h_of place) }
-    requires v { InRange (v_of place) }
-    ensures leads { OnOk result (
-        (fonts : SetValue) → (file : File) → Advances fonts out.old.items out.new.items
-        (in_page file (record cursor { h = h_of place }))
-        (in_page file (record cursor { h = h_of place; v = v_of place }))) }
-    ensures long { OnOk result (GrowsBy 5 out.old.items out.new.items) }
-{
-    let v = place.v();
-    if v != cursor.v {
-        emit::down(out, v - cursor.v)?;
-    }
+    let right = place.h() - cursor.h;
+    write_move(out, &mut cursor.across, Register::W, Register::X, right)?;
+    let down = place.v() - cursor.v;
+    write_move(out, &mut cursor.downward, Register::Y, Register::Z, down)?;
+    cursor.h = place.h();
+    cursor.v = place.v();
     Ok(())
 }
 
@@ -105,54 +143,41 @@ fn introduce(
     Ok(())
 }
 
-// Selects a font that is defined, unless it is selected.
+// Selects a font, unless it is selected. It is defined first, unless it is defined.
 #[tactic(auto, using(crate::proofs::Prefix::longer))]
-fn select(out: &mut Vec<u8>, fonts: &FontSet, cursor: Cursor, n: u16) -> Result<(), AllocError>
+fn select(
+    out: &mut Vec<u8>,
+    defined: &mut Vec<u16>,
+    fonts: &FontSet,
+    cursor: &Cursor,
+    n: u16,
+) -> Result<(), AllocError>
     requires there { n < length fonts.now.fonts }
     requires set { IsSet fonts.now }
-    requires h { InRange cursor.h }
-    requires v { InRange cursor.v }
-    ensures leads { OnOk result (Selects fonts.now out.old.items out.new.items cursor n) }
-    ensures long { OnOk result (GrowsBy 1 out.old.items out.new.items) }
+    requires selected { IsNoneOrAmong defined.now.items cursor.now.font }
+    requires h { InRange cursor.now.h }
+    requires v { InRange cursor.now.v }
+    ensures defined { OnOk result (defined.new.items ≡ with_number defined.old.items n) }
+    ensures leads { OnOk result (Selects fonts.now
+        out.old.items out.new.items defined.old.items defined.new.items cursor.now n) }
+    ensures long { OnOk result (GrowsWith 1
+        out.old.items out.new.items defined.old.items defined.new.items) }
 {
     if cursor.font != Some(n) {
+        introduce(out, defined, fonts, n)?;
         emit::select(out, n as u8)?;
     }
     Ok(())
 }
 
-/// Where a place ends to the right, in scaled points.
-pub fn right_edge(fonts: &FontSet, place: Place) -> i64
-    requires can { IsWritable fonts.now place }
-    ensures is { result ≡ right_edge fonts.now place }
-    ensures small { nat_abs result ≤ 2147483646 }
-{
-    match place {
-        Place::Glyph { font, code, h, .. } => h + width(fonts, font, code),
-        Place::Rule { h, width, .. } => h + width,
-    }
-}
-
-/// Where a place ends below, in scaled points.
-pub fn lower_edge(fonts: &FontSet, place: Place) -> i64
-    requires can { IsWritable fonts.now place }
-    ensures is { result ≡ lower_edge fonts.now place }
-    ensures small { nat_abs result ≤ 2147483646 }
-{
-    match place {
-        Place::Glyph { font, code, v, .. } => v + depth(fonts, font, code),
-        Place::Rule { v, .. } => v,
-    }
-}
-
-// Whether a place goes by put, and not by set: the next one is too far from its right edge.
-fn must_put(fonts: &FontSet, place: Place, later: &[Place]) -> bool
-    requires can { IsWritable fonts.now place }
-    requires next { All (IsWritable fonts.now) later.now }
-    ensures { result ≡ must_put fonts.now place (first_of later.now) }
+// Whether a place with this right edge goes by put, and not by set: the next one is too far away.
+fn must_put(edge: i64, later: &[Place]) -> bool
+    requires edge { nat_abs edge ≤ 2147483646 }
+    requires next { All (λ place. InRange (h_of place)) later.now }
+    ensures { result ≡ is_beyond edge (first_of later.now) }
 {
     match later {
-        [next, ..] => is_apart(next.h(), right_edge(fonts, place)),
+        [next, ..] => is_apart(next.h(), edge),
         [] => false,
     }
 }
@@ -172,49 +197,42 @@ fn is_far(amount: i64) -> bool
     amount > 2147483647 || amount < -2147483647
 }
 
-// Where the machine is after a place.
-fn cursor_after(fonts: &FontSet, place: Place, put: bool, cursor: Cursor) -> Cursor
-    requires can { IsWritable fonts.now place }
-    ensures { result ≡ cursor_after fonts.now place put cursor }
+// Goes over the place where the cursor is, which has this right edge, as the machine does.
+fn pass(cursor: &mut Cursor, place: Place, put: bool, edge: i64)
+    ensures { cursor.new ≡ cursor_past place put edge cursor.old }
 {
-    Cursor {
-        h: if put {
-            place.h()
-        } else {
-            right_edge(fonts, place)
-        },
-        v: place.v(),
-        font: match place {
-            Place::Glyph { font, .. } => Some(font),
-            Place::Rule { .. } => cursor.font,
-        },
+    if !put {
+        cursor.h = edge;
+    }
+    if let Place::Glyph { font, .. } = place {
+        cursor.font = Some(font);
     }
 }
 
-// Writes a glyph where the machine is: the definition of its font, the selection, the character.
+// Writes a glyph where the machine is: the selection of its font, and the character.
 #[tactic(auto, using(crate::proofs::Prefix::longer))]
 fn write_glyph(
     out: &mut Vec<u8>,
     defined: &mut Vec<u16>,
     fonts: &FontSet,
-    cursor: Cursor,
+    cursor: &Cursor,
     n: u16,
     code: u8,
     put: bool,
 ) -> Result<(), AllocError>
     requires set { IsSet fonts.now }
     requires can { IsSomeAnd (metrics_at fonts.now n) (λ metrics. HasGlyph metrics code) }
-    requires h { InRange cursor.h }
-    requires v { InRange cursor.v }
+    requires selected { IsNoneOrAmong defined.now.items cursor.now.font }
+    requires h { InRange cursor.now.h }
+    requires v { InRange cursor.now.v }
     ensures defined { OnOk result (defined.new.items ≡ with_number defined.old.items n) }
-    ensures leads { OnOk result (WritesPlace fonts.now
+    ensures leads { OnOk result (FillsPlace fonts.now
         out.old.items out.new.items defined.old.items defined.new.items
-        cursor (Place.Glyph n code cursor.h cursor.v) put) }
+        cursor.now (Place.Glyph n code cursor.now.h cursor.now.v) put) }
     ensures long { OnOk result (GrowsWith 3
         out.old.items out.new.items defined.old.items defined.new.items) }
 {
-    introduce(out, defined, fonts, n)?;
-    select(out, fonts, cursor, n)?;
+    select(out, defined, fonts, cursor, n)?;
     emit::char(out, put, code)?;
     Ok(())
 }
@@ -224,90 +242,81 @@ fn write_glyph(
 fn write_rule(
     out: &mut Vec<u8>,
     fonts: &FontSet,
-    cursor: Cursor,
+    cursor: &Cursor,
     height: i64,
     width: i64,
     put: bool,
 ) -> Result<(), AllocError>
-    requires can { IsWritable fonts.now (Place.Rule cursor.h cursor.v height width) }
-    ensures leads { OnOk result ((numbers : List ℕ) → WritesPlace fonts.now
+    requires can { IsWritable fonts.now (Place.Rule cursor.now.h cursor.now.v height width) }
+    ensures leads { OnOk result ((numbers : List ℕ) → FillsPlace fonts.now
         out.old.items out.new.items numbers numbers
-        cursor (Place.Rule cursor.h cursor.v height width) put) }
+        cursor.now (Place.Rule cursor.now.h cursor.now.v height width) put) }
     ensures long { OnOk result (GrowsBy 9 out.old.items out.new.items) }
 {
     emit::rule(out, put, height, width)?;
     Ok(())
 }
 
-// The cursor at a place, with the font that is selected.
-fn cursor_at(place: Place, font: Option<u16>) -> Cursor
-    ensures { result ≡ record { h = h_of place; v = v_of place; font = font } }
-{
-    Cursor {
-        h: place.h(),
-        v: place.v(),
-        font,
-    }
-}
-
-// Writes a place, with the moves to it.
+// Writes a place, with the moves to it, and leaves the cursor at the place.
 fn write_place(
     out: &mut Vec<u8>,
     defined: &mut Vec<u16>,
     fonts: &FontSet,
-    cursor: Cursor,
+    cursor: &mut Cursor,
     place: Place,
     put: bool,
 ) -> Result<(), AllocError>
     requires set { IsSet fonts.now }
     requires can { IsWritable fonts.now place }
-    requires reach { FitsFourBytes (h_of place -ℤ cursor.h) }
-    requires v { InRange cursor.v }
+    requires reach { FitsFourBytes (h_of place -ℤ cursor.now.h) }
+    requires v { InRange cursor.now.v }
+    requires selected { IsNoneOrAmong defined.now.items cursor.now.font }
     ensures defined { OnOk result (defined.new.items ≡ numbers_after defined.old.items place) }
+    ensures there { OnOk result (IsAt place cursor.old cursor.new) }
     ensures leads { OnOk result (WritesPlace fonts.now
-        out.old.items out.new.items defined.old.items defined.new.items cursor place put) }
+        out.old.items out.new.items defined.old.items defined.new.items cursor.old cursor.new place put) }
     ensures long { OnOk result (GrowsWith 19
         out.old.items out.new.items defined.old.items defined.new.items) }
 {
     move_to(out, cursor, place)?;
-    let there = cursor_at(place, cursor.font);
     match place {
         Place::Glyph { font, code, .. } => {
-            write_glyph(out, defined, fonts, there, font, code, put)?;
+            write_glyph(out, defined, fonts, cursor, font, code, put)?;
             Ok(())
         }
         Place::Rule { height, width, .. } => {
-            write_rule(out, fonts, there, height, width, put)?;
+            write_rule(out, fonts, cursor, height, width, put)?;
             Ok(())
         }
     }
 }
 
-/// Writes the places of a page that has begun, and defines the fonts that they use first.
+/// Writes the places of a page that has begun, and defines the fonts that they use first. It takes the
+/// edges of the places into account.
 pub fn write_places(
     out: &mut Vec<u8>,
     defined: &mut Vec<u16>,
+    greatest: &mut GreatestEdges,
     fonts: &FontSet,
     page: &[Place],
 ) -> Result<(), AllocError>
     requires set { IsSet fonts.now }
     requires can { All (IsWritable fonts.now) page.now }
     ensures defined { OnOk result (defined.new.items ≡ numbers_after_all defined.old.items page.now) }
+    ensures edges { OnOk result (greatest.new ≡ edges_after fonts.now greatest.old page.now) }
     ensures leads { OnOk result (WritesPlaces fonts.now
         out.old.items out.new.items defined.old.items defined.new.items page.now) }
     ensures long { OnOk result (GrowsWith (19 * length page.now)
         out.old.items out.new.items defined.old.items defined.new.items) }
 {
-    let mut cursor = Cursor {
-        h: 0,
-        v: 0,
-        font: None,
-    };
+    let mut cursor = AT_ORIGIN;
     let mut rest = page;
     while let [place, later @ ..] = rest {
-        let put = must_put(fonts, *place, later);
-        write_place(out, defined, fonts, cursor, *place, put)?;
-        cursor = cursor_after(fonts, *place, put, cursor);
+        let edge = right_edge(fonts, *place);
+        let put = must_put(edge, later);
+        write_place(out, defined, fonts, &mut cursor, *place, put)?;
+        pass(&mut cursor, *place, put, edge);
+        greatest.include(edge, lower_edge(fonts, *place));
         rest = later;
     }
     Ok(())

@@ -1,0 +1,127 @@
+-- No words and files ask for a refusal for want of memory (`answer_avoids`).
+use Rattle.std.proofs.Common.{◌≡◌, ◌++◌, ℕ, length, Bool, true, false, List, [], ◌∷◌, refl, ap}
+use Rattle.std.specs.Prelude.{ℤ, Option, Some, None, Result, Ok, Err, nat_lt, if◌then◌else◌}
+use Rattle.mt_outside.specs.Files.{content}
+use Rattle.mt_outside.specs.declared.files.Held.{Held}
+use Rattle.mt_token.specs.Tokens.{max_source}
+use Rattle.mt_tfm.specs.Font.{Metrics}
+use Rattle.mt_box.specs.declared.place.Place.{Place}
+use Rattle.mt_dvi.specs.File.{Fault, pages_of}
+use Rattle.mt_family.specs.ListFacts.{ListValue}
+use Rattle.mt_family.specs.Lists.{font_list}
+use Rattle.mt_family.specs.SetValue.{SetValue}
+use Rattle.mt_family.specs.declared.list.FontLine.{FontLine}
+use Rattle.mathset.specs.Answer.{answer, steps_by}
+use Rattle.mathset.specs.DviSteps.{dvi_by, dvi_listing, dvi_step}
+use Rattle.mathset.specs.FontSteps.{font_set_of, font_set_step, font_step, fonts_step, line_font, list_by, list_step, loaded_step, tfm_name}
+use Rattle.mathset.specs.Limits.{max_dvi, max_list, max_tfm}
+use Rattle.mathset.specs.Listing.{listing}
+use Rattle.mathset.specs.Outcome.{Outcome, outcome_after, plain, ◌>>=◌}
+use Rattle.mathset.specs.Reads.{file_of}
+use Rattle.mathset.specs.Request.{request_of}
+use Rattle.mathset.specs.RequestValues.{DviValue, SampleValue, SourceValue}
+use Rattle.mathset.specs.Samples.{sample_files, sample_words, summed}
+use Rattle.mathset.specs.Steps.{gen_steps, places_steps, read_steps, request_steps, set_steps, source_step, typeset_steps}
+use Rattle.mathset.specs.Typeset.{TypesetValue, typeset_of}
+use Rattle.mathset.specs.declared.product.Product.TheVariants.{File, Text}
+use Rattle.mathset.specs.declared.request.Request.{Request}
+use Rattle.mathset.specs.declared.request.Request.TheVariants.{Set, Places, Read, Gen}
+use Rattle.mathset.specs.declared.status.Status.{Status}
+use Rattle.mathset.specs.declared.status.Status.TheVariants.{OutOfMemory, TooLong}
+use Rattle.mathset.proofs.Avoiding.{Avoids, avoids_err, avoids_if}
+use Rattle.mathset.proofs.FontRefusals.{font_avoids, list_avoids, set_avoids}
+use Rattle.mathset.proofs.PageRefusals.{typeset_avoids}
+
+-- ---- steps one after another
+
+-- a step that is not refused for want of memory
+abbrev StepAvoids : {T : Type 0} → Outcome T → Type 0
+StepAvoids step = Avoids OutOfMemory step.result
+
+after_avoids : {T U : Type 0} (r : Result T Status) (asked : List (List ℕ)) (next : T → Outcome U) → Avoids OutOfMemory r → ((x : T) → r ≡ Ok x → StepAvoids (next x))
+    → StepAvoids (outcome_after r asked next)
+after_avoids (Ok x) asked next first rest = rest x refl
+after_avoids (Err status) asked next first rest = avoids_err OutOfMemory status (λ same. first (ap Err same))
+
+then_avoids : {T U : Type 0} (step : Outcome T) (next : T → Outcome U) → StepAvoids step → ((x : T) → step.result ≡ Ok x → StepAvoids (next x)) → StepAvoids (step >>= next)
+then_avoids step next first rest = after_avoids step.result step.asked next first rest
+
+file_avoids : (name : List ℕ) (limit : ℕ) (files : List Held) → StepAvoids (file_of name limit files)
+file_avoids name limit files = avoids_if OutOfMemory (nat_lt limit (length (content files name))) _ _ (λ same. cc) (λ same. cc)
+
+short_by : (name content bytes : List ℕ) (limit : ℕ) (b : Bool) → nat_lt limit (length content) ≡ b → (if b then Err (TooLong name) else Ok content) ≡ Ok bytes
+    → nat_lt limit (length bytes) ≡ false
+short_by name content bytes limit true e h = absurd cc
+short_by name content bytes limit false e h = cc
+
+-- a file that is read is within its limit
+file_short : (name : List ℕ) (limit : ℕ) (files : List Held) (bytes : List ℕ) → (file_of name limit files).result ≡ Ok bytes → nat_lt limit (length bytes) ≡ false
+file_short name limit files bytes h = short_by name (content files name) bytes limit _ refl h
+
+-- ---- the fonts
+
+font_step_avoids : (n : ℕ) (line : FontLine) (files : List Held) → StepAvoids (font_step n line files)
+font_step_avoids n line files =
+    then_avoids (file_of (tfm_name line.name) max_tfm files) (λ bytes. plain (line_font n line bytes)) (file_avoids (tfm_name line.name) max_tfm files) (λ bytes is. font_avoids n line bytes)
+
+fonts_step_avoids : (fonts : List Metrics) (lines : List FontLine) (files : List Held) → StepAvoids (fonts_step fonts lines files)
+fonts_step_avoids fonts [] files = λ same. cc
+fonts_step_avoids fonts (line ∷ lines) files =
+    then_avoids (font_step (length fonts) line files) (λ font. fonts_step (fonts ++ font ∷ []) lines files) (font_step_avoids (length fonts) line files) (λ font is. fonts_step_avoids (fonts ++ font ∷ []) lines files)
+
+list_step_avoids : (name : List ℕ) (files : List Held) → StepAvoids (list_step name files)
+list_step_avoids name files = then_avoids (file_of name max_list files) (λ bytes. plain (list_by (font_list bytes))) (file_avoids name max_list files) (λ bytes is. list_avoids bytes)
+
+loaded_step_avoids : (list : ListValue) (files : List Held) → StepAvoids (loaded_step list files)
+loaded_step_avoids list files = then_avoids (fonts_step [] list.lines files) (λ fonts. plain (font_set_of list fonts)) (fonts_step_avoids [] list.lines files) (λ fonts is. set_avoids list fonts)
+
+font_set_step_avoids : (name : List ℕ) (files : List Held) → StepAvoids (font_set_step name files)
+font_set_step_avoids name files = then_avoids (list_step name files) (λ list. loaded_step list files) (list_step_avoids name files) (λ list is. loaded_step_avoids list files)
+
+-- ---- the commands
+
+source_step_avoids : (name : List ℕ) (width : ℤ) (fonts : SetValue) (files : List Held) → StepAvoids (source_step name width fonts files)
+source_step_avoids name width fonts files =
+    then_avoids (file_of name max_source files) (λ source. plain (typeset_of fonts width source)) (file_avoids name max_source files)
+    (λ source is. typeset_avoids fonts width source (file_short name max_source files source is))
+
+typeset_steps_avoid : (words : SourceValue) (files : List Held) → StepAvoids (typeset_steps words files)
+typeset_steps_avoid words files =
+    then_avoids (font_set_step words.fonts files) (λ fonts. source_step words.source words.line fonts files) (font_set_step_avoids words.fonts files) (λ fonts is. source_step_avoids words.source words.line fonts files)
+
+set_steps_avoid : (words : SourceValue) (files : List Held) → StepAvoids (set_steps words files)
+set_steps_avoid words files = then_avoids (typeset_steps words files) (λ typeset. plain (Ok (File typeset))) (typeset_steps_avoid words files) (λ typeset is same. cc)
+
+places_steps_avoid : (words : SourceValue) (files : List Held) → StepAvoids (places_steps words files)
+places_steps_avoid words files = then_avoids (typeset_steps words files) (λ typeset. plain (Ok (Text (listing typeset.pages)))) (typeset_steps_avoid words files) (λ typeset is same. cc)
+
+dvi_avoids : (read : Result (List (List Place)) Fault) → Avoids OutOfMemory (dvi_by read)
+dvi_avoids (Ok pages) = λ same. cc
+dvi_avoids (Err fault) = λ same. cc
+
+dvi_step_avoids : (name : List ℕ) (fonts : SetValue) (files : List Held) → StepAvoids (dvi_step name fonts files)
+dvi_step_avoids name fonts files = then_avoids (file_of name max_dvi files) (λ bytes. plain (dvi_listing fonts bytes)) (file_avoids name max_dvi files) (λ bytes is. dvi_avoids (pages_of fonts bytes))
+
+read_steps_avoid : (words : DviValue) (files : List Held) → StepAvoids (read_steps words files)
+read_steps_avoid words files = then_avoids (font_set_step words.fonts files) (λ fonts. dvi_step words.dvi fonts files) (font_set_step_avoids words.fonts files) (λ fonts is. dvi_step_avoids words.dvi fonts files)
+
+summed_avoids : (count : ℕ) (typeset : Result TypesetValue Status) → Avoids OutOfMemory typeset → Avoids OutOfMemory (summed count typeset)
+summed_avoids count (Ok typeset) avoids = λ same. cc
+summed_avoids count (Err status) avoids = avoids_err OutOfMemory status (λ same. avoids (ap Err same))
+
+gen_steps_avoid : (words : SampleValue) (files : List Held) → StepAvoids (gen_steps words files)
+gen_steps_avoid words files =
+    summed_avoids words.count (typeset_steps sample_words (sample_files words.seed words.count)).result (typeset_steps_avoid sample_words (sample_files words.seed words.count))
+
+request_steps_avoid : (request : Request) (files : List Held) → StepAvoids (request_steps request files)
+request_steps_avoid (Set words) files = set_steps_avoid words files
+request_steps_avoid (Places words) files = places_steps_avoid words files
+request_steps_avoid (Read words) files = read_steps_avoid words files
+request_steps_avoid (Gen words) files = gen_steps_avoid words files
+
+steps_by_avoid : (request : Option Request) (files : List Held) → StepAvoids (steps_by request files)
+steps_by_avoid None files = λ same. cc
+steps_by_avoid (Some request) files = request_steps_avoid request files
+
+pub answer_avoids : (words : List (List ℕ)) (files : List Held) → answer words files ≡ Err OutOfMemory → ⊥
+answer_avoids words files = steps_by_avoid (request_of words) files
