@@ -1,23 +1,11 @@
 -- Tokens up to one that ends them, taken a token at a time.
-use Rattle.std.proofs.Common.{◌≡◌, ℕ, zero, suc, ◌+◌, ◌≤◌, Bool, true, false, List, [], ◌∷◌, ◌++◌, length, take, drop, refl, sym, ap, ◌∙◌, arith, add-one, append_assoc}
-use Rattle.std.specs.Prelude.{Option, Some, None, ◌==◌, ◌&&◌}
+use Rattle.std.proofs.Common.{◌≡◌, ℕ, zero, suc, ◌+◌, ◌≤◌, Bool, true, false, List, [], ◌∷◌, ◌++◌, length, take, drop, refl, sym, ap, ◌∙◌, arith, add-one}
+use Rattle.std.specs.Prelude.{Some, None, ◌==◌, ◌&&◌}
 use Rattle.std.proofs.lemmas.List.{append-nil}
 use Rattle.mt_token.specs.declared.token.Token.{Token}
-use Rattle.mt_macro.specs.Braces.{Taken, onto, level_after, is_close}
+use Rattle.mt_macro.specs.Braces.{onto, level_after, is_close}
 use Rattle.mt_reader.specs.documents.Dollars.{ends_formula, up_to_end, after_end}
-
--- tokens before what is taken
-abbrev pub onto_all : List Token → Option Taken → Option Taken
-onto_all before None = None
-onto_all before (Some taken) = Some (record { argument = before ++ taken.argument; after = taken.after })
-
-pub onto_none : (o : Option Taken) → o ≡ onto_all [] o
-onto_none None = refl
-onto_none (Some taken) = refl
-
-pub onto_more : (before : List Token) (t : Token) (o : Option Taken) → onto_all before (onto t o) ≡ onto_all (before ++ t ∷ []) o
-onto_more before t None = refl
-onto_more before t (Some taken) = ap (λ x. Some (record { argument = x; after = taken.after })) (sym (append_assoc before (t ∷ []) taken.argument))
+use Rattle.mt_scan.proofs.Taking.{onto_all, onto_none, onto_more}
 
 -- so many tokens are passed, and these are left
 pub record Cut (first : List Token) (at : ℕ) (rest : List Token) : Type 0 where

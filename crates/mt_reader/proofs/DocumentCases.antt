@@ -6,14 +6,14 @@ use Rattle.mt_rules.specs.declared.class.Class.TheVariants.{Op, Rel, Inner}
 use Rattle.mt_rules.specs.declared.kind.Kind.TheVariants.{Plain, Radical, Accent}
 use Rattle.mt_rules.specs.declared.kind.Limits.TheVariants.{Default, Never}
 use Rattle.mt_rules.specs.Sequence.{AtomElement, FractionElement, LeftElement, RightElement, SpaceElement, KernElement}
-use Rattle.mt_reader.proofs.Writing.{seq, sym, lst, no, symbol, delim, glue, bare, ord, scripted}
+use Rattle.mt_formula.proofs.Writing.{seq, sym, lst, no, symbol, delim, glue, bare, ord, scripted}
 use Rattle.mt_reader.specs.documents.Documents.{pages_from}
 use Rattle.mt_reader.proofs.DocumentWriting.{read, entry, shown, shown_with}
 use Rattle.mt_plain.specs.CodeTables.{plain_codes}
 use Rattle.mt_plain.specs.Names.{control}
 use Rattle.mt_plain.specs.MacroTexts.{macro_texts, accent_macros, delimiter_macros, other_macros, family_macros, function_macros, limit_macros}
 use Rattle.mt_plain.specs.PlainMacros.{plain_table, body_of as plain_body}
-use Rattle.mt_reader.specs.Formulas.{stretch}
+use Rattle.mt_formula.specs.Formulas.{stretch}
 
 case_1 : read (codes "") ≡ Ok []
 unfolding stretch run pages_from control plain_codes plain_table macro_texts accent_macros delimiter_macros other_macros family_macros function_macros limit_macros plain_body

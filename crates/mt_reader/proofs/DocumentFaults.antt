@@ -2,14 +2,14 @@
 use Rattle.std.proofs.Common.{◌≡◌, refl, [], ◌∷◌}
 use Rattle.std.specs.Prelude.{codes, Err}
 use Rattle.mt_macro.specs.Expansion.{run, OverBudget, NoArgument}
-use Rattle.mt_reader.proofs.Writing.{times, sym, ord}
+use Rattle.mt_formula.proofs.Writing.{times, sym, ord}
 use Rattle.mt_reader.specs.documents.Documents.{pages_from, Outside, NotExpanded, NotRead, TooManyTokens, TooManyPages}
 use Rattle.mt_reader.proofs.DocumentWriting.{read, after_pages, after_tokens, after_definitions, entry}
 use Rattle.mt_plain.specs.CodeTables.{plain_codes}
 use Rattle.mt_plain.specs.Names.{control}
 use Rattle.mt_plain.specs.MacroTexts.{macro_texts, accent_macros, delimiter_macros, other_macros, family_macros, function_macros, limit_macros}
 use Rattle.mt_plain.specs.PlainMacros.{plain_table, body_of as plain_body}
-use Rattle.mt_reader.specs.Formulas.{stretch}
+use Rattle.mt_formula.specs.Formulas.{stretch}
 
 -- cause 31
 case_1 : read (codes "a") ≡ Err (Outside 1 31 0)

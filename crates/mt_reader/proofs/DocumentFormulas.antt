@@ -16,16 +16,16 @@ use Rattle.mt_rules.specs.declared.document.Tag.{Tag}
 use Rattle.mt_reader.specs.declared.outside_role.OutsideRole.{OutsideRole}
 use Rattle.mt_reader.specs.declared.outside_role.OutsideRole.TheVariants.{Passed, Defines, SetsMathCode, SetsDelimiterCode, BeginsFormula, EndsPage, EndsDocument, Misplaced}
 use Rattle.mt_reader.specs.declared.document_error.DocError.{DocError}
-use Rattle.mt_reader.specs.Parts.{Read, Got, Fault}
-use Rattle.mt_reader.specs.Formulas.{Reading, Reads, ReadFault, reading}
+use Rattle.mt_scan.specs.Parts.{Read, Got, Fault}
+use Rattle.mt_formula.specs.Formulas.{Reading, Reads, ReadFault, reading}
 use Rattle.mt_reader.specs.documents.Definitions.{MacroDefinition, macro_definition}
 use Rattle.mt_reader.specs.documents.Assignments.{math_code_assignment, delcode_assignment}
 use Rattle.mt_reader.specs.documents.Dollars.{begins_display, between_dollars}
 use Rattle.mt_reader.specs.documents.Documents.{DocumentState, DocumentAnswer, Turn, Goes, Ends, Stops, StopsOutside, TooManyTokens, start_state, with_page, with_table, after_definition, after_assignment, is_page_limit, after_reading, after_expansion, formula_in, formula_turn, turn_by, turn_answer, outside_role, pages_from, document}
 use Rattle.mt_reader.specs.documents.Refusals.{IsDocument}
 use Rattle.mt_reader.specs.documents.Weights.{HasFewItems, HaveFewItems, HasModestLists, IsModestDocument}
-use Rattle.mt_reader.proofs.ItemBounds.{HasAtMost, reading_bound}
-use Rattle.mt_reader.proofs.Nesting.{formula_modest}
+use Rattle.mt_formula.proofs.ItemBounds.{HasAtMost, reading_bound}
+use Rattle.mt_formula.proofs.Nesting.{formula_modest}
 use Rattle.mt_reader.proofs.Expanding.{expanded_short}
 
 module _ (P : Formula → Type 0) (units : Units) where

@@ -8,8 +8,8 @@ use Rattle.mt_plain.specs.PlainMacros.{plain_table}
 use Rattle.mt_reader.specs.declared.document_state.DocumentState.{DocumentState as StateFields}
 use Rattle.mt_macro.specs.declared.expansion.ExpandError.{ExpandError}
 use Rattle.mt_macro.specs.declared.expansion.ExpandError.TheVariants.{Budget, MissingArgument, Unbalanced as UnbalancedList, TooLong, OutOfMemory as NoMemoryToExpand}
-use Rattle.mt_reader.specs.declared.read_error.ReadError.{ReadError}
-use Rattle.mt_reader.specs.declared.read_error.ReadError.TheVariants.{UnknownName, DoubleScript, TwoFractions, BadDelimiter, Unbalanced, MisplacedLimits, MissingField, BadNumber, BadDimension, MisplacedNumber, TooDeep, OutOfMemory as NoMemoryToRead}
+use Rattle.mt_formula.specs.declared.read_error.ReadError.{ReadError}
+use Rattle.mt_formula.specs.declared.read_error.ReadError.TheVariants.{UnknownName, DoubleScript, TwoFractions, BadDelimiter, Unbalanced, MisplacedLimits, MissingField, BadNumber, BadDimension, MisplacedNumber, TooDeep, OutOfMemory as NoMemoryToRead}
 use Rattle.mt_reader.specs.declared.document_error.DocError.{DocError}
 use Rattle.mt_reader.specs.declared.document_error.DocError.TheVariants.{Source, Outside, Expand, Read, Total, Pages, OutOfMemory}
 use Rattle.mt_reader.specs.documents.Documents.{DocumentState, DocumentFault, DocumentAnswer, Turn, Goes, Ends, Stops, StopsOutside, state_pages, turn_by, outside_role, turn_answer, pages_from, document}

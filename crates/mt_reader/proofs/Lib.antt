@@ -1,32 +1,5 @@
--- sizes above 2^31 - 1 count as 2^31
-mod Capping
--- sequences, and what the items of an open list keep
-mod Inside
--- what a turn leaves of open lists
-mod Standing
--- a turn is the action of what stands in front
-mod Acting
--- what becomes of a list where no item stands
-mod Stopping
--- lists that go on after what was read of one of their items
-mod Continuing
--- what a turn leaves follows from what a step of it leaves
-mod Turning
--- how much there is still to read where lists open and end
-mod Remaining
--- actions that open a list
-mod Opening
--- what a list that is read leaves: between boundaries, of a choice, a row, and any other
-mod Fencing
-mod Choosing
-mod Rowing
-mod Closing
 -- tokens up to one that ends them
 mod Cutting
--- primes, and the argument after them
-mod Priming
--- what a turn gives
-mod Proceeding
 -- definitions, a parameter at a time
 mod Defining
 -- how long an expanded list is
@@ -39,30 +12,6 @@ mod DocumentFormulas
 mod Pages
 -- the tokens of a source
 mod Sourcing
--- parts take tokens, and never give any back
-mod Short
--- a formula has at most four items for each of its tokens: lists, and then all else
-mod Bounds
-mod ItemBounds
--- and its nesting and its amounts are bounded
-mod Fitting
-mod Nesting
--- the reading of a formula, of a list and perhaps of another one at its side
-mod FormulaReading
--- what worked formulas are written with
-mod Writing
--- worked formulas
-mod AtomCases
-mod GroupCases
-mod ScriptCases
-mod DelimiterCases
-mod SpaceCases
--- formulas at fault
-mod NameFaults
-mod ScriptFaults
-mod FieldFaults
-mod NumberFaults
-mod DepthFaults
 -- what worked documents are written with
 mod DocumentWriting
 -- worked documents, and documents at fault

@@ -4,12 +4,10 @@ ghost use Rattle.mt_plain.specs.CodeTables.{is_delcode};
 ghost use Rattle.mt_reader.specs.documents.Assignments.{after_equals, code_or_none, delimiter_value};
 ghost use Rattle.mt_reader.specs.documents.Assignments.{math_code_assignment, delcode_assignment};
 ghost use Rattle.mt_reader.specs.documents.Lent.{Assigns};
-ghost use Rattle.mt_reader.specs.Meets.{Meets};
+ghost use Rattle.mt_scan.specs.Meets.{Meets};
 
-use crate::numbers::{number_to, whole_number};
-use crate::part::{Fault, Part, ReadCause};
-use crate::spaces::{after_spaces, character_code};
 use mt_plain::Codes;
+use mt_scan::{Fault, Part, ReadCause, after_spaces, character_code, number_to, whole_number};
 use mt_token::Token;
 
 /// The greatest character.

@@ -8,13 +8,11 @@ ghost use Rattle.mt_reader.specs.documents.Definitions.{macro_definition};
 ghost use Rattle.mt_reader.specs.documents.Lent.{MeetsOutside, MeetsDefinition, taken_tokens};
 ghost use Rattle.mt_reader.specs.declared.outside_cause.OutsideCause.TheVariants.{BadDefinition};
 
-use crate::braces::is_open;
 use crate::outside_cause::OutsideCause;
-use crate::part::Part;
-use crate::spaces::character_code;
 use crate::taken::{Taken, between_braces};
 use mt_macro::first_bad_parameter;
 use mt_scaled::Name;
+use mt_scan::{Part, character_code, is_open};
 use mt_token::{Token, TokenKind};
 
 /// A cause, and how many tokens are left from its place on.

@@ -3,7 +3,7 @@ ghost use Rattle.std.specs.Prelude.{◌≡◌};
 ghost use Rattle.mt_reader.specs.declared.document_error.DocError.TheVariants.{OutOfMemory};
 
 use crate::outside_cause::OutsideCause;
-use crate::read_error::ReadError;
+use mt_formula::ReadError;
 use mt_macro::ExpandError;
 use mt_plain::CodeError;
 use mt_token::TokenError;

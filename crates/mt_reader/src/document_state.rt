@@ -5,8 +5,8 @@ ghost use Rattle.mt_plain.specs.CodeTables.{plain_codes};
 ghost use Rattle.mt_plain.specs.PlainMacros.{plain_table};
 ghost use Rattle.mt_macro.specs.Definition.{define, Answers};
 ghost use Rattle.mt_macro.specs.Expansion.{Expands, expansion};
-ghost use Rattle.mt_reader.specs.Answers.{ReadsAs};
-ghost use Rattle.mt_reader.specs.Formulas.{reading};
+ghost use Rattle.mt_formula.specs.Answers.{ReadsAs};
+ghost use Rattle.mt_formula.specs.Formulas.{reading};
 ghost use Rattle.mt_reader.specs.documents.Assignments.{math_code_assignment, delcode_assignment};
 ghost use Rattle.mt_reader.specs.documents.Documents.{start_state, state_pages, after_page_end};
 ghost use Rattle.mt_reader.specs.documents.Documents.{is_page_limit, with_formula};
@@ -14,13 +14,12 @@ ghost use Rattle.mt_reader.specs.documents.Turns.{state_of, SetsTables, changes_
 
 use crate::assignments::{assign_delcode, assign_math_code};
 use crate::definitions::MacroDefinition;
-use crate::formula::read_formula;
-use crate::part::Fault;
-use crate::read_error::ReadError;
+use mt_formula::{ReadError, read_formula};
 use mt_macro::{ExpandError, MacroError, Macros, expand};
 use mt_plain::{CodeError, Codes, plain_macros};
 use mt_rules::{Document, Formula, MathList, Page, Tag};
 use mt_scaled::{Items, Units};
+use mt_scan::Fault;
 use mt_token::{Token, TokenList};
 use std::alloc::{AllocError, Global};
 use std::mem;

@@ -7,7 +7,7 @@ ghost use Rattle.mt_reader.specs.documents.Documents.{after_definition, after_as
 ghost use Rattle.mt_reader.specs.documents.Documents.{after_expansion, formula_turn, after_page_end};
 ghost use Rattle.mt_reader.specs.documents.Documents.{is_page_limit, turn_by, outside_role, Goes};
 ghost use Rattle.mt_macro.specs.Expansion.{Expanded, expansion};
-ghost use Rattle.mt_reader.specs.Formulas.{reading};
+ghost use Rattle.mt_formula.specs.Formulas.{reading};
 ghost use Rattle.mt_reader.specs.documents.Turns.{state_of, Turns, Spends, ReadsOne, expand_error, read_error};
 
 use crate::definitions::macro_definition;
@@ -16,8 +16,8 @@ use crate::document_state::DocumentState;
 use crate::dollars::{begins_display, between_dollars};
 use crate::outside_cause::OutsideCause;
 use crate::outside_role::{OutsideRole, outside_role};
-use crate::read_error::ReadError;
 use crate::taken::Taken;
+use mt_formula::ReadError;
 use mt_macro::{ExpandError, MacroError};
 use mt_scaled::Units;
 use mt_token::{Token, TokenList};

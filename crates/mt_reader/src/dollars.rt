@@ -5,9 +5,8 @@ ghost use Rattle.mt_reader.specs.documents.Dollars.{after_end, up_to_end, begins
 ghost use Rattle.mt_reader.specs.documents.Lent.{TakesAs};
 ghost use Rattle.mt_reader.specs.documents.Weights.{dollars};
 
-use crate::braces::{closes_none, level_after};
-use crate::spaces::character_code;
 use crate::taken::Taken;
+use mt_scan::{character_code, closes_none, level_after};
 use mt_token::Token;
 
 fn is_dollar(token: &Token) -> bool

@@ -3,8 +3,8 @@ use Rattle.std.specs.Prelude.{ℕ, ◌==◌, nat_le, ℤ, pos, negsuc, List, [],
 use Rattle.mt_token.specs.declared.token.Token.{Token}
 use Rattle.mt_token.specs.Character.{character_code}
 use Rattle.mt_plain.specs.CodeTables.{CodeTables, with_math_code, with_delcode}
-use Rattle.mt_reader.specs.Parts.{Read, Got, Fault, then_read, after_spaces}
-use Rattle.mt_reader.specs.Numbers.{whole_number, number_to}
+use Rattle.mt_scan.specs.Parts.{Read, Got, Fault, then_read, after_spaces}
+use Rattle.mt_scan.specs.Numbers.{whole_number, number_to}
 
 -- 61 is =
 abbrev pub after_equals : List Token → List Token

@@ -6,7 +6,7 @@ use Rattle.mt_token.specs.declared.token.TokenKind.TheVariants.{Control, Char, S
 use Rattle.mt_token.specs.Character.{character_code}
 use Rattle.mt_macro.specs.Braces.{Taken, group, is_open}
 use Rattle.mt_macro.specs.Parameters.{is_hash, first_bad_parameter}
-use Rattle.mt_reader.specs.Parts.{Read, Got, Fault, then_read}
+use Rattle.mt_scan.specs.Parts.{Read, Got, Fault, then_read}
 
 pub record MacroDefinition : Type 0 where
   pub name : List ℕ

@@ -4,13 +4,13 @@ use Rattle.mt_token.specs.declared.token.Token.{Token}
 use Rattle.mt_macro.specs.Braces.{Taken as TakenTokens}
 use Rattle.std.specs.Borrow.{Bor}
 use Rattle.mt_plain.specs.CodeTables.{CodeTables}
-use Rattle.mt_reader.specs.declared.part.Part.{Part}
-use Rattle.mt_reader.specs.declared.part.Fault.{Fault as FaultFields}
+use Rattle.mt_scan.specs.declared.part.Part.{Part}
+use Rattle.mt_scan.specs.declared.part.Fault.{Fault as FaultFields}
 use Rattle.mt_reader.specs.declared.taken.Taken.{Taken}
 use Rattle.mt_reader.specs.declared.definitions.OutsideFault.{OutsideFault}
 use Rattle.mt_reader.specs.declared.definitions.MacroDefinition.{MacroDefinition as LentDefinition}
-use Rattle.mt_reader.specs.Parts.{Read, Got, Fault}
-use Rattle.mt_reader.specs.Meets.{cause_number}
+use Rattle.mt_scan.specs.Parts.{Read, Got, Fault}
+use Rattle.mt_scan.specs.Meets.{cause_number}
 use Rattle.mt_reader.specs.documents.Definitions.{MacroDefinition}
 use Rattle.mt_reader.specs.documents.Causes.{outside_number}
 

@@ -4,12 +4,12 @@ use Rattle.std.specs.Borrow.{Bor}
 use Rattle.mt_token.specs.declared.token.Token.{Token}
 use Rattle.mt_macro.specs.Table.{Table}
 use Rattle.mt_plain.specs.CodeTables.{CodeTables}
-use Rattle.mt_reader.specs.Parts.{Read}
-use Rattle.mt_reader.specs.declared.part.Fault.{Fault as FaultFields}
+use Rattle.mt_scan.specs.Parts.{Read}
+use Rattle.mt_scan.specs.declared.part.Fault.{Fault as FaultFields}
 use Rattle.mt_macro.specs.declared.expansion.ExpandError.{ExpandError}
 use Rattle.mt_macro.specs.declared.expansion.ExpandError.TheVariants.{OutOfMemory as NoMemoryToExpand}
-use Rattle.mt_reader.specs.declared.read_error.ReadError.{ReadError}
-use Rattle.mt_reader.specs.declared.read_error.ReadError.TheVariants.{OutOfMemory as NoMemoryToRead}
+use Rattle.mt_formula.specs.declared.read_error.ReadError.{ReadError}
+use Rattle.mt_formula.specs.declared.read_error.ReadError.TheVariants.{OutOfMemory as NoMemoryToRead}
 use Rattle.mt_reader.specs.declared.document_turn.AfterTurn.{AfterTurn}
 use Rattle.mt_reader.specs.declared.document_turn.AfterTurn.TheVariants.{Left, Ended}
 use Rattle.mt_reader.specs.declared.document_error.DocError.{DocError}

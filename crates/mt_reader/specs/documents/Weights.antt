@@ -2,7 +2,7 @@
 -- (`HaveFewItems`, `IsModestDocument`).
 use Rattle.std.specs.Prelude.{ℕ, ◌≤◌, Bool, List, All, sum_by, if◌then◌else◌}
 use Rattle.mt_rules.specs.declared.document.Formula.{Formula}
-use Rattle.mt_reader.specs.Counts.{formula_items, IsModestFormula}
+use Rattle.mt_formula.specs.Counts.{formula_items, IsModestFormula}
 
 -- so many dollars stand at each side of it
 abbrev pub dollars : Bool → ℕ

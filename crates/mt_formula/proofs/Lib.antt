@@ -1,0 +1,49 @@
+-- sequences, and what the items of an open list keep
+mod Inside
+-- what a turn leaves of open lists
+mod Standing
+-- a turn is the action of what stands in front
+mod Acting
+-- what becomes of a list where no item stands
+mod Stopping
+-- lists that go on after what was read of one of their items
+mod Continuing
+-- what a turn leaves follows from what a step of it leaves
+mod Turning
+-- how much there is still to read where lists open and end
+mod Remaining
+-- actions that open a list
+mod Opening
+-- what a list that is read leaves: between boundaries, of a choice, a row, and any other
+mod Fencing
+mod Choosing
+mod Rowing
+mod Closing
+-- primes, and the argument after them
+mod Priming
+-- what a turn gives
+mod Proceeding
+-- parts take tokens, and never give any back
+mod Short
+-- a formula has at most four items for each of its tokens: lists, and then all else
+mod Bounds
+pub mod ItemBounds
+-- and its nesting and its amounts are bounded
+mod Fitting
+pub mod Nesting
+-- the reading of a formula, of a list and perhaps of another one at its side
+mod FormulaReading
+-- what worked formulas are written with
+pub mod Writing
+-- worked formulas
+mod AtomCases
+mod GroupCases
+mod ScriptCases
+mod DelimiterCases
+mod SpaceCases
+-- formulas at fault
+mod NameFaults
+mod ScriptFaults
+mod FieldFaults
+mod NumberFaults
+mod DepthFaults

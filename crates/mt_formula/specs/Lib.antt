@@ -1,0 +1,22 @@
+-- atoms and their scripts
+pub mod Atoms
+-- lists, and the fractions that divide them
+pub mod Lists
+-- lists between braces and between delimiters
+pub mod Groups
+-- fields
+pub mod Fields
+-- primes
+pub mod Primes
+-- the rows of a vcenter atom
+pub mod Rows
+-- items
+pub mod Items
+-- the reading of a formula
+pub mod Formulas
+-- what the reading of a formula answers
+pub mod Answers
+-- how many items a list has
+pub mod Counts
+-- of the lists that the code keeps open: only inner contracts cite it
+pub mod machine

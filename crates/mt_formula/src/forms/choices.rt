@@ -1,0 +1,90 @@
+//! The lists of a choice.
+ghost use Rattle.std.specs.Prelude.{◌≡◌, ◌≤◌, ◌+◌, List, length, reverse, IfOk};
+ghost use Rattle.mt_scaled.specs.declared.unit.Units.{Units};
+ghost use Rattle.mt_formula.specs.declared.open.frame.Owner.TheVariants.{Choice};
+ghost use Rattle.mt_formula.specs.machine.OpenLists.{inner_sequence};
+ghost use Rattle.mt_formula.specs.machine.Continues.{Continues, list_of_choice};
+ghost use Rattle.mt_formula.specs.machine.Remaining.{remaining};
+ghost use Rattle.mt_formula.specs.machine.Turned.{Resumes};
+
+use crate::forms::resume::{after_first, resume_choice};
+use crate::open::ending::Ending;
+use crate::open::frame::{ChoiceLists, Frame, Owner, open_group};
+use crate::open::open_list::{InnerItems, OpenList};
+use crate::open::room::open_brace;
+use crate::open::turned::{Stop, Turned};
+use mt_plain::Codes;
+use mt_scan::after_spaces;
+use mt_token::Token;
+use std::alloc::Global;
+
+// Another list of the choice in this list, after Spaces and `{`.
+fn open_next<'a>(
+    alloc: Global,
+    codes: &Codes,
+    frames: &mut Vec<Frame<'a>>,
+    list: OpenList,
+    lists: ChoiceLists,
+    tokens: &'a [Token],
+) -> Result<Turned<'a>, Stop>
+    ensures is { (units : Units) →
+        Continues codes.now units (reverse frames.old.items) list (length tokens.now)
+        (list_of_choice codes.now units list lists tokens.now)
+        result (reverse frames.new.items) }
+    ensures falls { IfOk result (λ turned. remaining (reverse frames.new.items) (length turned.rest.now)
+        ≤ remaining (reverse frames.old.items) (length tokens.now)) }
+{
+    match open_brace(codes, list.depth, after_spaces(tokens)) {
+        Ok(inside) => {
+            let inner = open_group(alloc, frames, list, Owner::Choice(lists), Ending::AtBrace)?;
+            Ok(Turned {
+                list: inner,
+                rest: inside,
+            })
+        }
+        Err(fault) => Err(Stop::Fault(fault)),
+    }
+}
+
+/// What becomes of a list when one of the lists of a choice in it ends, at `}`: after Spaces and `{`
+/// the next one begins, and the fourth one ends the choice (The TeXbook, chapter 17). `Stop::Fault`
+/// where no `{` stands there, or no more groups may be open.
+pub fn close_choice<'a>(
+    alloc: Global,
+    codes: &Codes,
+    frames: &mut Vec<Frame<'a>>,
+    list: OpenList,
+    lists: ChoiceLists,
+    all: InnerItems,
+    tokens: &'a [Token],
+) -> Result<Turned<'a>, Stop>
+    ensures is { (units : Units) →
+        Resumes codes.now units (record { owner = Choice lists; list = list }) (reverse frames.old.items)
+        (inner_sequence all) tokens.now
+        result (reverse frames.new.items) }
+    ensures falls { IfOk result (λ turned. remaining (reverse frames.new.items) (length turned.rest.now)
+        ≤ remaining (reverse frames.old.items) (length tokens.now)) }
+{
+    let after = after_first(tokens);
+    match lists {
+        ChoiceLists::Zero => open_next(alloc, codes, frames, list, ChoiceLists::One(all), after),
+        ChoiceLists::One(display) => {
+            open_next(
+                alloc,
+                codes,
+                frames,
+                list,
+                ChoiceLists::Two(display, all),
+                after,
+            )
+        }
+        ChoiceLists::Two(display, text) => {
+            let lists = ChoiceLists::Three(display, text, all);
+            open_next(alloc, codes, frames, list, lists, after)
+        }
+        ChoiceLists::Three(display, text, script) => Ok(Turned {
+            list: resume_choice(alloc, list, display, text, script, all)?,
+            rest: after,
+        }),
+    }
+}

@@ -1,0 +1,78 @@
+//! Lists between boundaries.
+ghost use Rattle.std.specs.Prelude.{◌≡◌, ◌≤◌, List, length, IfOk, OnOk};
+ghost use Rattle.mt_rules.specs.View.{sequence_of};
+ghost use Rattle.mt_scaled.specs.declared.unit.Units.{Units};
+ghost use Rattle.mt_formula.specs.Groups.{between_boundaries};
+ghost use Rattle.mt_formula.specs.declared.open.frame.Frame.{Frame};
+ghost use Rattle.mt_formula.specs.declared.open.frame.Owner.TheVariants.{Fence};
+ghost use Rattle.mt_formula.specs.machine.OpenLists.{inner_sequence};
+ghost use Rattle.mt_formula.specs.machine.Resumes.{ResumesFence};
+ghost use Rattle.mt_formula.specs.machine.Turned.{Resumes};
+
+use crate::forms::resume::after_first;
+use crate::open::hands::plain_hand;
+use crate::open::lists::put_hand;
+use crate::open::open_list::{InnerItems, OpenList};
+use crate::open::turned::{Stop, Turned};
+use mt_plain::Codes;
+use mt_rules::{Class, Delim, Field, Item, MathList};
+use mt_scan::{NucleusKind, delimiter};
+use mt_token::Token;
+use std::alloc::{AllocError, Global};
+
+fn put_boundaries(items: &mut Vec<Item>, left: Delim, right: Delim) -> Result<(), AllocError>
+    ensures { OnOk result (sequence_of items.new.items ≡ between_boundaries left (sequence_of items.old.items) right) }
+{
+    items.insert(0, Item::Left(left))?;
+    items.push(Item::Right(right))?;
+    Ok(())
+}
+
+fn into_fenced(left: Delim, items: InnerItems, right: Delim) -> Result<MathList, AllocError>
+    ensures { IfOk result (λ list. list ≡ between_boundaries left (inner_sequence items) right) }
+{
+    let InnerItems { mut items } = items;
+    put_boundaries(&mut items, left, right)?;
+    Ok(MathList::from_vec(items))
+}
+
+fn resume_fence(
+    alloc: Global,
+    list: OpenList,
+    left: Delim,
+    all: InnerItems,
+    right: Delim,
+) -> Result<OpenList, AllocError>
+    ensures { IfOk result (λ new. ResumesFence left (inner_sequence all) right list new) }
+{
+    let inner = Field::List(into_fenced(left, all, right)?);
+    put_hand(
+        list,
+        plain_hand(alloc, NucleusKind::Class(Class::Inner), inner)?,
+    )
+}
+
+/// What becomes of a list when the one between boundaries in it ends, at `\right`: a delimiter
+/// follows, and the whole is an Inner atom (The TeXbook, chapter 17). `Stop::Fault` where no
+/// delimiter stands there.
+pub fn close_fence<'a>(
+    alloc: Global,
+    codes: &Codes,
+    list: OpenList,
+    left: Delim,
+    all: InnerItems,
+    tokens: &'a [Token],
+) -> Result<Turned<'a>, Stop>
+    ensures is { (units : Units) (outer : List Frame) →
+        Resumes codes.now units (record { owner = Fence left; list = list }) outer
+        (inner_sequence all) tokens.now result outer }
+    ensures falls { IfOk result (λ turned. length turned.rest.now ≤ length tokens.now) }
+{
+    match delimiter(codes, after_first(tokens)) {
+        Ok(right) => Ok(Turned {
+            list: resume_fence(alloc, list, left, all, right.value)?,
+            rest: right.rest,
+        }),
+        Err(fault) => Err(Stop::Fault(fault)),
+    }
+}

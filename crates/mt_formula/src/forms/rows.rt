@@ -1,0 +1,269 @@
+//! The rows of a vcenter atom.
+ghost use Rattle.std.specs.Prelude.{◌≡◌, ◌≤◌, ◌<◌, ◌+◌, length, reverse, true, IfOk, OnOk};
+ghost use Rattle.mt_scaled.specs.declared.unit.Units.{Units};
+ghost use Rattle.mt_rules.specs.Rows.{rows_of};
+ghost use Rattle.mt_rules.specs.Sequence.{MoreRows, NoRows};
+ghost use Rattle.mt_scan.specs.Parts.{opening};
+ghost use Rattle.mt_scan.specs.Role.{is_math_shift};
+ghost use Rattle.mt_scan.specs.Meets.{Meets};
+ghost use Rattle.mt_formula.specs.declared.step.action.Action.TheVariants.{Rows};
+ghost use Rattle.mt_formula.specs.declared.open.frame.Owner.TheVariants.{Row};
+ghost use Rattle.mt_formula.specs.machine.Actions.{Opens};
+ghost use Rattle.mt_formula.specs.machine.Frames.{append_rows};
+ghost use Rattle.mt_formula.specs.machine.OpenLists.{inner_sequence};
+ghost use Rattle.mt_formula.specs.machine.Continues.{next_row_begins, first_row_begins, later_row_begins};
+ghost use Rattle.mt_formula.specs.machine.Continues.{brace_closes, row_ends, row_opens, TurnsRows};
+ghost use Rattle.mt_formula.specs.machine.Resumes.{ResumesRows};
+ghost use Rattle.mt_formula.specs.machine.Remaining.{remaining};
+ghost use Rattle.mt_formula.specs.machine.Turned.{Performs, Resumes};
+
+use crate::forms::resume::after_first;
+use crate::open::ending::Ending;
+use crate::open::frame::{Frame, Owner, push_frame};
+use crate::open::hands::vcenter_hand;
+use crate::open::items::into_list;
+use crate::open::lists::{new_list, put_hand};
+use crate::open::open_list::{InnerItems, OpenList};
+use crate::open::room::{missing_field, open_brace, room};
+use crate::open::turned::{Stop, Turned};
+use mt_plain::Codes;
+use mt_rules::{MathList, RowList};
+use mt_scan::{Fault, Part, Role, after_spaces, role_of};
+use mt_token::Token;
+use std::alloc::{AllocError, Global};
+
+// The tokens after a `$` that must stand here and opens a group.
+fn open_dollar<'a>(codes: &Codes, depth: usize, tokens: &'a [Token]) -> Result<&'a [Token], Fault>
+    ensures is { Opens result (opening codes.now is_math_shift depth tokens.now) }
+    ensures falls { IfOk result (λ inside. length inside.now < length tokens.now) }
+    ensures room { IfOk result (λ inside. depth < 150) }
+{
+    match tokens {
+        [token, inside @ ..] => match role_of(codes, token) {
+            Role::Dollar => match room(depth, tokens.len()) {
+                Ok(()) => Ok(inside),
+                Err(fault) => Err(fault),
+            },
+            _ => Err(missing_field(tokens.len())),
+        },
+        [] => Err(missing_field(0)),
+    }
+}
+
+// The tokens after the `{$` of a row.
+fn open_row_list<'a>(codes: &Codes, depth: usize, tokens: &'a [Token]) -> Result<&'a [Token], Fault>
+    ensures is { Opens result (row_opens codes.now depth tokens.now) }
+    ensures falls { IfOk result (λ inside. length inside.now < length tokens.now) }
+    ensures room { IfOk result (λ inside. depth + 1 < 150) }
+{
+    match open_brace(codes, depth, tokens) {
+        Ok(after) => match open_dollar(codes, depth + 1, after) {
+            Ok(inside) => Ok(inside),
+            Err(fault) => Err(fault),
+        },
+        Err(fault) => Err(fault),
+    }
+}
+
+// The tokens after a `}` that must stand here.
+fn close_brace<'a>(codes: &Codes, tokens: &'a [Token]) -> Result<&'a [Token], Fault>
+    ensures is { Opens result (brace_closes codes.now tokens.now) }
+    ensures falls { IfOk result (λ rest. length rest.now < length tokens.now) }
+{
+    match tokens {
+        [token, rest @ ..] => match role_of(codes, token) {
+            Role::CloseBrace => Ok(rest),
+            _ => Err(missing_field(tokens.len())),
+        },
+        [] => Err(missing_field(0)),
+    }
+}
+
+// A row must begin here.
+fn next_row_begins<'a>(codes: &Codes, tokens: &'a [Token]) -> Result<Part<'a, bool>, Fault>
+    ensures is { Meets result (next_row_begins codes.now tokens.now) }
+    ensures falls { IfOk result (λ part. length part.rest.now < length tokens.now) }
+{
+    match tokens {
+        [token, rest @ ..] => match role_of(codes, token) {
+            Role::HboxWord => Ok(Part { value: true, rest }),
+            _ => Err(missing_field(tokens.len())),
+        },
+        [] => Err(missing_field(0)),
+    }
+}
+
+// Whether the first row begins here, or there is none.
+fn first_row_begins<'a>(codes: &Codes, tokens: &'a [Token]) -> Result<Part<'a, bool>, Fault>
+    ensures is { Meets result (first_row_begins codes.now tokens.now) }
+    ensures falls { IfOk result (λ part. length part.rest.now < length tokens.now) }
+{
+    match tokens {
+        [token, rest @ ..] => match role_of(codes, token) {
+            Role::CloseBrace => Ok(Part { value: false, rest }),
+            Role::HboxWord => Ok(Part { value: true, rest }),
+            _ => Err(missing_field(tokens.len())),
+        },
+        [] => Err(missing_field(0)),
+    }
+}
+
+// Whether another row begins here, or there are no more.
+fn later_row_begins<'a>(codes: &Codes, tokens: &'a [Token]) -> Result<Part<'a, bool>, Fault>
+    ensures is { Meets result (later_row_begins codes.now tokens.now) }
+    ensures falls { IfOk result (λ part. length part.rest.now < length tokens.now) }
+{
+    match tokens {
+        [token, rest @ ..] => match role_of(codes, token) {
+            Role::CloseBrace => Ok(Part { value: false, rest }),
+            Role::HboxWord => Ok(Part { value: true, rest }),
+            _ => next_row_begins(codes, after_spaces(tokens)),
+        },
+        [] => Err(missing_field(0)),
+    }
+}
+
+// The `}` of a row, and whether another one begins after it.
+fn row_ends<'a>(codes: &Codes, tokens: &'a [Token]) -> Result<Part<'a, bool>, Fault>
+    ensures is { Meets result (row_ends codes.now tokens.now) }
+    ensures falls { IfOk result (λ part. length part.rest.now < length tokens.now) }
+{
+    match close_brace(codes, tokens) {
+        Ok(rest) => match later_row_begins(codes, rest) {
+            Ok(part) => Ok(part),
+            Err(fault) => Err(fault),
+        },
+        Err(fault) => Err(fault),
+    }
+}
+
+fn push_row(rows: &mut Vec<MathList>, row: MathList) -> Result<(), AllocError>
+    ensures { OnOk result (rows_of rows.new.items ≡ append_rows (rows_of rows.old.items) (MoreRows row NoRows)) }
+{
+    rows.push(row)?;
+    Ok(())
+}
+
+// The list with a vcenter atom of these rows.
+fn put_rows(alloc: Global, list: OpenList, rows: Vec<MathList>) -> Result<OpenList, AllocError>
+    ensures { IfOk result (λ new. ResumesRows (rows_of rows.items) list new) }
+{
+    put_hand(list, vcenter_hand(alloc, RowList::from_vec(rows))?)
+}
+
+// A row of the vcenter atom in this list, after these rows and a `\hbox`.
+fn open_row<'a>(
+    alloc: Global,
+    codes: &Codes,
+    frames: &mut Vec<Frame<'a>>,
+    list: OpenList,
+    done: Vec<MathList>,
+    tokens: &'a [Token],
+) -> Result<Turned<'a>, Stop>
+    ensures is { (units : Units) →
+        TurnsRows codes.now units (reverse frames.old.items) list (rows_of done.items) true tokens.now
+        result (reverse frames.new.items) }
+    ensures falls { IfOk result (λ turned. remaining (reverse frames.new.items) (length turned.rest.now)
+        ≤ remaining (reverse frames.old.items) (length tokens.now)) }
+{
+    let depth = list.depth + 1;
+    match open_row_list(codes, depth, tokens) {
+        Ok(inside) => {
+            push_frame(
+                frames,
+                Frame {
+                    owner: Owner::Row(done),
+                    list,
+                },
+            )?;
+            Ok(Turned {
+                list: new_list(alloc, depth + 2, None, Ending::AtDollar),
+                rest: inside,
+            })
+        }
+        Err(fault) => Err(Stop::Fault(fault)),
+    }
+}
+
+// After these rows, another one where one begins, or else the atom.
+fn next_row<'a>(
+    alloc: Global,
+    codes: &Codes,
+    frames: &mut Vec<Frame<'a>>,
+    list: OpenList,
+    done: Vec<MathList>,
+    begins: bool,
+    tokens: &'a [Token],
+) -> Result<Turned<'a>, Stop>
+    ensures is { (units : Units) →
+        TurnsRows codes.now units (reverse frames.old.items) list (rows_of done.items) begins tokens.now
+        result (reverse frames.new.items) }
+    ensures falls { IfOk result (λ turned. remaining (reverse frames.new.items) (length turned.rest.now)
+        ≤ remaining (reverse frames.old.items) (length tokens.now)) }
+{
+    if begins {
+        open_row(alloc, codes, frames, list, done, tokens)
+    } else {
+        Ok(Turned {
+            list: put_rows(alloc, list, done)?,
+            rest: tokens,
+        })
+    }
+}
+
+/// What becomes of a list after `\vcenter{`: its first row begins, or it has none. `Stop::Fault`
+/// where neither a row nor `}` stands there, or no more groups may be open.
+pub fn open_rows<'a>(
+    alloc: Global,
+    codes: &Codes,
+    frames: &mut Vec<Frame<'a>>,
+    list: OpenList,
+    tokens: &'a [Token],
+) -> Result<Turned<'a>, Stop>
+    ensures is { (units : Units) →
+        Performs codes.now units (reverse frames.old.items) list Rows tokens.now
+        result (reverse frames.new.items) }
+    ensures falls { IfOk result (λ turned. remaining (reverse frames.new.items) (length turned.rest.now)
+        ≤ remaining (reverse frames.old.items) (length tokens.now)) }
+{
+    match first_row_begins(codes, tokens) {
+        Ok(row) => next_row(
+            alloc,
+            codes,
+            frames,
+            list,
+            Vec::new(alloc),
+            row.value,
+            row.rest,
+        ),
+        Err(fault) => Err(Stop::Fault(fault)),
+    }
+}
+
+/// What becomes of a list when a row of the vcenter atom in it ends, at `$`: after `}` another row
+/// begins, or the rows end. `Stop::Fault` where neither stands there, or no more groups may be open.
+pub fn close_row<'a>(
+    alloc: Global,
+    codes: &Codes,
+    frames: &mut Vec<Frame<'a>>,
+    list: OpenList,
+    done: Vec<MathList>,
+    all: InnerItems,
+    tokens: &'a [Token],
+) -> Result<Turned<'a>, Stop>
+    ensures is { (units : Units) →
+        Resumes codes.now units (record { owner = Row done; list = list }) (reverse frames.old.items)
+        (inner_sequence all) tokens.now
+        result (reverse frames.new.items) }
+    ensures falls { IfOk result (λ turned. remaining (reverse frames.new.items) (length turned.rest.now)
+        ≤ remaining (reverse frames.old.items) (length tokens.now)) }
+{
+    match row_ends(codes, after_first(tokens)) {
+        Ok(row) => {
+            let mut rows = done;
+            push_row(&mut rows, into_list(all))?;
+            next_row(alloc, codes, frames, list, rows, row.value, row.rest)
+        }
+        Err(fault) => Err(Stop::Fault(fault)),
+    }
+}

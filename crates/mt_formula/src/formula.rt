@@ -1,0 +1,133 @@
+//! Formulas.
+ghost use Rattle.std.specs.Prelude.{◌≡◌, ◌≤◌, ◌^◌, ◌+◌, ◌*◌, length, IfOk};
+ghost use Rattle.mt_scaled.specs.Number.{Within};
+ghost use Rattle.mt_scan.specs.Parts.{Read};
+ghost use Rattle.mt_formula.specs.Answers.{IsFault, ReadsAs};
+ghost use Rattle.mt_formula.specs.Counts.{formula_items, IsModestFormula};
+ghost use Rattle.mt_scan.specs.Meets.{cause_number};
+ghost use Rattle.mt_formula.specs.Formulas.{FormulaParts, ReadFault, reading_of, is_at_left, body_ending};
+ghost use Rattle.mt_formula.specs.Formulas.{stretch, formula, reading};
+ghost use Rattle.mt_formula.specs.machine.Reads.{HasFault, ReadsFormula};
+
+use crate::open::ending::Ending;
+use crate::open::turned::Stop;
+use crate::read_error::ReadError;
+use crate::step::reading::read_list;
+use mt_plain::Codes;
+use mt_rules::{MathList, Tag};
+use mt_scaled::Units;
+use mt_scan::{ReadCause, Role, role_of};
+use mt_token::Token;
+use std::alloc::Global;
+
+// Where the body of a formula ends.
+fn body_ending(display: bool) -> Ending
+    ensures { result ≡ body_ending display }
+{
+    if display {
+        Ending::AtNumber
+    } else {
+        Ending::AtEnd
+    }
+}
+
+fn is_at_left(role: Role) -> bool
+    ensures { result ≡ is_at_left role }
+{
+    match role {
+        Role::NumberWord(left) => left,
+        _ => false,
+    }
+}
+
+// The body of a formula, and its number.
+fn formula_parts(
+    alloc: Global,
+    codes: &Codes,
+    units: Units,
+    display: bool,
+    tokens: &[Token],
+) -> Result<(MathList, Option<Tag>), Stop>
+    requires em { Within (2 ^ 31) units.em }
+    requires ex { Within (2 ^ 31) units.ex }
+    ensures { ReadsFormula result
+        (formula codes.now units (stretch codes.now units (length tokens.now + 1)) display tokens.now) }
+{
+    match read_list(alloc, codes, units, body_ending(display), tokens) {
+        Ok(body) => match body.rest {
+            [token, rest @ ..] => match read_list(alloc, codes, units, Ending::AtEnd, rest) {
+                Ok(side) => {
+                    let left = is_at_left(role_of(codes, token));
+                    Ok((
+                        body.value,
+                        Some(Tag {
+                            body: side.value,
+                            left,
+                        }),
+                    ))
+                }
+                Err(stop) => Err(stop),
+            },
+            [] => Ok((body.value, None)),
+        },
+        Err(stop) => Err(stop),
+    }
+}
+
+fn error_at(cause: ReadCause, place: u32) -> ReadError
+    ensures { IsFault result (ReadFault (cause_number cause) place) }
+{
+    match cause {
+        ReadCause::UnknownName => ReadError::UnknownName(place),
+        ReadCause::DoubleScript => ReadError::DoubleScript(place),
+        ReadCause::TwoFractions => ReadError::TwoFractions(place),
+        ReadCause::BadDelimiter => ReadError::BadDelimiter(place),
+        ReadCause::Unbalanced => ReadError::Unbalanced(place),
+        ReadCause::MisplacedLimits => ReadError::MisplacedLimits(place),
+        ReadCause::MissingField => ReadError::MissingField(place),
+        ReadCause::BadNumber => ReadError::BadNumber(place),
+        ReadCause::BadDimension => ReadError::BadDimension(place),
+        ReadCause::MisplacedNumber => ReadError::MisplacedNumber(place),
+        ReadCause::TooDeep => ReadError::TooDeep(place),
+    }
+}
+
+// The error of a formula of so many tokens.
+fn error_of(stop: Stop, count: usize) -> ReadError
+    requires { count ≤ 2 ^ 31 }
+    ensures { (read : Read FormulaParts) → HasFault stop read → IsFault result (reading_of count read) }
+{
+    match stop {
+        Stop::Fault(fault) => error_at(fault.cause, count.saturating_sub(fault.left) as u32),
+        Stop::OutOfMemory => ReadError::OutOfMemory,
+    }
+}
+
+/// The body of a formula, and what is set at its side as its number (The TeXbook, chapters 17, 18
+/// and 26). Of a `display` this may be given by `\eqno` or `\leqno`.
+///
+/// The tokens are those of the formula alone, without macros; `codes` are in force in it, and
+/// `units` are what `em` and `ex` stand for, in scaled points.
+///
+/// # Errors
+///
+/// The first fault, by the index of its token. `OutOfMemory` where memory ran out.
+pub fn read_formula(
+    alloc: Global,
+    codes: &Codes,
+    units: Units,
+    display: bool,
+    list: &[Token],
+) -> Result<(MathList, Option<Tag>), ReadError>
+    requires length { length list.now ≤ 2 ^ 31 }
+    requires em { Within (2 ^ 31) units.em }
+    requires ex { Within (2 ^ 31) units.ex }
+    ensures is { ReadsAs result (reading codes.now units display list.now) }
+    ensures items { IfOk result (λ formula. formula_items formula ≤ 4 * length list.now + 8) }
+    ensures modest { length list.now ≤ 50000 → IfOk result IsModestFormula }
+{
+    match formula_parts(alloc, codes, units, display, list) {
+        Ok(formula) => Ok(formula),
+        Err(stop) => Err(error_of(stop, list.len())),
+    }
+}

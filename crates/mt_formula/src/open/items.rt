@@ -1,0 +1,133 @@
+//! Items between which no boundary stands: putting items to them, and what they make.
+ghost use Rattle.std.specs.Prelude.{◌≡◌, true, false, IfOk, OnOk, MatchOption, [], ◌∷◌, ◌++◌, is_some, Some, None};
+ghost use Rattle.mt_rules.specs.Sequence.{End, More};
+ghost use Rattle.mt_rules.specs.View.{element_of, sequence_of};
+ghost use Rattle.mt_formula.specs.Atoms.{append, hand_items, only_atom, is_bare_ord, is_accent_kind};
+ghost use Rattle.mt_formula.specs.Groups.{between_boundaries};
+ghost use Rattle.std.specs.Option.{option_map};
+ghost use Rattle.mt_formula.specs.machine.Facts.{stands_inside, is_inside};
+ghost use Rattle.mt_formula.specs.machine.OpenLists.{fits_option, inner_sequence, hand_value, hand_of};
+ghost use Rattle.mt_formula.specs.machine.OpenLists.{atom_value, is_only_bare, is_only_accent};
+
+use crate::open::hands::into_item;
+use crate::open::open_list::{Hand, InnerItems};
+use mt_rules::{Atom, Class, Delim, Field, Item, Kind, MathList};
+use std::alloc::{AllocError, Global};
+
+/// No items.
+pub fn no_items(alloc: Global) -> InnerItems
+    ensures { inner_sequence result ≡ End }
+{
+    InnerItems {
+        items: Vec::new(alloc),
+    }
+}
+
+fn push_item(items: &mut Vec<Item>, item: Item) -> Result<(), AllocError>
+    ensures is { OnOk result (sequence_of items.new.items ≡ append (sequence_of items.old.items)
+        (More (element_of item) End)) }
+    ensures inside { is_inside (sequence_of items.old.items) ≡ true → stands_inside (element_of item) ≡ true
+        → OnOk result (is_inside (sequence_of items.new.items) ≡ true) }
+{
+    items.push(item)?;
+    Ok(())
+}
+
+/// The items with another one at their end.
+pub fn with_item(items: InnerItems, item: Item) -> Result<InnerItems, AllocError>
+    requires { stands_inside (element_of item) ≡ true }
+    ensures { IfOk result (λ new. inner_sequence new ≡ append (inner_sequence items) (More (element_of item) End)) }
+{
+    let InnerItems { mut items } = items;
+    push_item(&mut items, item)?;
+    Ok(InnerItems { items })
+}
+
+/// The items with the atom at hand at their end.
+pub fn with_hand(items: InnerItems, hand: Option<Hand>) -> Result<InnerItems, AllocError>
+    ensures { IfOk result (λ new. inner_sequence new
+        ≡ append (inner_sequence items) (hand_items (hand_of hand))) }
+{
+    match hand {
+        Some(hand) => with_item(items, into_item(hand)),
+        None => Ok(items),
+    }
+}
+
+fn is_bare_atom(atom: &Atom) -> bool
+    ensures { result ≡ is_bare_ord (atom_value atom.now) }
+{
+    matches!(atom.kind, Kind::Plain(Class::Ord))
+        && matches!(atom.sup, Field::Empty)
+        && matches!(atom.sub, Field::Empty)
+}
+
+fn is_accent_atom(atom: &Atom) -> bool
+    ensures { result ≡ is_accent_kind atom.now.kind }
+{
+    matches!(atom.kind, Kind::Accent(_))
+}
+
+/// Whether the items are one Ord atom without scripts.
+pub fn is_only_bare(items: &InnerItems) -> bool
+    ensures { result ≡ is_only_bare (inner_sequence items.now) }
+{
+    match items.items.as_slice() {
+        [Item::Atom(atom)] => is_bare_atom(atom),
+        _ => false,
+    }
+}
+
+/// Whether the items are one accent atom.
+pub fn is_only_accent(items: &InnerItems) -> bool
+    ensures { result ≡ is_only_accent (inner_sequence items.now) }
+{
+    match items.items.as_slice() {
+        [Item::Atom(atom)] => is_accent_atom(atom),
+        _ => false,
+    }
+}
+
+fn pop_item(items: &mut Vec<Item>) -> Option<Item>
+    ensures { MatchOption result (items.old.items ≡ []) (λ item. items.old.items ≡ items.new.items ++ item ∷ []) }
+{
+    items.pop()
+}
+
+fn item_atom(item: Item) -> Option<Box<Atom>>
+    ensures { option_map (λ b. atom_value b.value) result ≡ only_atom (More (element_of item) End) }
+{
+    match item {
+        Item::Atom(atom) => Some(atom),
+        _ => None,
+    }
+}
+
+fn hand_from(atom: Box<Atom>) -> Hand
+    requires { fits_option (Some (atom_value atom.value)) ≡ true }
+    ensures { hand_value result ≡ atom_value atom.value }
+{
+    Hand { atom }
+}
+
+/// The atom that is the only item.
+pub fn take_only(items: InnerItems) -> Hand
+    requires { is_some (only_atom (inner_sequence items)) ≡ true }
+    ensures { only_atom (inner_sequence items) ≡ Some (hand_value result) }
+{
+    let InnerItems { mut items } = items;
+    match pop_item(&mut items) {
+        Some(item) => match item_atom(item) {
+            Some(atom) => hand_from(atom),
+            None => unreachable!(),
+        },
+        None => unreachable!(),
+    }
+}
+
+/// The list of the items.
+pub fn into_list(items: InnerItems) -> MathList
+    ensures { result ≡ inner_sequence items }
+{
+    MathList::from_vec(items.items)
+}

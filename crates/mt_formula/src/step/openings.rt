@@ -1,0 +1,64 @@
+//! Actions that open a list.
+ghost use Rattle.std.specs.Prelude.{◌≡◌, ◌<◌, ◌≤◌, ◌+◌, true, length, reverse, IfOk};
+ghost use Rattle.mt_plain.specs.CodeTables.{CodeTables};
+ghost use Rattle.mt_scaled.specs.declared.unit.Units.{Units};
+ghost use Rattle.mt_formula.specs.machine.Openings.{opens_list, opened_owner, opened_ending};
+ghost use Rattle.mt_formula.specs.machine.Remaining.{remaining};
+ghost use Rattle.mt_formula.specs.machine.Turned.{Performs};
+
+use crate::open::ending::Ending;
+use crate::open::frame::{ChoiceLists, Frame, Owner, open_group};
+use crate::open::open_list::OpenList;
+use crate::open::turned::{Stop, Turned};
+use crate::step::action::Action;
+use mt_token::Token;
+use std::alloc::Global;
+
+// What the list is read for that this action opens.
+fn opened_owner<'a>(action: Action) -> Owner<'a>
+    requires { opens_list action ≡ true }
+    ensures { result ≡ opened_owner action }
+{
+    match action {
+        Action::Group(kind) => Owner::Nucleus(kind),
+        Action::ScriptGroup(side) => Owner::Script(side),
+        Action::Fence(left) => Owner::Fence(left),
+        Action::Choice => Owner::Choice(ChoiceLists::Zero),
+        _ => unreachable!(),
+    }
+}
+
+// Where it ends.
+fn opened_ending(action: Action) -> Ending
+    ensures { result ≡ opened_ending action }
+{
+    match action {
+        Action::Fence(_) => Ending::AtRight,
+        _ => Ending::AtBrace,
+    }
+}
+
+/// What becomes of a list when this action opens another one in it: a group, a list between
+/// boundaries, or the first one of a choice.
+pub fn open_list<'a>(
+    alloc: Global,
+    frames: &mut Vec<Frame<'a>>,
+    list: OpenList,
+    action: Action,
+    tokens: &'a [Token],
+) -> Result<Turned<'a>, Stop>
+    requires opens { opens_list action ≡ true }
+    requires room { list.depth < 150 }
+    ensures is { (tables : CodeTables) (units : Units) →
+        Performs tables units (reverse frames.old.items) list action tokens.now
+        result (reverse frames.new.items) }
+    ensures falls { IfOk result (λ turned. remaining (reverse frames.new.items) (length turned.rest.now)
+        ≤ remaining (reverse frames.old.items) (length tokens.now) + 1) }
+{
+    let owner = opened_owner(action);
+    let inner = open_group(alloc, frames, list, owner, opened_ending(action))?;
+    Ok(Turned {
+        list: inner,
+        rest: tokens,
+    })
+}

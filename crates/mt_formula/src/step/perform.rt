@@ -1,0 +1,112 @@
+//! What an action leaves of the open lists.
+ghost use Rattle.std.specs.Prelude.{◌≡◌, ◌≢◌, ◌≤◌, ◌<◌, ◌+◌, List, length, reverse, true, IfOk};
+ghost use Rattle.mt_plain.specs.CodeTables.{CodeTables};
+ghost use Rattle.mt_scaled.specs.declared.unit.Units.{Units as UnitsType};
+ghost use Rattle.mt_scan.specs.Role.{simple_element};
+ghost use Rattle.mt_rules.specs.View.{element_of};
+ghost use Rattle.mt_formula.specs.declared.step.action.Action.TheVariants.{Stop as StopAction};
+ghost use Rattle.mt_formula.specs.declared.open.frame.Frame.{Frame as FrameType};
+ghost use Rattle.mt_formula.specs.machine.Openings.{opens_list};
+ghost use Rattle.mt_formula.specs.machine.PutsAction.{is_plain_action, PutsAction};
+ghost use Rattle.mt_formula.specs.machine.Remaining.{remaining};
+ghost use Rattle.mt_formula.specs.machine.Turned.{Performs};
+ghost use Rattle.mt_formula.specs.machine.Facts.{stands_inside};
+
+use crate::forms::primes::put_primes;
+use crate::forms::rows::open_rows;
+use crate::open::frame::Frame;
+use crate::open::hands::plain_hand;
+use crate::open::lists::{put_family, put_hand, put_item, put_limits, put_script};
+use crate::open::open_list::OpenList;
+use crate::open::turned::{Stop, Turned};
+use crate::step::action::Action;
+use crate::step::openings::open_list;
+use mt_plain::Codes;
+use mt_rules::{Field, Item, Limits};
+use mt_scan::Simple;
+use mt_token::Token;
+use std::alloc::{AllocError, Global};
+
+/// The list after an action that reads no list.
+pub fn put_action(alloc: Global, list: OpenList, action: Action) -> Result<OpenList, AllocError>
+    requires { is_plain_action action ≡ true }
+    ensures { IfOk result (λ new. PutsAction action list new) }
+{
+    match action {
+        Action::Skip => Ok(list),
+        Action::Atom(kind, symbol) => {
+            put_hand(list, plain_hand(alloc, kind, Field::Sym(symbol))?)
+        }
+        Action::Script(side, symbol) => put_script(alloc, list, side, Field::Sym(symbol)),
+        Action::Item(item) => put_item(list, simple_item(item)),
+        Action::Family(family) => Ok(put_family(list, family)),
+        Action::Limits(limits) => Ok(put_limits(list, limits)),
+        _ => unreachable!(),
+    }
+}
+
+fn simple_item(item: Simple) -> Item
+    ensures is { element_of result ≡ simple_element item }
+    ensures inside { stands_inside (element_of result) ≡ true }
+{
+    match item {
+        Simple::Style(style) => Item::Style(style),
+        Simple::MuSpace(glue) => Item::MuSpace(glue),
+        Simple::Space(glue) => Item::Space(glue),
+        Simple::MuKern(amount) => Item::MuKern(amount),
+        Simple::Kern(amount) => Item::Kern(amount),
+        Simple::Nonscript => Item::Nonscript,
+    }
+}
+
+// After an action that reads no list.
+fn put_plain<'a>(
+    alloc: Global,
+    list: OpenList,
+    action: Action,
+    tokens: &'a [Token],
+) -> Result<Turned<'a>, Stop>
+    requires { is_plain_action action ≡ true }
+    ensures is { (tables : CodeTables) (units : UnitsType) (frames : List FrameType) →
+        Performs tables units frames list action tokens.now result frames }
+    ensures falls { IfOk result (λ turned. length turned.rest.now ≤ length tokens.now) }
+{
+    Ok(Turned {
+        list: put_action(alloc, list, action)?,
+        rest: tokens,
+    })
+}
+
+/// What becomes of the open lists after an action, where these tokens follow it.
+pub fn perform<'a>(
+    alloc: Global,
+    codes: &Codes,
+    frames: &mut Vec<Frame<'a>>,
+    list: OpenList,
+    action: Action,
+    tokens: &'a [Token],
+) -> Result<Turned<'a>, Stop>
+    requires not_stop { action ≢ StopAction }
+    requires room { opens_list action ≡ true → list.depth < 150 }
+    ensures is { (units : UnitsType) →
+        Performs codes.now units (reverse frames.old.items) list action tokens.now
+        result (reverse frames.new.items) }
+    ensures falls { IfOk result (λ turned.
+        remaining (reverse frames.new.items) (length turned.rest.now)
+        ≤ remaining (reverse frames.old.items) (length tokens.now) + 1) }
+{
+    match action {
+        Action::Prime => put_primes(alloc, codes, frames, list, tokens),
+        Action::Rows => open_rows(alloc, codes, frames, list, tokens),
+        Action::Group(_) | Action::ScriptGroup(_) | Action::Fence(_) | Action::Choice => {
+            open_list(alloc, frames, list, action, tokens)
+        }
+        Action::Skip
+        | Action::Atom(_, _)
+        | Action::Script(_, _)
+        | Action::Item(_)
+        | Action::Family(_)
+        | Action::Limits(_) => put_plain(alloc, list, action, tokens),
+        Action::Stop => unreachable!(),
+    }
+}

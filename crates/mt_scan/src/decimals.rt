@@ -1,0 +1,117 @@
+//! Decimal numbers.
+ghost use Rattle.std.specs.Prelude.{◌≡◌, ◌≤◌, ◌+◌, ◌*◌, ◌/◌, length, take, IfOk};
+ghost use Rattle.mt_scaled.specs.Number.{decimals_of, decimal_fraction};
+ghost use Rattle.mt_scan.specs.declared.part.ReadCause.TheVariants.{BadDimension};
+ghost use Rattle.mt_scan.specs.Dimensions.{decimals, is_point, after_whole, factor};
+ghost use Rattle.mt_scan.specs.Meets.{Meets};
+ghost use Rattle.mt_scan.specs.CappedDecimals.{capped_decimal};
+
+use crate::numbers::{digit_of, digits};
+use crate::part::{Fault, Part, ReadCause};
+use crate::spaces::character_code;
+use mt_token::Token;
+
+/// A decimal number.
+#[derive(Clone, Copy, Debug, PartialEq, Eq)]
+pub struct Decimal {
+    /// Its whole part.
+    pub whole: u64,
+    /// Its fraction, as 65536ths.
+    pub part: u64,
+}
+
+/// A dimension is at fault where so many tokens are left.
+pub fn bad_dimension(left: usize) -> Fault
+    ensures { result ≡ record { cause = BadDimension; left = left } }
+{
+    Fault {
+        cause: ReadCause::BadDimension,
+        left,
+    }
+}
+
+// The tokens after the digits in front.
+fn after_digits<'a>(tokens: &'a [Token]) -> &'a [Token]
+    ensures is { result.now ≡ (decimals tokens.now).rest }
+    ensures falls { length result.now ≤ length tokens.now }
+{
+    let mut rest = tokens;
+    while let [token, after @ ..] = rest {
+        match digit_of(10, token) {
+            Some(_) => rest = after,
+            None => return rest,
+        }
+    }
+    rest
+}
+
+// The first digits in front, at most so many, as a fraction in 2^-17ths.
+fn fraction(count: u64, tokens: &[Token]) -> u64
+    ensures is { result ≡ decimals_of (take count (decimals tokens.now).digits) }
+    ensures bound { result ≤ 131072 }
+{
+    if count == 0 {
+        return 0;
+    }
+    match tokens {
+        [token, after @ ..] => match digit_of(10, token) {
+            Some(digit) => (fraction(count - 1, after) + 131_072 * digit) / 10,
+            None => 0,
+        },
+        [] => 0,
+    }
+}
+
+// The digits in front as a fraction, in 2^-16ths.
+fn rounded_fraction(tokens: &[Token]) -> u64
+    ensures is { result ≡ decimal_fraction (decimals tokens.now).digits }
+    ensures bound { result ≤ 65536 }
+{
+    (fraction(17, tokens) + 1) / 2
+}
+
+fn is_point(c: u8) -> bool
+    ensures { result ≡ is_point c }
+{
+    c == b'.' || c == b','
+}
+
+// What follows the digits of a whole part, if there were any.
+fn after_whole<'a>(some: bool, whole: u64, tokens: &'a [Token]) -> Result<Part<'a, Decimal>, Fault>
+    requires { whole ≤ 2147483648 }
+    ensures is { Meets result (after_whole some whole tokens.now) }
+    ensures falls { IfOk result (λ read. length read.rest.now ≤ length tokens.now) }
+    ensures whole { IfOk result (λ read. read.value.whole ≤ 2147483648) }
+    ensures part { IfOk result (λ read. read.value.part ≤ 65536) }
+{
+    match tokens {
+        [token, after @ ..] if is_point(character_code(token)) => Ok(Part {
+            value: Decimal {
+                whole,
+                part: rounded_fraction(after),
+            },
+            rest: after_digits(after),
+        }),
+        _ => {
+            if some {
+                Ok(Part {
+                    value: Decimal { whole, part: 0 },
+                    rest: tokens,
+                })
+            } else {
+                Err(bad_dimension(tokens.len()))
+            }
+        }
+    }
+}
+
+/// Digits with at most one point, and at least one of them. A whole part above 2^31 - 1 counts as 2^31.
+pub fn factor<'a>(tokens: &'a [Token]) -> Result<Part<'a, Decimal>, Fault>
+    ensures is { Meets result (capped_decimal (factor tokens.now)) }
+    ensures falls { IfOk result (λ read. length read.rest.now ≤ length tokens.now) }
+    ensures whole { IfOk result (λ read. read.value.whole ≤ 2147483648) }
+    ensures part { IfOk result (λ read. read.value.part ≤ 65536) }
+{
+    let whole = digits(10, 0, tokens);
+    after_whole(whole.rest.len() < tokens.len(), whole.value, whole.rest)
+}

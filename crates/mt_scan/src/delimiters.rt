@@ -1,0 +1,72 @@
+//! Delimiters.
+ghost use Rattle.std.specs.Prelude.{◌≡◌, ◌≤◌, length, IfOk};
+ghost use Rattle.mt_scan.specs.Delimiters.{code_of_kind, delimiter_by_code, delimiter_here, delimiter};
+ghost use Rattle.mt_scan.specs.Meets.{Meets};
+
+use crate::numbers::number_to;
+use crate::part::{Fault, Part, ReadCause};
+use crate::role::{Role, role_of};
+use crate::spaces::after_blanks;
+use crate::symbols::delim_of;
+use mt_plain::Codes;
+use mt_rules::Delim;
+use mt_token::{Token, TokenKind};
+
+/// The greatest number that `\delimiter` and `\radical` take.
+pub const MAX_DELIMITER: u32 = 134_217_727;
+
+fn code_of_kind(codes: &Codes, token: &Token) -> Option<u32>
+    ensures { result ≡ code_of_kind codes.now token.now.kind }
+{
+    match &token.kind {
+        TokenKind::Control(_) => None,
+        TokenKind::Char(c) => codes.delcode(*c),
+        TokenKind::Space => None,
+    }
+}
+
+fn delimiter_by_code<'a>(code: Option<u32>, rest: &'a [Token]) -> Result<Part<'a, Delim>, Fault>
+    ensures is { Meets result (delimiter_by_code code rest.now) }
+    ensures falls { IfOk result (λ part. length part.rest.now ≤ length rest.now) }
+{
+    match code {
+        Some(code) => Ok(Part {
+            value: delim_of(code),
+            rest,
+        }),
+        None => Err(Fault {
+            cause: ReadCause::BadDelimiter,
+            left: rest.len() + 1,
+        }),
+    }
+}
+
+fn delimiter_here<'a>(codes: &Codes, tokens: &'a [Token]) -> Result<Part<'a, Delim>, Fault>
+    ensures is { Meets result (delimiter_here codes.now tokens.now) }
+    ensures falls { IfOk result (λ part. length part.rest.now ≤ length tokens.now) }
+{
+    match tokens {
+        [token, after @ ..] => match role_of(codes, token) {
+            Role::DelimiterWord => match number_to(MAX_DELIMITER, after) {
+                Ok(code) => Ok(Part {
+                    value: delim_of(code.value),
+                    rest: code.rest,
+                }),
+                Err(fault) => Err(fault),
+            },
+            _ => delimiter_by_code(code_of_kind(codes, token), after),
+        },
+        [] => Err(Fault {
+            cause: ReadCause::BadDelimiter,
+            left: 0,
+        }),
+    }
+}
+
+/// Spaces and `\relax`, and then a character with a delimiter code, or `\delimiter` and a number.
+pub fn delimiter<'a>(codes: &Codes, tokens: &'a [Token]) -> Result<Part<'a, Delim>, Fault>
+    ensures is { Meets result (delimiter codes.now tokens.now) }
+    ensures falls { IfOk result (λ part. length part.rest.now ≤ length tokens.now) }
+{
+    delimiter_here(codes, after_blanks(codes, tokens))
+}

@@ -1,0 +1,168 @@
+//! Dimensions and glue.
+ghost use Rattle.std.specs.Prelude.{◌≡◌, ◌≤◌, ◌^◌, codes, length, IfOk, IfSome};
+ghost use Rattle.mt_scaled.specs.Number.{Within, max_dimen};
+ghost use Rattle.mt_scan.specs.Numbers.{with_sign};
+ghost use Rattle.mt_scan.specs.Dimensions.{is_dimension, dimension_of, dimension_from, dimension};
+ghost use Rattle.mt_scan.specs.Dimensions.{after_letters, amount, glue};
+ghost use Rattle.mt_scan.specs.Meets.{Meets, IsAfter};
+
+use crate::decimals::{Decimal, bad_dimension, factor};
+use crate::numbers::signs;
+use crate::part::{Fault, Part};
+use crate::spaces::after_spaces;
+use crate::units::{length_of, letter, measure};
+use mt_rules::Glue;
+use mt_scaled::{MAX_DIMEN, Unit, Units};
+use mt_token::Token;
+
+// A length that a dimension may have; some must not be negative.
+#[tactic(auto, using(std::proofs::lemmas::Int::ints))]
+fn is_dimension(negative: bool, value: i64) -> bool
+    ensures { result ≡ is_dimension negative value }
+{
+    if value >= 0 {
+        value <= MAX_DIMEN
+    } else {
+        negative && value >= -MAX_DIMEN
+    }
+}
+
+#[tactic(auto, using(std::proofs::lemmas::Int::ints))]
+fn signed_length(minus: bool, value: i64) -> i64
+    requires { Within (2 ^ 62) value }
+    ensures { result ≡ with_sign minus value }
+{
+    if minus { -value } else { value }
+}
+
+// A dimension of this number of units and this sign, which stands where so many tokens are left, if it is in range.
+fn dimension_of<'a>(
+    units: Units,
+    negative: bool,
+    first: usize,
+    minus: bool,
+    f: Decimal,
+    unit: Unit,
+    rest: &'a [Token],
+) -> Result<Part<'a, i64>, Fault>
+    requires part { f.part ≤ 65536 }
+    requires em { Within (2 ^ 31) units.em }
+    requires ex { Within (2 ^ 31) units.ex }
+    ensures is { Meets result (dimension_of units negative first minus f unit rest.now) }
+    ensures falls { IfOk result (λ part. length part.rest.now ≤ length rest.now) }
+{
+    if f.whole > MAX_DIMEN as u64 {
+        return Err(bad_dimension(first));
+    }
+    let value = signed_length(minus, length_of(units, unit, f));
+    if is_dimension(negative, value) {
+        Ok(Part { value, rest })
+    } else {
+        Err(bad_dimension(first))
+    }
+}
+
+/// A dimension, in math units where these are asked for; some must not be negative.
+pub fn dimension_from<'a>(
+    units: Units,
+    mu: bool,
+    negative: bool,
+    tokens: &'a [Token],
+) -> Result<Part<'a, i64>, Fault>
+    requires em { Within (2 ^ 31) units.em }
+    requires ex { Within (2 ^ 31) units.ex }
+    ensures is { Meets result (dimension_from units mu negative tokens.now) }
+    ensures falls { IfOk result (λ part. length part.rest.now ≤ length tokens.now) }
+{
+    let sign = signs(tokens);
+    match factor(sign.rest) {
+        Ok(read) => match measure(mu, after_spaces(read.rest)) {
+            Ok(unit) => dimension_of(
+                units,
+                negative,
+                tokens.len(),
+                sign.value,
+                read.value,
+                unit.value,
+                unit.rest,
+            ),
+            Err(fault) => Err(fault),
+        },
+        Err(fault) => Err(fault),
+    }
+}
+
+/// A dimension, in math units where these are asked for.
+pub fn dimension<'a>(units: Units, mu: bool, tokens: &'a [Token]) -> Result<Part<'a, i64>, Fault>
+    requires em { Within (2 ^ 31) units.em }
+    requires ex { Within (2 ^ 31) units.ex }
+    ensures is { Meets result (dimension units mu tokens.now) }
+    ensures falls { IfOk result (λ part. length part.rest.now ≤ length tokens.now) }
+{
+    dimension_from(units, mu, true, tokens)
+}
+
+// The tokens after a word in either case, if it stands in front.
+fn after_letters<'a>(word: &[u8], tokens: &'a [Token]) -> Option<&'a [Token]>
+    ensures is { IsAfter result (after_letters word.now tokens.now) }
+    ensures falls { IfSome result (λ rest. length rest.now ≤ length tokens.now) }
+{
+    let mut letters = word;
+    let mut rest = tokens;
+    while let [first, more @ ..] = letters {
+        match rest {
+            [token, after @ ..] if letter(token) == *first => {
+                letters = more;
+                rest = after;
+            }
+            _ => return None,
+        }
+    }
+    Some(rest)
+}
+
+// Spaces, a word and a dimension that is not negative; where the word does not stand there, nothing is read.
+fn amount<'a>(
+    units: Units,
+    word: &[u8],
+    mu: bool,
+    tokens: &'a [Token],
+) -> Result<Part<'a, i64>, Fault>
+    requires em { Within (2 ^ 31) units.em }
+    requires ex { Within (2 ^ 31) units.ex }
+    ensures is { Meets result (amount units word.now mu tokens.now) }
+    ensures falls { IfOk result (λ part. length part.rest.now ≤ length tokens.now) }
+{
+    match after_letters(word, after_spaces(tokens)) {
+        None => Ok(Part {
+            value: 0,
+            rest: tokens,
+        }),
+        Some(rest) => dimension_from(units, mu, false, rest),
+    }
+}
+
+/// Glue, in math units where these are asked for. What it can stretch has no effect.
+pub fn glue<'a>(units: Units, mu: bool, tokens: &'a [Token]) -> Result<Part<'a, Glue>, Fault>
+    requires em { Within (2 ^ 31) units.em }
+    requires ex { Within (2 ^ 31) units.ex }
+    ensures is { Meets result (glue units mu tokens.now) }
+    ensures falls { IfOk result (λ part. length part.rest.now ≤ length tokens.now) }
+{
+    match dimension(units, mu, tokens) {
+        Ok(width) => match amount(units, b"plus", mu, width.rest) {
+            Ok(stretch) => match amount(units, b"minus", mu, stretch.rest) {
+                Ok(shrink) => Ok(Part {
+                    value: Glue {
+                        width: width.value,
+                        shrink: shrink.value,
+                    },
+                    rest: shrink.rest,
+                }),
+                Err(fault) => Err(fault),
+            },
+            Err(fault) => Err(fault),
+        },
+        Err(fault) => Err(fault),
+    }
+}

@@ -1,0 +1,254 @@
+//! Numbers.
+ghost use Rattle.std.specs.Prelude.{◌≡◌, ◌≤◌, ◌<◌, ◌*◌, ◌+◌, min, pos, false, length, IfOk, IfSome};
+ghost use Rattle.mt_scan.specs.Numbers.{turns_sign, sign_after, signs, with_sign, digit_value, digit_of};
+ghost use Rattle.mt_scan.specs.Numbers.{digits, digits_in, quoted_kind, quoted_code, unsigned_number};
+ghost use Rattle.mt_scan.specs.Numbers.{in_bound, whole_number, number_to};
+ghost use Rattle.mt_scan.specs.declared.part.ReadCause.TheVariants.{BadNumber};
+ghost use Rattle.mt_scan.specs.Meets.{Meets, capped, capped_digits};
+
+use crate::part::{Fault, Part, ReadCause};
+use crate::spaces::{after_one_space, character_code};
+use mt_token::{Token, TokenKind};
+
+/// All sizes above 2^31 - 1 count as this.
+const SIZE_CAP: u64 = 2_147_483_648;
+
+fn bad_number(left: usize) -> Fault
+    ensures { result ≡ record { cause = BadNumber; left = left } }
+{
+    Fault {
+        cause: ReadCause::BadNumber,
+        left,
+    }
+}
+
+fn turns_sign(kind: &TokenKind) -> Option<bool>
+    ensures { result ≡ turns_sign kind.now }
+{
+    match kind {
+        TokenKind::Control(_) => None,
+        TokenKind::Space => Some(false),
+        TokenKind::Char(b'+') => Some(false),
+        TokenKind::Char(b'-') => Some(true),
+        TokenKind::Char(_) => None,
+    }
+}
+
+fn sign_after(turn: bool, minus: bool) -> bool
+    ensures { result ≡ sign_after turn minus }
+{
+    if turn { !minus } else { minus }
+}
+
+/// Whether there is a minus in front, by the signs and Spaces there.
+pub fn signs<'a>(tokens: &'a [Token]) -> Part<'a, bool>
+    ensures minus { result.value ≡ (signs false tokens.now).minus }
+    ensures rest { result.rest.now ≡ (signs false tokens.now).rest }
+    ensures falls { length result.rest.now ≤ length tokens.now }
+{
+    let mut minus = false;
+    let mut rest = tokens;
+    while let [token, after @ ..] = rest {
+        match turns_sign(&token.kind) {
+            Some(turn) => {
+                minus = sign_after(turn, minus);
+                rest = after;
+            }
+            None => return Part { value: minus, rest },
+        }
+    }
+    Part { value: minus, rest }
+}
+
+/// A size with a sign.
+pub fn with_sign(minus: bool, size: u64) -> i64
+    requires { size ≤ 2147483648 }
+    ensures { result ≡ with_sign minus (pos size) }
+{
+    if minus { -(size as i64) } else { size as i64 }
+}
+
+fn digit_value(base: u64, c: u8) -> Option<u64>
+    requires { base ≤ 16 }
+    ensures is { result ≡ digit_value base c }
+    ensures below { IfSome result (λ d. d < base) }
+{
+    match c {
+        b'0'..=b'9' if u64::from(c) < 48 + base => Some(u64::from(c - b'0')),
+        b'A'..=b'F' if base == 16 => Some(u64::from(c - b'A') + 10),
+        _ => None,
+    }
+}
+
+/// The value of a digit.
+pub fn digit_of(base: u64, token: &Token) -> Option<u64>
+    requires { base ≤ 16 }
+    ensures is { result ≡ digit_of base token.now }
+    ensures below { IfSome result (λ d. d < base) }
+{
+    digit_value(base, character_code(token))
+}
+
+fn with_digit(base: u64, size: u64, digit: u64) -> u64
+    requires base { base ≤ 16 }
+    requires size { size ≤ 2147483648 }
+    requires digit { digit < base }
+    ensures is { result ≡ min (size * base + digit) 2147483648 }
+    ensures bound { result ≤ 2147483648 }
+{
+    let more = size * base + digit;
+    if more < SIZE_CAP { more } else { SIZE_CAP }
+}
+
+// The same as `digits`, a digit at a time.
+fn capped_digits<'a>(base: u64, first: u64, tokens: &'a [Token]) -> Part<'a, u64>
+    requires base { base ≤ 16 }
+    requires first { first ≤ 2147483648 }
+    ensures value { result.value ≡ (capped_digits base first tokens.now).value }
+    ensures rest { result.rest.now ≡ (capped_digits base first tokens.now).rest }
+    ensures falls { length result.rest.now ≤ length tokens.now }
+    ensures bound { result.value ≤ 2147483648 }
+{
+    let mut size = first;
+    let mut rest = tokens;
+    while let [token, after @ ..] = rest {
+        match digit_of(base, token) {
+            Some(digit) => {
+                size = with_digit(base, size, digit);
+                rest = after;
+            }
+            None => return Part { value: size, rest },
+        }
+    }
+    Part { value: size, rest }
+}
+
+/// The size that the digits in front make, after digits of another size.
+pub fn digits<'a>(base: u64, first: u64, tokens: &'a [Token]) -> Part<'a, u64>
+    requires least { 1 ≤ base }
+    requires base { base ≤ 16 }
+    requires first { first ≤ 2147483647 }
+    ensures value { result.value ≡ min (digits base first tokens.now).value 2147483648 }
+    ensures rest { result.rest.now ≡ (digits base first tokens.now).rest }
+    ensures falls { length result.rest.now ≤ length tokens.now }
+    ensures bound { result.value ≤ 2147483648 }
+{
+    capped_digits(base, first, tokens)
+}
+
+// At least one digit.
+fn digits_in<'a>(base: u64, tokens: &'a [Token]) -> Result<Part<'a, u64>, Fault>
+    requires least { 1 ≤ base }
+    requires base { base ≤ 16 }
+    ensures is { Meets result (capped (digits_in base tokens.now)) }
+    ensures falls { IfOk result (λ part. length part.rest.now ≤ length tokens.now) }
+    ensures bound { IfOk result (λ part. part.value ≤ 2147483648) }
+{
+    match tokens {
+        [token, after @ ..] => match digit_of(base, token) {
+            Some(digit) => Ok(digits(base, digit, after)),
+            None => Err(bad_number(tokens.len())),
+        },
+        [] => Err(bad_number(0)),
+    }
+}
+
+fn quoted_kind(kind: &TokenKind) -> Option<u8>
+    ensures { result ≡ quoted_kind kind.now }
+{
+    match kind {
+        TokenKind::Char(c) => Some(*c),
+        TokenKind::Control(name) => match name.as_slice() {
+            [c] => Some(*c),
+            _ => None,
+        },
+        TokenKind::Space => None,
+    }
+}
+
+// A character, or a control sequence of one character.
+fn quoted_code<'a>(tokens: &'a [Token]) -> Result<Part<'a, u64>, Fault>
+    ensures is { Meets result (capped (quoted_code tokens.now)) }
+    ensures falls { IfOk result (λ part. length part.rest.now ≤ length tokens.now) }
+    ensures bound { IfOk result (λ part. part.value ≤ 2147483648) }
+{
+    match tokens {
+        [token, after @ ..] => match quoted_kind(&token.kind) {
+            Some(c) => Ok(Part {
+                value: u64::from(c),
+                rest: after,
+            }),
+            None => Err(bad_number(tokens.len())),
+        },
+        [] => Err(bad_number(0)),
+    }
+}
+
+fn unsigned_number<'a>(tokens: &'a [Token]) -> Result<Part<'a, u64>, Fault>
+    ensures is { Meets result (capped (unsigned_number tokens.now)) }
+    ensures falls { IfOk result (λ part. length part.rest.now ≤ length tokens.now) }
+    ensures bound { IfOk result (λ part. part.value ≤ 2147483648) }
+{
+    match tokens {
+        [token, after @ ..] => match character_code(token) {
+            b'"' => digits_in(16, after),
+            b'\'' => digits_in(8, after),
+            b'`' => quoted_code(after),
+            _ => digits_in(10, tokens),
+        },
+        [] => Err(bad_number(0)),
+    }
+}
+
+// A number of this size, which stands where so many tokens are left, if it is in range.
+fn in_bound<'a>(
+    first: usize,
+    minus: bool,
+    size: u64,
+    rest: &'a [Token],
+) -> Result<Part<'a, i64>, Fault>
+    ensures is { Meets result (in_bound first minus size rest.now) }
+    ensures falls { IfOk result (λ part. length part.rest.now ≤ length rest.now) }
+{
+    if size < SIZE_CAP {
+        Ok(Part {
+            value: with_sign(minus, size),
+            rest: after_one_space(rest),
+        })
+    } else {
+        Err(bad_number(first))
+    }
+}
+
+/// A number: signs and Spaces, then digits to the base 10, 16 or 8 or a character, then one Space.
+pub fn whole_number<'a>(tokens: &'a [Token]) -> Result<Part<'a, i64>, Fault>
+    ensures is { Meets result (whole_number tokens.now) }
+    ensures falls { IfOk result (λ part. length part.rest.now ≤ length tokens.now) }
+{
+    let sign = signs(tokens);
+    match unsigned_number(sign.rest) {
+        Ok(part) => in_bound(tokens.len(), sign.value, part.value, part.rest),
+        Err(fault) => Err(fault),
+    }
+}
+
+/// A number from 0 to a greatest.
+pub fn number_to<'a>(most: u32, tokens: &'a [Token]) -> Result<Part<'a, u32>, Fault>
+    ensures is { Meets result (number_to most tokens.now) }
+    ensures falls { IfOk result (λ part. length part.rest.now ≤ length tokens.now) }
+    ensures bound { IfOk result (λ part. part.value ≤ most) }
+{
+    match whole_number(tokens) {
+        Ok(part) => {
+            if 0 <= part.value && part.value <= i64::from(most) {
+                Ok(Part {
+                    value: part.value as u32,
+                    rest: part.rest,
+                })
+            } else {
+                Err(bad_number(tokens.len()))
+            }
+        }
+        Err(fault) => Err(fault),
+    }
+}

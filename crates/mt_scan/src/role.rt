@@ -1,0 +1,235 @@
+//! What a token is in a formula.
+ghost use Rattle.std.specs.Prelude.{◌≡◌, ◌<◌};
+ghost use Rattle.mt_scan.specs.Role.{role_of, command_role, meaning_role, code_role, character_role, mu_space};
+
+use mt_plain::{Codes, Command, Meaning};
+use mt_rules::{Class, Delim, Glue, Limits, Style, Symbol};
+use mt_token::{Token, TokenKind};
+
+/// A side of an atom on which a script stands.
+#[derive(Clone, Copy, Debug, PartialEq, Eq)]
+pub enum Side {
+    /// A superscript.
+    Up,
+    /// A subscript.
+    Down,
+}
+
+/// The rule of a fraction.
+#[derive(Clone, Copy, Debug, PartialEq, Eq)]
+pub enum Bar {
+    /// Of the font's own thickness, as `\over` makes it.
+    Own,
+    /// None, as `\atop`.
+    None,
+    /// Of a thickness that follows, as `\above`.
+    Given,
+}
+
+/// A space or a kern of which the amount follows.
+#[derive(Clone, Copy, Debug, PartialEq, Eq)]
+pub enum Amount {
+    /// `\mskip`
+    MuSkip,
+    /// `\mkern`
+    MuKern,
+    /// `\hskip`
+    Skip,
+    /// `\kern`
+    Kern,
+}
+
+/// An item without lists.
+#[derive(Clone, Copy, Debug, PartialEq, Eq)]
+pub enum Simple {
+    /// A style.
+    Style(Style),
+    /// A space in math units.
+    MuSpace(Glue),
+    /// A space.
+    Space(Glue),
+    /// A kern in math units.
+    MuKern(i64),
+    /// A kern.
+    Kern(i64),
+    /// `\nonscript`
+    Nonscript,
+}
+
+/// The kind of an atom that takes a field as its nucleus.
+#[derive(Clone, Copy, Debug, PartialEq, Eq)]
+pub enum NucleusKind {
+    /// The nucleus alone, as an atom of this class.
+    Class(Class),
+    /// Under a radical sign.
+    Radical(Delim),
+    /// Under an accent.
+    Accent(Symbol),
+    /// Under a rule.
+    Over,
+    /// Over a rule.
+    Under,
+}
+
+/// What a token is in a formula. Words that are treated alike are one variant.
+#[derive(Clone, Copy, Debug, PartialEq, Eq)]
+pub enum Role {
+    /// A Space or `\relax`, which mean nothing.
+    Blank,
+    /// A character or a name with this math code.
+    MathCode(u16),
+    /// `\mathchar`
+    CharWord,
+    /// `\delimiter`
+    DelimiterWord,
+    /// A `'` that is active in formulas.
+    Prime,
+    /// `^` or `_`.
+    Script(Side),
+    /// `{`
+    OpenBrace,
+    /// `}`
+    CloseBrace,
+    /// `$`
+    Dollar,
+    /// `&` or `#`.
+    Stray,
+    /// A word that takes a field as the nucleus of an atom of this kind.
+    Nucleus(NucleusKind),
+    /// `\radical`
+    RadicalWord,
+    /// `\mathaccent`
+    AccentWord,
+    /// `\vcenter`
+    VcenterWord,
+    /// `\hbox`
+    HboxWord,
+    /// `\left`
+    LeftWord,
+    /// `\right`
+    RightWord,
+    /// A word that places the scripts of an operator.
+    LimitsWord(Limits),
+    /// A fraction word, with delimiters or without, and its rule.
+    FractionWord(bool, Bar),
+    /// `\mathchoice`
+    ChoiceWord,
+    /// A space or a kern.
+    AmountWord(Amount),
+    /// A word that is an item by itself.
+    ItemWord(Simple),
+    /// `\fam`
+    FamilyWord,
+    /// `\eqno`, or, at the left, `\leqno`.
+    NumberWord(bool),
+    /// A name that means nothing here, or a character that is active in formulas, but for `'`.
+    Unknown,
+}
+
+fn mu_space(width: i64, shrink: i64) -> Role
+    ensures { result ≡ mu_space width shrink }
+{
+    Role::ItemWord(Simple::MuSpace(Glue { width, shrink }))
+}
+
+fn command_role(command: Command) -> Role
+    ensures { result ≡ command_role command }
+{
+    match command {
+        Command::Relax => Role::Blank,
+        Command::MathChar => Role::CharWord,
+        Command::Delimiter => Role::DelimiterWord,
+        Command::MathOrd => Role::Nucleus(NucleusKind::Class(Class::Ord)),
+        Command::MathOp => Role::Nucleus(NucleusKind::Class(Class::Op)),
+        Command::MathBin => Role::Nucleus(NucleusKind::Class(Class::Bin)),
+        Command::MathRel => Role::Nucleus(NucleusKind::Class(Class::Rel)),
+        Command::MathOpen => Role::Nucleus(NucleusKind::Class(Class::Open)),
+        Command::MathClose => Role::Nucleus(NucleusKind::Class(Class::Close)),
+        Command::MathPunct => Role::Nucleus(NucleusKind::Class(Class::Punct)),
+        Command::MathInner => Role::Nucleus(NucleusKind::Class(Class::Inner)),
+        Command::Overline => Role::Nucleus(NucleusKind::Over),
+        Command::Underline => Role::Nucleus(NucleusKind::Under),
+        Command::Radical => Role::RadicalWord,
+        Command::MathAccent => Role::AccentWord,
+        Command::Vcenter => Role::VcenterWord,
+        Command::Hbox => Role::HboxWord,
+        Command::Left => Role::LeftWord,
+        Command::Right => Role::RightWord,
+        Command::Limits => Role::LimitsWord(Limits::Always),
+        Command::NoLimits => Role::LimitsWord(Limits::Never),
+        Command::DisplayLimits => Role::LimitsWord(Limits::Default),
+        Command::Over => Role::FractionWord(false, Bar::Own),
+        Command::Atop => Role::FractionWord(false, Bar::None),
+        Command::Above => Role::FractionWord(false, Bar::Given),
+        Command::OverWithDelims => Role::FractionWord(true, Bar::Own),
+        Command::AtopWithDelims => Role::FractionWord(true, Bar::None),
+        Command::AboveWithDelims => Role::FractionWord(true, Bar::Given),
+        Command::DisplayStyle => Role::ItemWord(Simple::Style(Style::D)),
+        Command::TextStyle => Role::ItemWord(Simple::Style(Style::T)),
+        Command::ScriptStyle => Role::ItemWord(Simple::Style(Style::S)),
+        Command::ScriptScriptStyle => Role::ItemWord(Simple::Style(Style::Ss)),
+        Command::MathChoice => Role::ChoiceWord,
+        Command::MSkip => Role::AmountWord(Amount::MuSkip),
+        Command::MKern => Role::AmountWord(Amount::MuKern),
+        Command::HSkip => Role::AmountWord(Amount::Skip),
+        Command::Kern => Role::AmountWord(Amount::Kern),
+        Command::NonScript => Role::ItemWord(Simple::Nonscript),
+        Command::Thin => mu_space(196_608, 0),
+        Command::Medium => mu_space(262_144, 262_144),
+        Command::Thick => mu_space(327_680, 0),
+        Command::NegativeThin => mu_space(-196_608, 0),
+        Command::Fam => Role::FamilyWord,
+        Command::EqNo => Role::NumberWord(false),
+        Command::LeqNo => Role::NumberWord(true),
+    }
+}
+
+fn meaning_role(meaning: Option<Meaning>) -> Role
+    ensures { result ≡ meaning_role meaning }
+{
+    match meaning {
+        None => Role::Unknown,
+        Some(Meaning::MathChar(code)) => Role::MathCode(code),
+        Some(Meaning::Command(command)) => command_role(command),
+    }
+}
+
+// A character by its math code.
+fn code_role(c: u8, code: u16) -> Role
+    ensures { result ≡ code_role c code }
+{
+    if code != 32768 {
+        return Role::MathCode(code);
+    }
+    if c == b'\'' {
+        Role::Prime
+    } else {
+        Role::Unknown
+    }
+}
+
+fn character_role(codes: &Codes, c: u8) -> Role
+    requires { c < 128 }
+    ensures { result ≡ character_role codes.now c }
+{
+    match c {
+        b'{' => Role::OpenBrace,
+        b'}' => Role::CloseBrace,
+        b'^' => Role::Script(Side::Up),
+        b'_' => Role::Script(Side::Down),
+        b'$' => Role::Dollar,
+        b'&' | b'#' => Role::Stray,
+        _ => code_role(c, codes.math_code(c)),
+    }
+}
+
+/// What a token is in a formula, with these codes.
+pub fn role_of(codes: &Codes, token: &Token) -> Role
+    ensures { result ≡ role_of codes.now token.now }
+{
+    match &token.kind {
+        TokenKind::Control(name) => meaning_role(codes.control(name.as_slice())),
+        TokenKind::Char(c) => character_role(codes, *c),
+        TokenKind::Space => Role::Blank,
+    }
+}
