@@ -16,6 +16,3 @@ pub use definition::MacroError;
 pub use expansion::{ExpandError, expand};
 pub use parameters::first_bad_parameter;
 pub use table::Macros;
-
-#[cfg(test)]
-mod tests;

@@ -3,7 +3,7 @@ ghost use Rattle.std.specs.Prelude.{◌≡◌, ◌<◌, ◌≤◌, ◌^◌, vec_
 ghost use Rattle.mt_outside.specs.Counts.{FetchLeaves, next_count};
 ghost use Rattle.mt_outside.specs.Files.{content};
 
-use crate::reading::read_within;
+use crate::reading::read_opened;
 use crate::{Cabinet, FetchError};
 use mt_scaled::{Bytes, Name};
 use std::alloc::Global;
@@ -61,17 +61,6 @@ impl<'a, R: Files> FileCabinet<'a, R> {
     }
 }
 
-// The bytes of a file, if it can be opened and has no more than `limit`.
-fn read_file<R: Files>(rt: &R, alloc: Global, name: &str, limit: u64) -> Result<Vec<u8>, FetchError>
-    requires { limit < 2 ^ 40 }
-    ensures { IfOk result (λ bytes. vec_len bytes ≤ limit) }
-{
-    match fs::open(rt, name) {
-        Ok(mut file) => read_within(&mut file, alloc, limit),
-        Err(_) => Err(FetchError::Failed),
-    }
-}
-
 impl<R: Files> Cabinet for FileCabinet<'_, R> {
     ghost holds = { λ c. None };
 
@@ -89,7 +78,7 @@ impl<R: Files> Cabinet for FileCabinet<'_, R> {
             → self.new.faults ≡ next_count self.old.faults }
     {
         let lost = Name::from_slice(alloc, name.as_bytes())?;
-        let read = read_file(self.rt, alloc, name, limit);
+        let read = read_opened(fs::open(self.rt, name), alloc, limit);
         self.answer(lost, read)
     }
 }

@@ -15,6 +15,3 @@ pub use codes::Codes;
 pub use error::CodeError;
 pub use macros::plain_macros;
 pub use meaning::{Command, Meaning};
-
-#[cfg(test)]
-mod tests;

@@ -16,8 +16,6 @@ mod part_error;
 mod shifts;
 mod style;
 mod symbol;
-#[cfg(test)]
-mod tests;
 
 pub use class::Class;
 pub use document::{Document, Formula, Page, Tag};

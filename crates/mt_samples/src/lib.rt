@@ -9,11 +9,11 @@ ghost use Rattle.mt_family.specs.Lists.{font_list};
 ghost use Rattle.mt_samples.specs.Lists.{toy_list};
 ghost use Rattle.mt_samples.specs.Tables.{ReadsAs};
 
+mod font_set;
 mod fonts;
 mod generator;
-#[cfg(test)]
-mod tests;
 
+pub use font_set::toy_fonts;
 use fonts::{extension_font, italic_font, roman_font, symbols_font};
 pub use generator::generate;
 use mt_scaled::Bytes;

@@ -6,8 +6,6 @@
 
 mod classes;
 mod gap;
-#[cfg(test)]
-mod tests;
 
 pub use classes::{forward, settled};
 pub use gap::{Gap, math_glue, space_between};

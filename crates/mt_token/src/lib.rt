@@ -10,6 +10,3 @@ mod token;
 
 pub use lexer::{MAX_SOURCE, tokens};
 pub use token::{Token, TokenError, TokenKind, TokenList};
-
-#[cfg(test)]
-mod tests;

@@ -1,0 +1,2 @@
+-- lists that the tests make, an atom at a time
+pub mod Lists

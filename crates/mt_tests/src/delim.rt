@@ -1,0 +1,111 @@
+//! The delimiters of the example fonts.
+use crate::pieces::{NO_DELIMITER, glyph};
+use mt_box::{Extents, Mark, places};
+use mt_delim::{Variant, choose_variant, delimiter_box};
+use mt_family::Size;
+use mt_rules::{Delim, PartError, Symbol};
+use mt_samples::toy_fonts;
+use std::test::Fail;
+
+const SLASH: Delim = Delim {
+    small: Symbol { fam: 0, code: 47 },
+    large: Symbol { fam: 3, code: 14 },
+};
+
+const BRACE: Delim = Delim {
+    small: Symbol { fam: 2, code: 102 },
+    large: Symbol { fam: 3, code: 8 },
+};
+
+#[test]
+fn characters_by_the_wanted_size(rt: HostRuntime) -> Result<(), Fail> {
+    let fonts = toy_fonts(rt.alloc())?;
+    // no slash is so tall
+    assert_eq!(rt;
+        choose_variant(&fonts, SLASH, Size::Text, 737919),
+        Variant::Char { font: 9, code: 14 }
+    );
+    assert_eq!(rt;
+        choose_variant(&fonts, NO_DELIMITER, Size::Text, 5),
+        Variant::Null
+    );
+    // top, middle and bottom are 737280 high together, and two repeats 163840
+    for (wanted, repeats) in [(737919, 1), (328417280, 2000), (328417281, 2001)] {
+        assert_eq!(rt;
+            choose_variant(&fonts, BRACE, Size::Text, wanted),
+            Variant::Extensible {
+                font: 9,
+                code: 56,
+                repeats
+            }
+        );
+    }
+    Ok(())
+}
+
+// What stands in the column of a brace with so many repeats in a row.
+fn brace_marks(repeats: u64) -> [Mark; 5] {
+    let stack = Mark::Stack {
+        font: 9,
+        code: 62,
+        step: 81920,
+        count: repeats,
+    };
+    [
+        Mark::Glyph { font: 9, code: 56 },
+        stack,
+        Mark::Glyph { font: 9, code: 60 },
+        stack,
+        Mark::Glyph { font: 9, code: 58 },
+    ]
+}
+
+#[test]
+fn repeats_are_one_node(rt: HostRuntime) -> Result<(), Fail> {
+    let alloc = rt.alloc();
+    let fonts = toy_fonts(alloc)?;
+    for (wanted, repeats) in [(737919, 1), (328417280, 2000)] {
+        let brace = delimiter_box(alloc, &fonts, BRACE, Size::Text, wanted).expect(&rt, "a brace");
+        let marks = brace_marks(repeats);
+        assert_eq!(rt; brace.body.nodes().len(), 1 + marks.len());
+        for (node, mark) in brace.body.nodes().iter().skip(1).zip(marks.iter()) {
+            assert_eq!(rt; &node.mark, mark);
+        }
+    }
+    Ok(())
+}
+
+#[test]
+fn boxes_by_the_wanted_size(rt: HostRuntime) -> Result<(), Fail> {
+    let alloc = rt.alloc();
+    let fonts = toy_fonts(alloc)?;
+    let brace = delimiter_box(alloc, &fonts, BRACE, Size::Text, 737919).expect(&rt, "a brace");
+    let height = brace.body.extents().height;
+    let page = places(alloc, &brace.body, 0, height, 5).expect(&rt, "five places");
+    let want = [
+        glyph(9, 56, 0, height),
+        glyph(9, 62, 0, height + 204800),
+        glyph(9, 60, 0, height + 286720),
+        glyph(9, 62, 0, height + 614400),
+        glyph(9, 58, 0, height + 696320),
+    ];
+    assert_eq!(rt; page.as_slice(), want.as_slice());
+    let none = delimiter_box(alloc, &fonts, NO_DELIMITER, Size::Text, 5).expect(&rt, "a box");
+    assert_eq!(rt; none.body.extents().width, 78643);
+    let slash = delimiter_box(alloc, &fonts, SLASH, Size::Text, 737919).expect(&rt, "a slash");
+    let extents = Extents {
+        width: 327680,
+        height: 40960,
+        depth: 450560,
+    };
+    assert_eq!(rt; slash.body.extents(), extents);
+    assert_eq!(rt; slash.raise, 368640);
+    assert!(rt; delimiter_box(alloc, &fonts, BRACE, Size::Text, 328417280).is_ok());
+    assert!(rt;
+        matches!(
+            delimiter_box(alloc, &fonts, BRACE, Size::Text, 328417281),
+            Err(PartError::TooTall(2001))
+        )
+    );
+    Ok(())
+}
