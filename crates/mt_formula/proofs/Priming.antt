@@ -32,7 +32,7 @@ use Rattle.mt_formula.specs.machine.Arguments.{put_superscript, opened_argument,
 use Rattle.mt_formula.specs.machine.Actions.{performed}
 use Rattle.mt_formula.specs.machine.Stands.{Stands, behind}
 use Rattle.mt_formula.specs.machine.Turned.{Performing}
-use Rattle.mt_scan.proofs.Taking.{onto_all, onto_more}
+use Rattle.mt_macro.proofs.Taking.{onto_all, onto_more}
 use Rattle.mt_formula.proofs.Standing.{no_items}
 use Rattle.mt_formula.proofs.Continuing.{performing_continues, continued_put, continued_fault, continued_open}
 use Rattle.mt_formula.specs.machine.OpenLists.{items_of, hand_of, numerator_of, finished_items, Begins, Becomes}

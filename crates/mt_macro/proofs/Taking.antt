@@ -13,11 +13,11 @@ abbrev pub onto_all : List Token → Option Taken → Option Taken
 onto_all done None = None
 onto_all done (Some taken) = Some (record { argument = done ++ taken.argument; after = taken.after })
 
-onto_none : (o : Option Taken) → o ≡ onto_all [] o
+pub onto_none : (o : Option Taken) → o ≡ onto_all [] o
 onto_none None = refl
 onto_none (Some taken) = refl
 
-onto_more : (done : List Token) (t : Token) (o : Option Taken) → onto_all done (onto t o) ≡ onto_all (done ++ t ∷ []) o
+pub onto_more : (done : List Token) (t : Token) (o : Option Taken) → onto_all done (onto t o) ≡ onto_all (done ++ t ∷ []) o
 onto_more done t None = refl
 onto_more done t (Some taken) = ap (λ x. Some (record { argument = x; after = taken.after })) (sym (append_assoc done (t ∷ []) taken.argument))
 

@@ -2,25 +2,18 @@
 ghost use Rattle.std.specs.Prelude.{◌≡◌, ◌<◌, ◌≤◌, ◌+◌, ◌^◌, ◌++◌, ◌∷◌, [], IfOk, IfSome, OnOk, length, All};
 ghost use Rattle.std.specs.Option.{option_map};
 ghost use Rattle.mt_macro.specs.Braces.{group};
-ghost use Rattle.mt_macro.specs.Arguments.{is_space, argument, arguments};
+ghost use Rattle.mt_macro.specs.Arguments.{argument, arguments};
 ghost use Rattle.mt_macro.specs.inner.Taking.{Takes, TakesAll, IsShortArgument, tokens_behind, token_lists_behind};
 
 use crate::braces::{closes_none, is_close, is_open, level_after};
 use crate::inputs::Inputs;
 use crate::spare::SpareLists;
 use mt_scaled::Items;
-use mt_token::{Token, TokenKind};
+use mt_token::{Token, is_space};
 use std::alloc::{AllocError, Global};
 
 /// The tokens of an argument.
 pub type Argument<'a> = Items<&'a Token>;
-
-/// Whether a token is a Space.
-pub fn is_space(token: &Token) -> bool
-    ensures { result ≡ is_space token.now }
-{
-    matches!(token.kind, TokenKind::Space)
-}
 
 /// Puts a token at the end.
 pub fn push_token<'a>(list: &mut Vec<&'a Token>, token: &'a Token) -> Result<(), AllocError>

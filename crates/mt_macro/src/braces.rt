@@ -1,32 +1,22 @@
 //! Braces and their partners.
-ghost use Rattle.std.specs.Prelude.{◌≡◌, ◌<◌, ◌≤◌, ◌+◌, ◌^◌, ◌==◌, ◌&&◌, IfSome, length, if◌then◌else◌};
-ghost use Rattle.mt_token.specs.Character.{character_code};
-ghost use Rattle.mt_macro.specs.Braces.{is_open, is_close, level_after, first_unmatched};
+ghost use Rattle.std.specs.Prelude.{◌≡◌, ◌<◌, ◌≤◌, ℕ, ◌+◌, ◌^◌, ◌==◌, ◌&&◌, length, take, drop, if◌then◌else◌};
+ghost use Rattle.std.specs.Prelude.{None, Some, IfSome, MatchOption};
+ghost use Rattle.mt_macro.specs.Braces.{is_open, is_close, level_after, group, first_unmatched};
 
-use mt_token::{Token, TokenKind};
-
-/// The code of a character, 0 where the token is none.
-pub fn character(token: &Token) -> u8
-    ensures { result ≡ character_code token.now.kind }
-{
-    match token.kind {
-        TokenKind::Char(c) => c,
-        _ => 0,
-    }
-}
+use mt_token::{Token, character_code};
 
 /// Whether a token opens a group.
 pub fn is_open(token: &Token) -> bool
     ensures { result ≡ is_open token.now }
 {
-    character(token) == b'{'
+    character_code(token) == b'{'
 }
 
 /// Whether a token closes a group.
 pub fn is_close(token: &Token) -> bool
     ensures { result ≡ is_close token.now }
 {
-    character(token) == b'}'
+    character_code(token) == b'}'
 }
 
 /// How many groups are open after a token.
@@ -77,4 +67,25 @@ pub fn first_unmatched(list: &[Token]) -> Option<usize>
         rest = after;
     }
     if level > 0 { Some(outermost) } else { None }
+}
+
+/// The index of the `}` that closes a group, of which the `{` stands before the tokens.
+pub fn closing_brace(tokens: &[Token]) -> Option<usize>
+    ensures within { (i : ℕ) → result ≡ Some i → i < length tokens.now }
+    ensures is { MatchOption result (group 0 tokens.now ≡ None)
+        (λ i. group 0 tokens.now
+        ≡ Some (record { argument = take i tokens.now; after = drop (i + 1) tokens.now })) }
+{
+    let mut level = 0;
+    let mut index = 0;
+    let mut rest = tokens;
+    while let [token, after @ ..] = rest {
+        if closes_none(level, token) {
+            return Some(index);
+        }
+        level = level_after(level, token);
+        index += 1;
+        rest = after;
+    }
+    None
 }

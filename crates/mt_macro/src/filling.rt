@@ -5,17 +5,16 @@ ghost use Rattle.mt_macro.specs.Arguments.{fill};
 ghost use Rattle.mt_macro.specs.inner.Taking.{tokens_behind, token_lists_behind, IsShortArgument};
 
 use crate::arguments::{Argument, push_token};
-use crate::braces::character;
 use crate::parameters::is_hash;
 use crate::spare::SpareLists;
-use mt_token::Token;
+use mt_token::{Token, character_code};
 use std::alloc::AllocError;
 
 // The index of a parameter's argument, by its digit.
 fn index_of(digit: &Token) -> usize
     ensures { result ≡ character_code digit.now.kind - 49 }
 {
-    usize::from(character(digit).saturating_sub(b'1'))
+    usize::from(character_code(digit).saturating_sub(b'1'))
 }
 
 // How many tokens a parameter's argument has, 0 where there is none.

@@ -12,6 +12,7 @@ mod parameters;
 mod spare;
 mod table;
 
+pub use braces::{closes_none, closing_brace, is_close, is_open, level_after};
 pub use definition::MacroError;
 pub use expansion::{ExpandError, expand};
 pub use parameters::first_bad_parameter;

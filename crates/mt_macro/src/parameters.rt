@@ -2,14 +2,13 @@
 ghost use Rattle.std.specs.Prelude.{◌≡◌, ◌&&◌, not};
 ghost use Rattle.mt_macro.specs.Parameters.{is_hash, begins_with_parameter, first_bad_parameter};
 
-use crate::braces::character;
-use mt_token::Token;
+use mt_token::{Token, character_code};
 
 /// Whether a token is `#`.
 pub fn is_hash(token: &Token) -> bool
     ensures { result ≡ is_hash token.now }
 {
-    character(token) == b'#'
+    character_code(token) == b'#'
 }
 
 // Whether a digit from 1 to the number of parameters stands in front.
@@ -18,7 +17,7 @@ fn begins_with_parameter(params: u8, rest: &[Token]) -> bool
 {
     match rest {
         [digit, ..] => {
-            let c = character(digit);
+            let c = character_code(digit);
             c >= b'1' && c <= b'9' && u16::from(c) <= 48 + u16::from(params)
         }
         [] => false,

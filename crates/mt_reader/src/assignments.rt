@@ -7,8 +7,8 @@ ghost use Rattle.mt_reader.specs.documents.Lent.{Assigns};
 ghost use Rattle.mt_scan.specs.Meets.{Meets};
 
 use mt_plain::Codes;
-use mt_scan::{Fault, Part, ReadCause, after_spaces, character_code, number_to, whole_number};
-use mt_token::Token;
+use mt_scan::{Fault, Part, ReadCause, after_spaces, number_to, whole_number};
+use mt_token::{Token, character_code};
 
 /// The greatest character.
 const MAX_CHARACTER: u32 = 127;

@@ -10,10 +10,10 @@ ghost use Rattle.mt_reader.specs.declared.outside_cause.OutsideCause.TheVariants
 
 use crate::outside_cause::OutsideCause;
 use crate::taken::{Taken, between_braces};
-use mt_macro::first_bad_parameter;
+use mt_macro::{first_bad_parameter, is_open};
 use mt_scaled::Name;
-use mt_scan::{Part, character_code, is_open};
-use mt_token::{Token, TokenKind};
+use mt_scan::Part;
+use mt_token::{Token, TokenKind, character_code};
 
 /// A cause, and how many tokens are left from its place on.
 #[derive(Clone, Copy, Debug, PartialEq, Eq)]

@@ -6,8 +6,8 @@ ghost use Rattle.mt_reader.specs.documents.Lent.{TakesAs};
 ghost use Rattle.mt_reader.specs.documents.Weights.{dollars};
 
 use crate::taken::Taken;
-use mt_scan::{character_code, closes_none, level_after};
-use mt_token::Token;
+use mt_macro::{closes_none, level_after};
+use mt_token::{Token, character_code};
 
 fn is_dollar(token: &Token) -> bool
     ensures { result ≡ is_math_shift_token token.now }

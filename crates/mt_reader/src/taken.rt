@@ -3,7 +3,7 @@ ghost use Rattle.std.specs.Prelude.{◌≡◌, ◌≤◌, ◌<◌, ◌+◌, leng
 ghost use Rattle.mt_macro.specs.Braces.{group};
 ghost use Rattle.mt_reader.specs.documents.Lent.{TakesAs};
 
-use mt_scan::closing_brace;
+use mt_macro::closing_brace;
 use mt_token::Token;
 
 /// Tokens that were taken, and those after them.

@@ -1,7 +1,7 @@
 -- What the reading of a part answers.
 use Rattle.std.specs.Prelude.{ℕ, ◌+◌, nat_lt, Bool, true, false, List, [], ◌∷◌, length, ⊤, if◌then◌else◌}
 use Rattle.mt_token.specs.declared.token.Token.{Token}
-use Rattle.mt_macro.specs.Arguments.{is_space}
+use Rattle.mt_token.specs.Spaces.{is_space}
 use Rattle.mt_plain.specs.CodeTables.{CodeTables}
 use Rattle.mt_scan.specs.declared.role.Role.{Role}
 use Rattle.mt_scan.specs.Role.{role_of, means_nothing}

@@ -8,8 +8,7 @@ ghost use Rattle.mt_scan.specs.CappedDecimals.{capped_decimal};
 
 use crate::numbers::{digit_of, digits};
 use crate::part::{Fault, Part, ReadCause};
-use crate::spaces::character_code;
-use mt_token::Token;
+use mt_token::{Token, character_code};
 
 /// A decimal number.
 #[derive(Clone, Copy, Debug, PartialEq, Eq)]

@@ -7,8 +7,8 @@ ghost use Rattle.mt_scan.specs.declared.part.ReadCause.TheVariants.{BadNumber};
 ghost use Rattle.mt_scan.specs.Meets.{Meets, capped, capped_digits};
 
 use crate::part::{Fault, Part, ReadCause};
-use crate::spaces::{after_one_space, character_code};
-use mt_token::{Token, TokenKind};
+use crate::spaces::after_one_space;
+use mt_token::{Token, TokenKind, character_code};
 
 /// All sizes above 2^31 - 1 count as this.
 const SIZE_CAP: u64 = 2_147_483_648;

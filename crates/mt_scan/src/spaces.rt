@@ -1,29 +1,10 @@
 //! Spaces between tokens.
 ghost use Rattle.std.specs.Prelude.{◌≡◌, ◌≤◌, length};
-ghost use Rattle.mt_token.specs.Character.{character_code};
-ghost use Rattle.mt_macro.specs.Arguments.{is_space};
 ghost use Rattle.mt_scan.specs.Parts.{after_spaces, after_one_space, after_blanks};
 
 use crate::role::{Role, role_of};
 use mt_plain::Codes;
-use mt_token::{Token, TokenKind};
-
-/// The code of a character, 0 where the token is none.
-pub fn character_code(token: &Token) -> u8
-    ensures { result ≡ character_code token.now.kind }
-{
-    match &token.kind {
-        TokenKind::Char(c) => *c,
-        _ => 0,
-    }
-}
-
-/// Whether a token is a Space.
-pub fn is_space(token: &Token) -> bool
-    ensures { result ≡ is_space token.now }
-{
-    matches!(&token.kind, TokenKind::Space)
-}
+use mt_token::{Token, is_space};
 
 /// The tokens after Spaces.
 pub fn after_spaces<'a>(tokens: &'a [Token]) -> &'a [Token]

@@ -8,9 +8,9 @@ ghost use Rattle.mt_scan.specs.Meets.{Meets};
 
 use crate::decimals::{Decimal, bad_dimension};
 use crate::part::{Fault, Part};
-use crate::spaces::{after_one_space, character_code};
+use crate::spaces::after_one_space;
 use mt_scaled::{Unit, Units, xn_over_d};
-use mt_token::Token;
+use mt_token::{Token, character_code};
 
 fn small_letter(c: u8) -> u8
     ensures { result ≡ small_letter c }

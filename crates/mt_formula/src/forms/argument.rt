@@ -6,8 +6,9 @@ ghost use Rattle.mt_formula.specs.machine.Frames.{left_after};
 
 use crate::open::frame::Owner;
 use crate::open::room::{missing_field, room};
+use mt_macro::closing_brace;
 use mt_plain::Codes;
-use mt_scan::{Fault, Role, closing_brace, role_of};
+use mt_scan::{Fault, Role, role_of};
 use mt_token::Token;
 
 /// The argument of a superscript that primes begin, which is read as a list to the end of its tokens.

@@ -1,7 +1,7 @@
 use Rattle.std.proofs.Common.{◌≡◌, ◌+◌, ◌≤◌, length, take, drop}
 use Rattle.mt_macro.specs.Braces.{group}
-use Rattle.mt_scan.proofs.Taking.{onto_all}
-use Rattle.mt_scan.proofs.braces.closing_brace.Given as goal
+use Rattle.mt_macro.proofs.Taking.{onto_all}
+use Rattle.mt_macro.proofs.braces.closing_brace.Given as goal
 
 abbrev pub invariant-loop-rest : goal.invariant-loop-rest
 invariant-loop-rest l = record {
