@@ -25,7 +25,7 @@ drop_drop n (suc m) (x ∷ xs) =
     let e : suc (m + n) ≡ suc m + n = omega arith in
     drop_drop n m xs ∙ ap (λ k. drop k (x ∷ xs)) e
 
--- what is left behind a part
+-- what is left after a part
 pub past : {A : Type 0} (i n : ℕ) (xs ys zs : List A) → drop i xs ≡ ys ++ zs → n ≡ length ys → drop (i + n) xs ≡ zs
 past i n xs ys zs e l = sym (drop_drop n i xs) ∙ (ap (λ k. drop n k) e ∙ (ap (λ k. drop k (ys ++ zs)) l ∙ drop-append_seam ys zs))
 
@@ -65,14 +65,14 @@ unfolded_laid (Tree a b m inner next) (suc turns) nodes rest i end x y few is at
     let j = i + 1 + count inner in
     let inside : drop (i + 1) nodes ≡ laid (i + 1) inner ++ (laid j next ++ rest) =
     past i 1 nodes (node a b m j ∷ []) ((laid (i + 1) inner ++ laid j next) ++ rest) at refl ∙ append_assoc (laid (i + 1) inner) (laid j next) rest in
-    let behind : drop j nodes ≡ laid j next ++ rest =
+    let following : drop j nodes ≡ laid j next ++ rest =
     past (i + 1) (count inner) nodes (laid (i + 1) inner) (laid j next ++ rest) inside (sym (length_laid (i + 1) inner)) in
     let up : pos 0 -ℤ (y +ℤ b) ≡ (pos 0 -ℤ y) -ℤ b = omega (arith, ints) in
     one_node turns nodes ((laid (i + 1) inner ++ laid j next) ++ rest) i end x y (node a b m j) (omega (arith, is)) at
     ∙ parts_eq
     (ap (λ v. marks m (x +ℤ a) v) up)
     (unfolded_laid inner turns nodes (laid j next ++ rest) (i + 1) j (x +ℤ a) (y +ℤ b) (omega (arith, few)) refl inside ∙ ap (λ v. spread (x +ℤ a) v inner) up)
-    (unfolded_laid next turns nodes rest j end x y (omega (arith, few)) (omega (arith, is)) behind)
+    (unfolded_laid next turns nodes rest j end x y (omega (arith, few)) (omega (arith, is)) following)
 
 -- ---- places moved
 

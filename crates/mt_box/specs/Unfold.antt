@@ -5,6 +5,7 @@ use Rattle.mt_box.specs.declared.place.Place.TheVariants.{Glyph, Rule}
 use Rattle.mt_box.specs.declared.node.Node.{Node}
 use Rattle.mt_box.specs.declared.node.Mark.{Mark}
 use Rattle.mt_box.specs.declared.node.Mark.TheVariants as mark
+use Rattle.mt_box.specs.Limits.{max_repeats}
 
 -- so many glyphs at h, the first at v, each a step below the one before
 abbrev pub stacked : ℕ → ℕ → ℤ → ℕ → ℤ → ℤ → List Place
@@ -58,4 +59,4 @@ abbrev pub IsMark : Mark → Type 0
 IsMark mark.Group = ⊤
 IsMark (mark.Glyph font code) = ⊤
 IsMark (mark.Rule height width) = (pos 0 <ℤ height) × (pos 0 <ℤ width)
-IsMark (mark.Stack font code step count) = count ≤ 2000
+IsMark (mark.Stack font code step count) = count ≤ max_repeats

@@ -35,6 +35,6 @@ pub struct Node {
     pub x: i64,
     pub y: i64,
     pub mark: Mark,
-    /// The first node behind this one that is not in it, or the end where there is none.
+    /// The first node after this one that is not in it, or the end where there is none.
     pub after: NodeId,
 }

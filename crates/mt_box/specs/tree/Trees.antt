@@ -57,7 +57,7 @@ pub record IsTree (level : ℕ) (nodes : List Node) : Type 0 where
   pub all_sound : AreMarks inner
 
 -- these nodes are a root and the trees below it
-pub record IsBranch (nodes : List Node) : Type 0 where
+pub record AreBoxNodes (nodes : List Node) : Type 0 where
   pub root : Node
   pub inner : Forest
   pub are : nodes ≡ root ∷ laid 1 inner
@@ -73,9 +73,9 @@ all_later base [] = []
 all_later base (n ∷ ns) = node n.x n.y n.mark (n.after.0 + base) ∷ all_later base ns
 
 -- a tree whose numbers grow by so much, and which is moved
-abbrev pub hung : ℕ → Offset → List Node → List Node
-hung base to [] = []
-hung base to (n ∷ ns) = node (n.x +ℤ to.x) to.y n.mark (n.after.0 + base) ∷ all_later base ns
+abbrev pub tree_at : ℕ → Offset → List Node → List Node
+tree_at base to [] = []
+tree_at base to (n ∷ ns) = node (n.x +ℤ to.x) to.y n.mark (n.after.0 + base) ∷ all_later base ns
 
 abbrev pub AllEnd : ℕ → List Node → Type 0
 AllEnd end [] = ⊤

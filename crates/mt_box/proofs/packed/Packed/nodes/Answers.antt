@@ -1,5 +1,5 @@
 use Rattle.std.proofs.Common.{rules}
-use Rattle.mt_box.proofs.Branches.{tree_nested, tree_marks}
+use Rattle.mt_box.proofs.BoxNodes.{tree_nested, tree_marks}
 use Rattle.mt_box.proofs.packed.Packed.nodes.Goals as goal
 
 pub returns-clause-nested : goal.returns-clause-nested

@@ -1,4 +1,4 @@
--- A branch while it grows, and the tree that it becomes.
+-- The nodes of a box while it is packed, and the tree that they become.
 use Rattle.std.proofs.Common.{◌≡◌, ℕ, zero, suc, ◌<◌, ◌≤◌, ◌+◌, ◌*◌, ◌^◌, List, [], ◌∷◌, ◌++◌, length, drop, set, ℤ, pos, ◌+ℤ◌, ◌-ℤ◌, refl, arith, append_assoc, sym, ◌∙◌, ap, subst, Bool, true}
 use Rattle.std.proofs.lemmas.Int.{ints}
 use Rattle.std.proofs.lemmas.Bool.Decides.{nat_tests}
@@ -13,7 +13,7 @@ use Rattle.mt_box.specs.declared.node.Mark.{Mark}
 use Rattle.mt_box.specs.declared.node.Mark.TheVariants as mark
 use Rattle.mt_box.specs.declared.offset.Offset.{Offset}
 use Rattle.mt_box.specs.Unfold.{marks, unfolded_in, unfolded, IsMark, is_nested_in, is_nested}
-use Rattle.mt_box.specs.tree.Trees.{Forest, Bare, Tree, count, node, laid, spread, trees_after, AreMarks, AreTrees, IsTree, IsBranch, below_root, all_later, hung, AllEnd, FirstNear, with_root_right}
+use Rattle.mt_box.specs.tree.Trees.{Forest, Bare, Tree, count, node, laid, spread, trees_after, AreMarks, AreTrees, IsTree, AreBoxNodes, below_root, all_later, tree_at, AllEnd, FirstNear, with_root_right}
 use Rattle.mt_box.proofs.Lists.{nil_right}
 use Rattle.mt_box.proofs.Trees.{past, is_same, is_less, unfolded_laid, length_laid, spread_at, marks_at, spread_moved, spread_lowered, spread_beside, laid_beside, marks_beside, later_laid, node_eq}
 
@@ -24,33 +24,33 @@ trees_places nodes f e =
     let n : length nodes ≡ count f = ap length e ∙ length_laid 0 f in
     unfolded_laid f (length nodes) nodes [] 0 (length nodes) (pos 0) (pos 0) (omega (arith, n)) (omega (arith, n)) (e ∙ sym (nil_right (laid 0 f)))
 
-pub branch_places : (nodes : List Node) (b : IsBranch nodes) → below_root nodes ≡ spread (pos 0) (pos 0) b.inner
-branch_places nodes b =
+pub nodes_places : (nodes : List Node) (b : AreBoxNodes nodes) → below_root nodes ≡ spread (pos 0) (pos 0) b.inner
+nodes_places nodes b =
     let n : length nodes ≡ suc (count b.inner) = ap length b.are ∙ ap suc (length_laid 1 b.inner) in
     unfolded_laid b.inner (length nodes) nodes [] 1 (length nodes) (pos 0) (pos 0) (omega (arith, n)) (omega (arith, n)) (ap (drop 1) b.are ∙ sym (nil_right (laid 1 b.inner)))
 
 pub tree_places : (level : ℕ) (nodes : List Node) (t : IsTree level nodes) → unfolded nodes ≡ spread (pos 0) (pos 0) (Tree t.x (pos 0) t.m t.inner Bare)
 tree_places level nodes t = trees_places nodes (Tree t.x (pos 0) t.m t.inner Bare) t.are
 
--- ---- a branch with one tree more
+-- ---- with one tree more
 
-branch_length : (nodes : List Node) (b : IsBranch nodes) → length nodes ≡ 1 + count b.inner
-branch_length nodes b =
+nodes_length : (nodes : List Node) (b : AreBoxNodes nodes) → length nodes ≡ 1 + count b.inner
+nodes_length nodes b =
     let n : length nodes ≡ suc (count b.inner) = ap length b.are ∙ ap suc (length_laid 1 b.inner) in
     omega (arith, n)
 
-pub grown_are : (nodes nodes' : List Node) (b : IsBranch nodes) (f : Forest) → nodes' ≡ nodes ++ laid (length nodes) f → nodes' ≡ b.root ∷ laid 1 (trees_after b.inner f)
+pub grown_are : (nodes nodes' : List Node) (b : AreBoxNodes nodes) (f : Forest) → nodes' ≡ nodes ++ laid (length nodes) f → nodes' ≡ b.root ∷ laid 1 (trees_after b.inner f)
 grown_are nodes nodes' b f e =
-    e ∙ (ap (λ k. nodes ++ laid k f) (branch_length nodes b)
+    e ∙ (ap (λ k. nodes ++ laid k f) (nodes_length nodes b)
     ∙ (ap (λ ns. ns ++ laid (1 + count b.inner) f) b.are ∙ ap (λ r. b.root ∷ r) (sym (laid_beside 1 b.inner f))))
 
-abbrev pub grown : (nodes nodes' : List Node) (b : IsBranch nodes) (f : Forest) → nodes' ≡ nodes ++ laid (length nodes) f → AreMarks f → IsBranch nodes'
+abbrev pub grown : (nodes nodes' : List Node) (b : AreBoxNodes nodes) (f : Forest) → nodes' ≡ nodes ++ laid (length nodes) f → AreMarks f → AreBoxNodes nodes'
 grown nodes nodes' b f e s = record { root = b.root; inner = trees_after b.inner f; are = grown_are nodes nodes' b f e; all_sound = marks_beside b.inner f b.all_sound s }
 
-pub grown_places : (nodes nodes' : List Node) (b : IsBranch nodes) (f : Forest) → nodes' ≡ nodes ++ laid (length nodes) f → AreMarks f → below_root nodes' ≡ below_root nodes ++ spread (pos 0) (pos 0) f
+pub grown_places : (nodes nodes' : List Node) (b : AreBoxNodes nodes) (f : Forest) → nodes' ≡ nodes ++ laid (length nodes) f → AreMarks f → below_root nodes' ≡ below_root nodes ++ spread (pos 0) (pos 0) f
 grown_places nodes nodes' b f e s =
-    branch_places nodes' (grown nodes nodes' b f e s)
-    ∙ (spread_beside (pos 0) (pos 0) b.inner f ∙ ap (λ r. r ++ spread (pos 0) (pos 0) f) (sym (branch_places nodes b)))
+    nodes_places nodes' (grown nodes nodes' b f e s)
+    ∙ (spread_beside (pos 0) (pos 0) b.inner f ∙ ap (λ r. r ++ spread (pos 0) (pos 0) f) (sym (nodes_places nodes b)))
 
 -- ---- a leaf
 
@@ -66,10 +66,10 @@ leaf_places at m = nil_right (marks m (pos 0 +ℤ at.x) (pos 0 -ℤ at.y)) ∙ m
 leafed : (nodes nodes' : List Node) (at : Offset) (m : Mark) → nodes' ≡ nodes ++ node at.x at.y m (length nodes + 1) ∷ [] → nodes' ≡ nodes ++ laid (length nodes) (leaf at m)
 leafed nodes nodes' at m e = e ∙ ap (λ r. nodes ++ r) (leaf_laid (length nodes) at m)
 
-pub branch_leafed : (nodes nodes' : List Node) (at : Offset) (m : Mark) → IsBranch nodes → IsMark m → nodes' ≡ nodes ++ node at.x at.y m (length nodes + 1) ∷ [] → IsBranch nodes'
-branch_leafed nodes nodes' at m b s e = grown nodes nodes' b (leaf at m) (leafed nodes nodes' at m e) (s, tt, tt)
+pub nodes_leafed : (nodes nodes' : List Node) (at : Offset) (m : Mark) → AreBoxNodes nodes → IsMark m → nodes' ≡ nodes ++ node at.x at.y m (length nodes + 1) ∷ [] → AreBoxNodes nodes'
+nodes_leafed nodes nodes' at m b s e = grown nodes nodes' b (leaf at m) (leafed nodes nodes' at m e) (s, tt, tt)
 
-pub places_leafed : (nodes nodes' : List Node) (at : Offset) (m : Mark) → IsBranch nodes → IsMark m → nodes' ≡ nodes ++ node at.x at.y m (length nodes + 1) ∷ [] → below_root nodes' ≡ below_root nodes ++ marks m at.x (pos 0 -ℤ at.y)
+pub places_leafed : (nodes nodes' : List Node) (at : Offset) (m : Mark) → AreBoxNodes nodes → IsMark m → nodes' ≡ nodes ++ node at.x at.y m (length nodes + 1) ∷ [] → below_root nodes' ≡ below_root nodes ++ marks m at.x (pos 0 -ℤ at.y)
 places_leafed nodes nodes' at m b s e =
     grown_places nodes nodes' b (leaf at m) (leafed nodes nodes' at m e) (s, tt, tt) ∙ ap (λ r. below_root nodes ++ r) (leaf_places at m)
 
@@ -78,18 +78,18 @@ places_leafed nodes nodes' at m b s e =
 abbrev moved_tree : {level : ℕ} {tree : List Node} → Offset → IsTree level tree → Forest
 moved_tree to t = Tree (t.x +ℤ to.x) to.y t.m t.inner Bare
 
-hung_laid : (base : ℕ) (to : Offset) (x y : ℤ) (m : Mark) (inner : Forest) → hung base to (laid 0 (Tree x y m inner Bare)) ≡ laid base (Tree (x +ℤ to.x) to.y m inner Bare)
-hung_laid base to x y m inner =
+tree_at_laid : (base : ℕ) (to : Offset) (x y : ℤ) (m : Mark) (inner : Forest) → tree_at base to (laid 0 (Tree x y m inner Bare)) ≡ laid base (Tree (x +ℤ to.x) to.y m inner Bare)
+tree_at_laid base to x y m inner =
     let e : 0 + 1 + count inner + base ≡ base + 1 + count inner = omega arith in
     let d : 0 + 1 + base ≡ base + 1 = omega arith in
     node_eq e (ap (λ r. all_later base r) (nil_right (laid (0 + 1) inner)) ∙ (later_laid base (0 + 1) inner ∙ (ap (λ k. laid k inner) d ∙ sym (nil_right (laid (base + 1) inner)))))
 
-tree_hung : (level : ℕ) (nodes nodes' tree : List Node) (to : Offset) (t : IsTree level tree) → nodes' ≡ nodes ++ hung (length nodes) to tree → nodes' ≡ nodes ++ laid (length nodes) (Tree (t.x +ℤ to.x) to.y t.m t.inner Bare)
-tree_hung level nodes nodes' tree to t e =
-    e ∙ ap (λ r. nodes ++ r) (ap (λ ns. hung (length nodes) to ns) t.are ∙ hung_laid (length nodes) to t.x (pos 0) t.m t.inner)
+tree_put : (level : ℕ) (nodes nodes' tree : List Node) (to : Offset) (t : IsTree level tree) → nodes' ≡ nodes ++ tree_at (length nodes) to tree → nodes' ≡ nodes ++ laid (length nodes) (Tree (t.x +ℤ to.x) to.y t.m t.inner Bare)
+tree_put level nodes nodes' tree to t e =
+    e ∙ ap (λ r. nodes ++ r) (ap (λ ns. tree_at (length nodes) to ns) t.are ∙ tree_at_laid (length nodes) to t.x (pos 0) t.m t.inner)
 
-pub branch_hung : (level : ℕ) (nodes nodes' tree : List Node) (to : Offset) → IsBranch nodes → IsTree level tree → nodes' ≡ nodes ++ hung (length nodes) to tree → IsBranch nodes'
-branch_hung level nodes nodes' tree to b t e = grown nodes nodes' b (Tree (t.x +ℤ to.x) to.y t.m t.inner Bare) (tree_hung level nodes nodes' tree to t e) (t.sound, t.all_sound, tt)
+pub nodes_with_tree : (level : ℕ) (nodes nodes' tree : List Node) (to : Offset) → AreBoxNodes nodes → IsTree level tree → nodes' ≡ nodes ++ tree_at (length nodes) to tree → AreBoxNodes nodes'
+nodes_with_tree level nodes nodes' tree to b t e = grown nodes nodes' b (Tree (t.x +ℤ to.x) to.y t.m t.inner Bare) (tree_put level nodes nodes' tree to t e) (t.sound, t.all_sound, tt)
 
 moved_tree_places : (to : Offset) (x : ℤ) (m : Mark) (inner : Forest) → spread (pos 0) (pos 0) (Tree (x +ℤ to.x) to.y m inner Bare) ≡ spread (pos 0 +ℤ to.x) (pos 0 -ℤ to.y) (Tree x (pos 0) m inner Bare)
 moved_tree_places to x m inner =
@@ -98,13 +98,13 @@ moved_tree_places to x m inner =
     ap (λ r. r ++ (spread (pos 0 +ℤ (x +ℤ to.x)) (pos 0 -ℤ to.y) inner ++ [])) (marks_at m h v)
     ∙ ap (λ r. marks m (pos 0 +ℤ to.x +ℤ x) (pos 0 -ℤ to.y -ℤ pos 0) ++ (r ++ [])) (spread_at inner h v)
 
-pub places_hung : (level : ℕ) (nodes nodes' tree : List Node) (to : Offset) → IsBranch nodes → IsTree level tree → nodes' ≡ nodes ++ hung (length nodes) to tree → below_root nodes' ≡ below_root nodes ++ all_moved to.x to.y (unfolded tree)
-places_hung level nodes nodes' tree to b t e =
-    grown_places nodes nodes' b (Tree (t.x +ℤ to.x) to.y t.m t.inner Bare) (tree_hung level nodes nodes' tree to t e) (t.sound, t.all_sound, tt)
+pub places_with_tree : (level : ℕ) (nodes nodes' tree : List Node) (to : Offset) → AreBoxNodes nodes → IsTree level tree → nodes' ≡ nodes ++ tree_at (length nodes) to tree → below_root nodes' ≡ below_root nodes ++ all_moved to.x to.y (unfolded tree)
+places_with_tree level nodes nodes' tree to b t e =
+    grown_places nodes nodes' b (Tree (t.x +ℤ to.x) to.y t.m t.inner Bare) (tree_put level nodes nodes' tree to t e) (t.sound, t.all_sound, tt)
     ∙ ap (λ r. below_root nodes ++ r) (moved_tree_places to t.x t.m t.inner
     ∙ (sym (spread_moved to.x to.y (pos 0) (pos 0) (Tree t.x (pos 0) t.m t.inner Bare)) ∙ ap (λ ps. all_moved to.x to.y ps) (sym (tree_places level tree t))))
 
--- ---- what hanging asks for
+-- ---- what putting a tree asks for
 
 ends_append : (end : ℕ) (ns ms : List Node) → AllEnd end ns → AllEnd end ms → AllEnd end (ns ++ ms)
 ends_append end [] ms h k = k
@@ -124,18 +124,18 @@ tree_ends level end nodes t h =
 pub tree_near : (level : ℕ) (nodes : List Node) → IsTree level nodes → level ≤ 2 ^ 20 → FirstNear (2 ^ 61) nodes
 tree_near level nodes t low = rw (t.are) (record { low = omega (arith, ints, t.near.low, low); high = omega (arith, ints, t.near.high, low) })
 
--- ---- a branch that is done
+-- ---- the nodes when all are there
 
 group_laid : (n : ℕ) (inner : Forest) → n ≡ suc (count inner) → (node (pos 0) (pos 0) mark.Group n ∷ laid 1 inner) ≡ laid 0 (Tree (pos 0) (pos 0) mark.Group inner Bare)
 group_laid n inner e = node_eq (omega (arith, e)) (sym (nil_right (laid (0 + 1) inner)))
 
-done_are : (nodes nodes' : List Node) (b : IsBranch nodes) → nodes' ≡ set nodes 0 (node (pos 0) (pos 0) mark.Group (length nodes)) → nodes' ≡ laid 0 (Tree (pos 0) (pos 0) mark.Group b.inner Bare)
+done_are : (nodes nodes' : List Node) (b : AreBoxNodes nodes) → nodes' ≡ set nodes 0 (node (pos 0) (pos 0) mark.Group (length nodes)) → nodes' ≡ laid 0 (Tree (pos 0) (pos 0) mark.Group b.inner Bare)
 done_are nodes nodes' b e =
     e ∙ (ap (λ ns. set ns 0 (node (pos 0) (pos 0) mark.Group (length nodes))) b.are
     ∙ group_laid (length nodes) b.inner (ap length b.are ∙ ap suc (length_laid 1 b.inner)))
 
-pub branch_done : (nodes nodes' : List Node) → IsBranch nodes → nodes' ≡ set nodes 0 (node (pos 0) (pos 0) mark.Group (length nodes)) → (level : ℕ) → IsTree level nodes'
-branch_done nodes nodes' b e level = record {
+pub nodes_done : (nodes nodes' : List Node) → AreBoxNodes nodes → nodes' ≡ set nodes 0 (node (pos 0) (pos 0) mark.Group (length nodes)) → (level : ℕ) → IsTree level nodes'
+nodes_done nodes nodes' b e level = record {
   x = pos 0;
   m = mark.Group;
   inner = b.inner;
@@ -145,9 +145,9 @@ branch_done nodes nodes' b e level = record {
   all_sound = b.all_sound;
 }
 
-pub places_done : (nodes nodes' : List Node) → IsBranch nodes → nodes' ≡ set nodes 0 (node (pos 0) (pos 0) mark.Group (length nodes)) → unfolded nodes' ≡ below_root nodes
+pub places_done : (nodes nodes' : List Node) → AreBoxNodes nodes → nodes' ≡ set nodes 0 (node (pos 0) (pos 0) mark.Group (length nodes)) → unfolded nodes' ≡ below_root nodes
 places_done nodes nodes' b e =
-    trees_places nodes' (Tree (pos 0) (pos 0) mark.Group b.inner Bare) (done_are nodes nodes' b e) ∙ (nil_right (spread (pos 0) (pos 0) b.inner) ∙ sym (branch_places nodes b))
+    trees_places nodes' (Tree (pos 0) (pos 0) mark.Group b.inner Bare) (done_are nodes nodes' b e) ∙ (nil_right (spread (pos 0) (pos 0) b.inner) ∙ sym (nodes_places nodes b))
 
 -- ---- a tree with its root moved
 
@@ -218,13 +218,13 @@ nested_laid (Tree a b m inner next) (suc turns) nodes rest i end few is at =
     let j = i + 1 + count inner in
     let inside : drop (i + 1) nodes ≡ laid (i + 1) inner ++ (laid j next ++ rest) =
     past i 1 nodes (node a b m j ∷ []) ((laid (i + 1) inner ++ laid j next) ++ rest) at refl ∙ append_assoc (laid (i + 1) inner) (laid j next) rest in
-    let behind : drop j nodes ≡ laid j next ++ rest =
+    let following : drop j nodes ≡ laid j next ++ rest =
     past (i + 1) (count inner) nodes (laid (i + 1) inner) (laid j next ++ rest) inside (sym (length_laid (i + 1) inner)) in
     nested_one turns nodes ((laid (i + 1) inner ++ laid j next) ++ rest) i end (node a b m j) (omega (arith, is)) at
     ∙ all_four (nat_lt i j) (nat_le j end) (is_nested_in turns nodes (i + 1) j) (is_nested_in turns nodes j end)
     (is_below i j (omega arith)) (is_within j end (omega (arith, is)))
     (nested_laid inner turns nodes (laid j next ++ rest) (i + 1) j (omega (arith, few)) refl inside)
-    (nested_laid next turns nodes rest j end (omega (arith, few)) (omega (arith, is)) behind)
+    (nested_laid next turns nodes rest j end (omega (arith, few)) (omega (arith, is)) following)
 
 pub tree_nested : (level : ℕ) (nodes : List Node) → IsTree level nodes → is_nested nodes ≡ true
 tree_nested level nodes t =
