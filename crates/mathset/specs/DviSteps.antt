@@ -4,7 +4,7 @@ use Rattle.mt_outside.specs.declared.files.Held.{Held}
 use Rattle.mt_family.specs.SetValue.{SetValue}
 use Rattle.mt_box.specs.declared.place.Place.{Place}
 use Rattle.mt_dvi.specs.File.{Fault, pages_of}
-use Rattle.mt_dviread.specs.Faults.{dvi_cause_number}
+use Rattle.mt_dviread.specs.Errors.{dvi_cause_number}
 use Rattle.mathset.specs.Limits.{max_dvi}
 use Rattle.mathset.specs.Listing.{listing}
 use Rattle.mathset.specs.Outcome.{Outcome, plain, ◌>>=◌}

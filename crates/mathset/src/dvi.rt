@@ -22,10 +22,10 @@ fn dvi_refusal(error: DviError) -> Status
     ensures told { IfSome (fault_of error) (λ fault. result ≡ dvi_refusal fault) }
     ensures memory { fault_of error ≡ None → result ≡ Status.OutOfMemory }
 {
-    match error.offset() {
+    match error.place() {
         Some(offset) => Status::BadDvi {
             offset,
-            cause: error.cause(),
+            cause: error.number(),
         },
         None => Status::OutOfMemory,
     }

@@ -1,4 +1,4 @@
--- The faults that errors tell (`fault_of`), and their numbers.
+-- The faults that errors tell (`fault_of`).
 use Rattle.std.specs.Prelude.{◌≡◌, ℕ, List, Option, Some, None, Result, Ok, Err}
 use Rattle.mt_box.specs.declared.place.Place.{Place}
 use Rattle.mt_dvi.specs.Machine.{Cause, Truncated, BadOpcode, BadPreamble, BadPointer, BadPost, UnknownFont, MissingChar, StackEmpty, TooDeep, OutOfRange, TooMany}
@@ -24,20 +24,6 @@ fault_of (errors.TooDeep at) = some_fault at TooDeep
 fault_of (errors.OutOfRange at) = some_fault at OutOfRange
 fault_of (errors.TooMany at) = some_fault at TooMany
 fault_of errors.OutOfMemory = None
-
--- the number of a cause
-abbrev pub dvi_cause_number : Cause → ℕ
-dvi_cause_number Truncated = 1
-dvi_cause_number BadOpcode = 2
-dvi_cause_number BadPreamble = 3
-dvi_cause_number BadPointer = 4
-dvi_cause_number BadPost = 5
-dvi_cause_number UnknownFont = 6
-dvi_cause_number MissingChar = 7
-dvi_cause_number StackEmpty = 8
-dvi_cause_number TooDeep = 9
-dvi_cause_number OutOfRange = 10
-dvi_cause_number TooMany = 11
 
 -- these pages, unless memory ran out
 abbrev pub ReadsBack : Result (List (List Place)) DviError → List (List Place) → Type 0

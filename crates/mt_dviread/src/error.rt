@@ -1,7 +1,6 @@
 //! Why a file is refused.
-ghost use Rattle.std.specs.Prelude.{◌≡◌, IfSome, option_map};
-ghost use Rattle.mt_dvi.specs.File.{Fault};
-ghost use Rattle.mt_dviread.specs.Faults.{fault_of, dvi_cause_number};
+ghost use Rattle.std.specs.Prelude.{◌≡◌};
+ghost use Rattle.mt_dviread.specs.Errors.{dvi_error_number, dvi_error_place};
 
 use thiserror::Error;
 
@@ -53,9 +52,9 @@ pub enum DviError {
 }
 
 impl DviError {
-    /// The number of the cause, from 1 to 11 in the order of the variants; 12 for want of memory.
-    pub fn cause(self) -> u8
-        ensures { IfSome (fault_of self) (λ fault. result ≡ dvi_cause_number fault.cause) }
+    /// The number of the error, from 1 to 12 in the order of the variants.
+    pub fn number(self) -> u8
+        ensures { result ≡ dvi_error_number self }
     {
         match self {
             DviError::Truncated(_) => 1,
@@ -74,21 +73,21 @@ impl DviError {
     }
 
     /// The offset of the opcode at fault; `None` for want of memory.
-    pub fn offset(self) -> Option<u64>
-        ensures { result ≡ option_map (λ (fault : Fault). fault.at) (fault_of self) }
+    pub fn place(self) -> Option<u64>
+        ensures { result ≡ dvi_error_place self }
     {
         match self {
-            DviError::Truncated(at) => Some(at),
-            DviError::BadOpcode(at) => Some(at),
-            DviError::BadPreamble(at) => Some(at),
-            DviError::BadPointer(at) => Some(at),
-            DviError::BadPost(at) => Some(at),
-            DviError::UnknownFont(at) => Some(at),
-            DviError::MissingChar(at) => Some(at),
-            DviError::StackEmpty(at) => Some(at),
-            DviError::TooDeep(at) => Some(at),
-            DviError::OutOfRange(at) => Some(at),
-            DviError::TooMany(at) => Some(at),
+            DviError::Truncated(at)
+            | DviError::BadOpcode(at)
+            | DviError::BadPreamble(at)
+            | DviError::BadPointer(at)
+            | DviError::BadPost(at)
+            | DviError::UnknownFont(at)
+            | DviError::MissingChar(at)
+            | DviError::StackEmpty(at)
+            | DviError::TooDeep(at)
+            | DviError::OutOfRange(at)
+            | DviError::TooMany(at) => Some(at),
             DviError::OutOfMemory => None,
         }
     }

@@ -159,7 +159,7 @@ fn refuses(
     let (at, byte, cause, offset) = change;
     let changed = with_byte(alloc, bytes, at, byte)?;
     match fault(alloc, fonts, &changed) {
-        Some(error) => Ok(error.cause() == cause && error.offset() == Some(offset)),
+        Some(error) => Ok(error.number() == cause && error.place() == Some(offset)),
         None => Ok(false),
     }
 }
