@@ -12,5 +12,7 @@ pub mod Definition
 pub mod Arguments
 -- what a list expands to
 pub mod Expansion
+-- the numbers and places of errors
+pub mod Errors
 -- of steps and lent tokens: only inner contracts cite it
 pub mod inner

@@ -44,6 +44,22 @@ impl From<AllocError> for MacroError {
     }
 }
 
+impl MacroError {
+    ghost use Rattle.mt_macro.specs.Errors.{macro_error_number};
+
+    /// The number of the error, from 1 in the order of the variants.
+    pub fn number(self) -> u8
+        ensures { result ≡ macro_error_number self }
+    {
+        match self {
+            MacroError::BadParameters => 1,
+            MacroError::Unbalanced => 2,
+            MacroError::TooMany => 3,
+            MacroError::OutOfMemory => 4,
+        }
+    }
+}
+
 fn body_fault(params: u8, body: &[Token]) -> Option<MacroError>
     ensures { result ≡ body_fault params body.now }
 {

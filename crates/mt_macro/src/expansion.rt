@@ -54,6 +54,33 @@ impl From<AllocError> for ExpandError {
     }
 }
 
+impl ExpandError {
+    ghost use Rattle.mt_macro.specs.Errors.{expand_error_number, expand_error_place};
+
+    /// The number of the error, from 1 in the order of the variants.
+    pub fn number(self) -> u8
+        ensures { result ≡ expand_error_number self }
+    {
+        match self {
+            ExpandError::Budget { .. } => 1,
+            ExpandError::MissingArgument(_) => 2,
+            ExpandError::Unbalanced(_) => 3,
+            ExpandError::TooLong => 4,
+            ExpandError::OutOfMemory => 5,
+        }
+    }
+
+    /// The index of the token at fault, where there is one.
+    pub fn place(self) -> Option<u32>
+        ensures { result ≡ expand_error_place self }
+    {
+        match self {
+            ExpandError::MissingArgument(index) | ExpandError::Unbalanced(index) => Some(index),
+            ExpandError::Budget { .. } | ExpandError::TooLong | ExpandError::OutOfMemory => None,
+        }
+    }
+}
+
 /// The greatest number of tokens that a list has, before and after each step.
 const MAX_TOKENS: usize = 50_000;
 

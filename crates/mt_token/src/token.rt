@@ -61,6 +61,32 @@ impl From<AllocError> for TokenError {
     }
 }
 
+impl TokenError {
+    ghost use Rattle.mt_token.specs.Errors.{token_error_number, token_error_place};
+
+    /// The number of the error, from 1 in the order of the variants.
+    pub fn number(self) -> u8
+        ensures { result ≡ token_error_number self }
+    {
+        match self {
+            TokenError::NotAscii(_) => 1,
+            TokenError::BadByte(_) => 2,
+            TokenError::TooLong => 3,
+            TokenError::OutOfMemory => 4,
+        }
+    }
+
+    /// The offset of the byte at fault, where there is one.
+    pub fn place(self) -> Option<u32>
+        ensures { result ≡ token_error_place self }
+    {
+        match self {
+            TokenError::NotAscii(offset) | TokenError::BadByte(offset) => Some(offset),
+            TokenError::TooLong | TokenError::OutOfMemory => None,
+        }
+    }
+}
+
 impl TokenKind {
     /// The same kind once more, in memory of its own.
     pub fn copied(&self, alloc: Global) -> Result<TokenKind, AllocError>
