@@ -1,12 +1,10 @@
 -- Worked cases: classes, styles and spaces of known formulas.
-use Rattle.std.proofs.Common.{◌≡◌, refl, true, pos, Some, None}
-use Rattle.mt_rules.specs.declared.class.Class.TheVariants.{Ord, Op, Bin, Rel, Open, Close, Inner}
+use Rattle.std.proofs.Common.{◌≡◌, refl, true, Some, None}
+use Rattle.mt_rules.specs.declared.class.Class.TheVariants.{Ord, Op, Bin, Rel, Open, Close}
 use Rattle.mt_rules.specs.declared.kind.Kind.TheVariants.{Plain, Radical}
-use Rattle.mt_rules.specs.declared.kind.Limits.{Limits}
 use Rattle.mt_rules.specs.declared.symbol.Delim.{Delim}
 use Rattle.mt_rules.specs.declared.style.Style.TheVariants.{D, T, S, Sc, Ss}
-use Rattle.mt_rules.specs.Classes.{forward_of, settled_of, own_class}
-use Rattle.mt_rules.specs.Sequence.{Sequence, Part, AtomElement, FractionElement, LeftElement, RightElement, KernElement, EmptyPart}
+use Rattle.mt_rules.specs.Classes.{forward_of, settled_of, kind_class}
 use Rattle.mt_rules.specs.Styles.{sup_of, sub_of, num_of, den_of}
 use Rattle.mt_rules.specs.Spaces.{never_meet, spacing, NoSpacing, ThinSpacing, MediumSpacing}
 
@@ -37,24 +35,12 @@ sign_before_a_closing = refl
 sign_at_the_end : settled_of Bin None ≡ Ord
 sign_at_the_end = refl
 
--- a square root, a sign, a kern, a fraction and the boundaries round them: all but the kern have a class of their own
-square_root : (d : Delim) (l : Limits) (n : Part) → own_class (AtomElement (Radical d) l n EmptyPart EmptyPart) ≡ Some Ord
-square_root d l n = refl
+-- a square root is an ordinary atom, a sign a binary operation
+square_root : (d : Delim) → kind_class (Radical d) ≡ Ord
+square_root d = refl
 
-sign : (l : Limits) (n : Part) → own_class (AtomElement (Plain Bin) l n EmptyPart EmptyPart) ≡ Some Bin
-sign l n = refl
-
-kern : own_class (KernElement (pos 5)) ≡ None
-kern = refl
-
-fraction : (d : Delim) (s : Sequence) → own_class (FractionElement None d d s s) ≡ Some Inner
-fraction d s = refl
-
-left_boundary : (d : Delim) → own_class (LeftElement d) ≡ Some Open
-left_boundary d = refl
-
-right_boundary : (d : Delim) → own_class (RightElement d) ≡ Some Close
-right_boundary d = refl
+sign : kind_class (Plain Bin) ≡ Bin
+sign = refl
 
 -- a fraction in display style has parts in text style, one in text style parts in script style
 display_numerator : num_of D ≡ T

@@ -2,10 +2,9 @@
 -- `forward_of`, by what the atom before it has got; then the final class `settled_of`, by what the atom after it has got.
 use Rattle.std.specs.Prelude.{Bool, true, false, if◌then◌else◌, Option, Some, None}
 use Rattle.mt_rules.specs.declared.class.Class.{Class}
-use Rattle.mt_rules.specs.declared.class.Class.TheVariants.{Ord, Op, Bin, Rel, Open, Close, Punct, Inner}
+use Rattle.mt_rules.specs.declared.class.Class.TheVariants.{Ord, Op, Bin, Rel, Open, Close, Punct}
 use Rattle.mt_rules.specs.declared.kind.Kind.{Kind}
 use Rattle.mt_rules.specs.declared.kind.Kind.TheVariants.{Plain}
-use Rattle.mt_rules.specs.Sequence.{Element, AtomElement, FractionElement, LeftElement, RightElement}
 
 -- a binary operation has no left operand after these
 abbrev pub blocks_left : Class → Bool
@@ -41,14 +40,7 @@ abbrev pub settled_of : Class → Option Class → Class
 settled_of Bin after = bin_before after
 settled_of own after = own
 
--- The class of its own that an element has, if it counts as an atom: a boundary does, spaces and styles do not.
+-- the class of an atom of a kind, before its neighbours are looked at
 abbrev pub kind_class : Kind → Class
 kind_class (Plain class) = class
 kind_class _ = Ord
-
-abbrev pub own_class : Element → Option Class
-own_class (AtomElement kind limits nucleus sup sub) = Some (kind_class kind)
-own_class (FractionElement thickness left right num den) = Some Inner
-own_class (LeftElement delim) = Some Open
-own_class (RightElement delim) = Some Close
-own_class _ = None

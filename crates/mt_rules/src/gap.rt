@@ -1,5 +1,5 @@
 //! The gap between two lines (plain TeX's \baselineskip, \lineskip and \lineskiplimit).
-ghost use Rattle.std.specs.Prelude.{◌≡◌, ◌^◌, int_lt, pos};
+ghost use Rattle.std.specs.Prelude.{◌≡◌, ◌^◌};
 ghost use Rattle.mt_scaled.specs.Number.{Within, max_dimen};
 ghost use Rattle.mt_rules.specs.Vcenter.{line_gap as gap_of_lines};
 
@@ -21,12 +21,5 @@ pub fn line_gap(depth: Length, height: Length) -> Length
     ensures small { Within (2 ^ 32) result.sp }
 {
     let gap = BASELINE_SKIP.minus(depth).minus(height);
-    if is_negative(gap) { LINE_SKIP } else { gap }
-}
-
-#[tactic(auto, using(std::proofs::lemmas::Int::ints))]
-fn is_negative(length: Length) -> bool
-    ensures { result ≡ int_lt length.sp (pos 0) }
-{
-    length.sp < 0
+    if gap.is_negative() { LINE_SKIP } else { gap }
 }

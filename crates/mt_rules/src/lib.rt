@@ -1,9 +1,10 @@
 //! Math lists and what stands in them, styles and classes, and the spaces between atoms.
 //!
-//! The rules on styles, classes and spaces are the definitions in `specs/`, which the contracts of the crates above cite.
-//! They follow The TeXbook, chapters 17 and 18 and Appendix G.
+//! The rules on styles, classes and spaces are the definitions in `specs/`, which the contracts of
+//! the crates above cite. They follow The TeXbook, chapters 17 and 18 and Appendix G.
 #![tactic(auto)]
 
+mod character;
 mod class;
 mod document;
 mod gap;
@@ -17,6 +18,7 @@ mod shifts;
 mod style;
 mod symbol;
 
+pub use character::{extents_without_italic, width_with_italic};
 pub use class::Class;
 pub use document::{Document, Formula, Page, Tag};
 pub use gap::line_gap;

@@ -11,7 +11,7 @@ pub enum PartError {
     #[error("a part has an extent of {0}sp")]
     Overflow(i64),
     /// A delimiter would need the repeatable piece of its recipe this many times, which is more
-    /// than 2,000.
+    /// than 2,000 ([`mt_box::MAX_REPEATS`]).
     #[error("a delimiter needs {0} repeats")]
     TooTall(u64),
     /// There is no memory left.

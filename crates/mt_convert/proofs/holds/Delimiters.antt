@@ -15,7 +15,7 @@ use Rattle.mt_rules.specs.declared.symbol.Delim.{Delim}
 use Rattle.mt_rules.specs.Setting.{Setting, ◌>>◌, test_extents, make_box}
 use Rattle.mt_rules.specs.Symbols.{empty_font, font_of_number, extents_without_italic, height_plus_depth}
 use Rattle.mt_rules.specs.Candidates.{Candidate, candidate, chain_candidates, font_candidates, candidates_at, candidates_from, is_no_symbol, symbol_candidates, candidates, fits, first_fit, total_or_zero, tallest_candidate, chosen_candidate}
-use Rattle.mt_rules.specs.Extensibles.{repeats, at_most_2000, recipe_piece, recipe_pieces, glyphs_places, first_height, glyphs_layout, test_glyphs, extensible_layout}
+use Rattle.mt_rules.specs.Extensibles.{repeats, test_repeats, recipe_piece, recipe_pieces, glyphs_places, first_height, glyphs_layout, test_glyphs, extensible_layout}
 use Rattle.mt_rules.specs.Delimiters.{null_delimiter, layout_by_recipe, candidate_layout, delimiter}
 use Rattle.mt_convert.specs.Holding.{GlyphHolds, PlacesHold, LayoutHolds}
 use Rattle.mt_convert.proofs.holds.Steps.{next_holds, after_extents, two_tests, box_made}
@@ -211,7 +211,7 @@ module _ (fonts : SetValue) where
   extensible_holds font r wanted h =
       let m = font_of_number fonts font in
       let width = width_of m r.repeat +ℤ italic_of m r.repeat in
-      next_holds (LayoutHolds fonts) (at_most_2000 (repeats m r wanted))
+      next_holds (LayoutHolds fonts) (test_repeats (repeats m r wanted))
       (λ n. test_glyphs m (recipe_pieces r (min n 1)) >> make_box (glyphs_layout font m width (recipe_pieces r n)))
       (λ n. after_glyphs (LayoutHolds fonts) font (recipe_pieces r (min n 1)) (make_box (glyphs_layout font m width (recipe_pieces r n)))
       (pieces_exist font r (min n 1) h)
