@@ -6,6 +6,8 @@ pub mod Commands
 pub mod Names
 -- the codes of characters
 pub mod Characters
+-- what a code may be
+pub mod Limits
 -- the codes of the characters, which assignments change
 pub mod CodeTables
 -- the macros of plain TeX, without parameters

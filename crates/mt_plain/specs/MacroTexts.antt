@@ -77,7 +77,7 @@ family_macros =
     (codes "tt", codes "\\fam 7 ") ∷
     []
 
--- names of function_macros
+-- names of functions, such as \sin
 unfoldable pub function_macros : MacroTexts
 function_macros =
     (codes "log", codes "\\mathop{\\rm log}\\nolimits") ∷
@@ -104,7 +104,7 @@ function_macros =
     (codes "deg", codes "\\mathop{\\rm deg}\\nolimits") ∷
     []
 
--- names of function_macros that take limits
+-- names of functions that take limits, such as \lim
 unfoldable pub limit_macros : MacroTexts
 limit_macros =
     (codes "lim", codes "\\mathop{\\rm lim}") ∷

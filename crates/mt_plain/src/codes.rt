@@ -2,6 +2,7 @@
 ghost use Rattle.std.specs.Prelude.{◌≡◌, ◌<◌, ◌≤◌, true, IfOk};
 ghost use Rattle.mt_plain.specs.CodeTables.{plain_codes, math_code_of, delcode_of, with_math_code};
 ghost use Rattle.mt_plain.specs.CodeTables.{with_delcode, is_delcode, ChangesMathCode, ChangesDelcode};
+ghost use Rattle.mt_plain.specs.Limits.{max_math_code};
 ghost use Rattle.mt_plain.specs.Names.{control};
 
 use crate::characters::{delcodes, math_codes};
@@ -10,6 +11,9 @@ use crate::meaning::Meaning;
 use crate::names::meaning_of;
 use std::alloc::Global;
 use std::marker::Model;
+
+/// The greatest math code, which makes a character active (The TeXbook, chapter 17).
+pub const MAX_MATH_CODE: u16 = 32_768;
 
 /// The codes of the characters 0 to 127, and the meanings of names.
 #[derive(Debug, Drop)]
@@ -48,7 +52,7 @@ impl Codes {
     pub fn math_code(&self, c: u8) -> u16
         requires { c < 128 }
         ensures is { result ≡ math_code_of self.now c }
-        ensures bound { result ≤ 32768 }
+        ensures bound { result ≤ max_math_code }
     {
         self.math[usize::from(c)]
     }
@@ -72,7 +76,7 @@ impl Codes {
     /// Gives a character another math code.
     pub fn set_math_code(&mut self, c: u8, code: u16)
         requires character { c < 128 }
-        requires code { code ≤ 32768 }
+        requires code { code ≤ max_math_code }
         ensures is { self.new ≡ with_math_code self.old c code }
         ensures one { ChangesMathCode self.old self.new c code }
     {

@@ -133,7 +133,7 @@ static FUNCTION_MACROS: [(&[u8], &[u8]); 22] = [
     (b"deg", b"\\mathop{\\rm deg}\\nolimits"),
 ];
 
-/// Names of function_macros.
+/// Macros of the names of functions, such as `\sin` (The TeXbook, chapter 18).
 pub fn function_macros() -> &'static [MacroText]
     ensures is { lent_texts result.now ≡ function_macros }
     ensures sound { AreBodyTexts (lent_texts result.now) }
@@ -153,7 +153,7 @@ static LIMIT_MACROS: [(&[u8], &[u8]); 8] = [
     (b"gcd", b"\\mathop{\\rm gcd}"),
 ];
 
-/// Names of function_macros that take limits.
+/// Macros of the names of functions that take limits, such as `\lim` (The TeXbook, chapter 18).
 pub fn limit_macros() -> &'static [MacroText]
     ensures is { lent_texts result.now ≡ limit_macros }
     ensures sound { AreBodyTexts (lent_texts result.now) }

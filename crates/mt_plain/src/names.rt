@@ -29,7 +29,7 @@ fn row_name(row: &NameRow) -> &[u8]
 }
 
 // What a table has for a name.
-fn find(table: &[NameRow], name: &[u8]) -> Option<Meaning>
+fn meaning_in(table: &[NameRow], name: &[u8]) -> Option<Meaning>
     requires { in_order (map row_name table.now) ≡ true }
     ensures { Finds result table.now name.now }
 {
@@ -43,5 +43,5 @@ fn find(table: &[NameRow], name: &[u8]) -> Option<Meaning>
 pub fn meaning_of(name: &[u8]) -> Option<Meaning>
     ensures { result ≡ control name.now }
 {
-    find(meanings(), name)
+    meaning_in(meanings(), name)
 }

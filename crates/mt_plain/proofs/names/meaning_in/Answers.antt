@@ -3,7 +3,7 @@ use Rattle.std.proofs.lemmas.Fn.{always_returns_same}
 use Rattle.std.specs.Cmp.Lexicographic.{slice_cmp}
 use Rattle.mt_plain.specs.Names.{NameRow, row_name}
 use Rattle.mt_plain.proofs.Searching.{found, missed}
-use Rattle.mt_plain.proofs.names.find.Goals as goal
+use Rattle.mt_plain.proofs.names.meaning_in.Goals as goal
 
 pub returns-in-Ok : goal.returns-in-Ok
 returns-in-Ok c =
