@@ -22,6 +22,7 @@ use Rattle.mt_box.proofs.Lists.{nil_right}
 use Rattle.mt_box.proofs.SpreadOut.{spread_append}
 use Rattle.mt_rules.specs.declared.part_error.PartError.{PartError}
 use Rattle.mt_rules.specs.declared.part_error.PartError.TheVariants.{Overflow as PartOverflow, TooTall as PartTooTall, OutOfMemory as NoPartMemory}
+use Rattle.mt_box.specs.Limits.{max_repeats}
 use Rattle.mt_rules.specs.Setting.{Setting, SettingFault, Overflow, TooTall, ◌>>◌, make_box, test_extents}
 use Rattle.mt_rules.specs.Calls.{PartAnswers}
 use Rattle.mt_rules.specs.Symbols.{extents_without_italic}
@@ -31,7 +32,7 @@ use Rattle.mt_rules.proofs.Appends.{entry_values-append, column_level-append, mo
 use Rattle.mt_delim.specs.declared.extensible.Run.{Run}
 use Rattle.mt_delim.specs.declared.extensible.Run.TheVariants.{Piece, Repeats}
 use Rattle.mt_delim.specs.Glyphs.{glyph_entries, ColumnAnswers}
-use Rattle.mt_delim.specs.Runs.{run_glyphs, glyphs_of, IsFew, AreFew, MoreGlyphs, GlyphsAnswers, ExtentsAnswers}
+use Rattle.mt_delim.specs.inner.Runs.{run_glyphs, glyphs_of, IsFew, AreFew, MoreGlyphs, GlyphsAnswers, ExtentsAnswers}
 use Rattle.mt_delim.proofs.Pieces.{There}
 
 -- ---- the runs of a recipe
@@ -131,7 +132,7 @@ stack_wide number c (suc n) e h = h.width
 pub repeats_none : (number : ℕ) (m : Metrics) (n c : ℕ) (old : List Entry) → n ≡ 0 → MoreGlyphs number m (replicate n c) old old
 repeats_none number m n c old e = none_more number m (replicate n c) old (ap (λ k. replicate k c) e)
 
-pub repeats_more : (number : ℕ) (m : Metrics) (n c : ℕ) (old new : List Entry) (e : Extents) → new ≡ old ++ Stack number c e n ∷ [] → e ≡ extents_without_italic m c → ExtentsInRange e → test_extents (extents_without_italic m c) ≡ Ok tt → n ≤ 2000 → MoreGlyphs number m (replicate n c) old new
+pub repeats_more : (number : ℕ) (m : Metrics) (n c : ℕ) (old new : List Entry) (e : Extents) → new ≡ old ++ Stack number c e n ∷ [] → e ≡ extents_without_italic m c → ExtentsInRange e → test_extents (extents_without_italic m c) ≡ Ok tt → n ≤ max_repeats → MoreGlyphs number m (replicate n c) old new
 repeats_more number m n c old new e is same range passes few =
     let boxes = replicate n (EntryBox (pos 0) (glyph_layout number c e)) in
     entry_more number m (replicate n c) old new (Stack number c e n) is (repeats_pass m n c passes)

@@ -2,27 +2,25 @@
 ghost use Rattle.std.specs.Prelude.{◌≡◌, ◌^◌, ◌≤◌, ◌+ℤ◌, ◌++◌, ◌∷◌, [], IsTrue, IfOk, All, length, replicate, ◌==◌, if◌then◌else◌};
 ghost use Rattle.std.specs.List.{slice_get};
 ghost use Rattle.mt_scaled.specs.Number.{Within, max_dimen};
-ghost use Rattle.mt_tfm.specs.Font.{exists, width_of, height_of, italic_of};
+ghost use Rattle.mt_tfm.specs.Font.{exists, height_of};
 ghost use Rattle.mt_tfm.specs.Checks.{recipe_fits};
 ghost use Rattle.mt_box.specs.Boxes.{glyph_layout};
 ghost use Rattle.mt_box.specs.Columns.{entry_values, column_width, column_level, stack, AllModestEntries};
 ghost use Rattle.mt_box.specs.Extents.{ExtentsInRange};
+ghost use Rattle.mt_box.specs.Limits.{max_repeats};
 ghost use Rattle.mt_rules.specs.Symbols.{extents_without_italic};
 ghost use Rattle.mt_rules.specs.Setting.{make_box};
 ghost use Rattle.mt_rules.specs.Calls.{PartAnswers};
 ghost use Rattle.mt_rules.specs.Extensibles.{extensible_layout, recipe_piece, recipe_pieces, first_height as first_height_of};
 ghost use Rattle.mt_delim.specs.Glyphs.{ColumnAnswers, layout_with_width};
-ghost use Rattle.mt_delim.specs.Runs.{run_glyphs, glyphs_of, IsFew, AreFew, GlyphsAnswers, ExtentsAnswers};
+ghost use Rattle.mt_delim.specs.inner.Runs.{run_glyphs, glyphs_of, IsFew, AreFew, GlyphsAnswers, ExtentsAnswers};
 
 use crate::repeats::repeats;
-use mt_box::{Column, Entry, Extents, Packed, first_out, glyph_box, vpack};
-use mt_rules::{PartError, with_width};
+use mt_box::{Column, Entry, Extents, MAX_REPEATS, Packed, first_out, glyph_box, vpack};
+use mt_rules::{PartError, extents_without_italic, width_with_italic, with_width};
 use mt_scaled::{Length, in_range};
 use mt_tfm::{Font, Recipe};
 use std::alloc::{AllocError, Global};
-
-// More repeats than these are refused.
-const MAX_REPEATS: u64 = 2000;
 
 /// The box of an extensible character for a wanted size.
 ///
@@ -50,7 +48,7 @@ pub fn extensible_box(
     pack_to_width(alloc, column, top, width_with_italic(font, recipe.repeat))
 }
 
-// Glyphs of one character, one below the other: a piece, none where its code is 0, or repeats.
+// Glyphs of one character, one below another: a piece, none where its code is 0, or repeats.
 #[derive(Clone, Copy)]
 enum Run {
     Piece(u8),
@@ -73,7 +71,7 @@ impl Run {
 // The pieces from the top: top, repeats and bottom, with a middle between as many repeats at both
 // sides.
 fn runs_of(recipe: Recipe, n: u64) -> [Run; 5]
-    requires { n ≤ 2000 }
+    requires { n ≤ max_repeats }
     ensures is { glyphs_of result ≡ recipe_pieces recipe n }
     ensures few { AreFew result }
 {
@@ -157,7 +155,7 @@ fn piece_box(alloc: Global, font: &Font, number: u16, code: u8) -> Result<Packed
     ensures level { IfOk result (λ b. b.level ≡ 1) }
     ensures in_range { IfOk result (λ b. ExtentsInRange b.extents) }
 {
-    let extents = glyph_extents(font, code);
+    let extents = extents_without_italic(font, code);
     Ok(glyph_box(alloc, number, code, extents)?)
 }
 
@@ -170,7 +168,7 @@ fn with_repeats(
     count: u64,
 ) -> Result<Column, PartError>
     requires there { All (λ c. IsTrue (exists font.now c)) (replicate count code) }
-    requires few { count ≤ 2000 }
+    requires few { count ≤ max_repeats }
     ensures { GlyphsAnswers number font.now (replicate count code) column result }
 {
     if count == 0 {
@@ -191,7 +189,7 @@ fn tested_extents(font: &Font, code: u8) -> Result<Extents, PartError>
     requires { IsTrue (exists font.now code) }
     ensures { ExtentsAnswers font.now code result }
 {
-    let extents = glyph_extents(font, code);
+    let extents = extents_without_italic(font, code);
     match first_out(extents) {
         Some(value) => Err(PartError::Overflow(value)),
         None => Ok(extents),
@@ -204,30 +202,6 @@ fn with_entry(column: Column, entry: Entry) -> Result<Column, AllocError>
     let mut entries = column.into_vec();
     entries.push(entry)?;
     Ok(Column::from_vec(entries))
-}
-
-/// How far a glyph reaches.
-pub fn glyph_extents(font: &Font, code: u8) -> Extents
-    requires { IsTrue (exists font.now code) }
-    ensures { result ≡ extents_without_italic font.now code }
-{
-    Extents {
-        width: font.width(code),
-        height: font.height(code),
-        depth: font.depth(code),
-    }
-}
-
-/// The width of a character with its italic correction.
-#[tactic(auto, using(std::proofs::lemmas::Int::ints))]
-pub fn width_with_italic(font: &Font, code: u8) -> Length
-    requires { IsTrue (exists font.now code) }
-    ensures is { result.sp ≡ width_of font.now code +ℤ italic_of font.now code }
-    ensures small { Within (2 ^ 32) result.sp }
-{
-    Length {
-        sp: font.width(code) + font.italic(code),
-    }
 }
 
 // The height of the first glyph.

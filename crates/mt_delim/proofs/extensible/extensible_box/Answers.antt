@@ -1,5 +1,5 @@
 use Rattle.mt_box.specs.Columns.{entry_values}
-use Rattle.mt_delim.specs.Runs.{glyphs_of}
+use Rattle.mt_delim.specs.inner.Runs.{glyphs_of}
 use Rattle.std.proofs.lemmas.Result.{err_from_is_err_and}
 use Rattle.mt_delim.proofs.Pieces.{pieces_there}
 use Rattle.mt_delim.proofs.Extended.{extensible_fails, extensible_made}

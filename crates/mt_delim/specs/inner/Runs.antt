@@ -5,6 +5,7 @@ use Rattle.mt_tfm.specs.Font.{Metrics}
 use Rattle.mt_box.specs.declared.extents.Extents.{Extents}
 use Rattle.mt_box.specs.declared.entry.Entry.{Entry}
 use Rattle.mt_box.specs.Extents.{ExtentsInRange}
+use Rattle.mt_box.specs.Limits.{max_repeats}
 use Rattle.mt_box.specs.Columns.{entry_values, spread_out, column_width, column_level, AllModestEntries}
 use Rattle.mt_rules.specs.declared.part_error.PartError.{PartError}
 use Rattle.mt_rules.specs.declared.part_error.PartError.TheVariants.{Overflow as PartOverflow, TooTall as PartTooTall, OutOfMemory as NoPartMemory}
@@ -27,7 +28,7 @@ glyphs_of (r ∷ rs) = run_glyphs r ++ glyphs_of rs
 -- no more repeats than a stack may have
 abbrev pub IsFew : Run → Type 0
 IsFew (Piece code) = ⊤
-IsFew (Repeats code count) = count ≤ 2000
+IsFew (Repeats code count) = count ≤ max_repeats
 
 abbrev pub AreFew : List Run → Type 0
 AreFew [] = ⊤

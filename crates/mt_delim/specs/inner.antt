@@ -1,0 +1,2 @@
+-- runs of glyphs
+pub mod Runs
