@@ -20,12 +20,13 @@ use Rattle.mt_family.specs.declared.error.ListError.TheVariants.{BadLine, Repeat
 use Rattle.mt_family.specs.declared.error.SetError.{SetError}
 use Rattle.mt_family.specs.declared.error.SetError.TheVariants.{NoMathFamily, FewParameters, OutOfMemory as NoSetMemory}
 use Rattle.mt_family.specs.declared.line.FamilyFields.{FamilyFields}
-use Rattle.mt_family.specs.declared.line.Line.{Line}
-use Rattle.mt_family.specs.declared.line.Line.TheVariants.{Nothing, Font, Family}
+use Rattle.mt_family.specs.declared.line.ListLine.{ListLine}
+use Rattle.mt_family.specs.declared.line.ListLine.TheVariants.{Nothing, Font, Family}
 use Rattle.mt_family.specs.declared.list.FamilyLine.{FamilyLine}
 use Rattle.mt_family.specs.declared.list.FontLine.{FontLine}
 use Rattle.mt_family.specs.declared.size.Size.{Size}
 use Rattle.mt_family.specs.declared.size.Size.TheVariants.{Text, Script, Scriptscript}
+use Rattle.mt_family.specs.Limits.{max_fonts}
 use Rattle.mt_family.specs.Lines.{line_of}
 use Rattle.mt_family.specs.ListFacts.{ListValue}
 use Rattle.mt_family.specs.Lists.{font_list, has_family, has_font, is_known, lines_of, nothing, with_family, with_font, with_form, with_line, with_lines}
@@ -39,14 +40,14 @@ use Rattle.mathset.proofs.Avoiding.{Avoids, Lacks, avoids_err, avoids_if, avoids
 
 font_line_avoids : (n : ℕ) (list : ListValue) (f : FontLine) → Avoids NoListMemory (with_font n list f)
 font_line_avoids n list f =
-    avoids_if NoListMemory (has_font list.lines f) _ _ (λ same. cc) (avoids_if NoListMemory (nat_le 48 (length list.lines)) _ _ (λ same. cc) (λ same. cc))
+    avoids_if NoListMemory (has_font list.lines f) _ _ (λ same. cc) (avoids_if NoListMemory (nat_le max_fonts (length list.lines)) _ _ (λ same. cc) (λ same. cc))
 
 family_line_avoids : (n : ℕ) (list : ListValue) (f : FamilyFields) → Avoids NoListMemory (with_family n list f)
 family_line_avoids n list f =
     avoids_if NoListMemory (has_family list.families f.fam) _ _ (λ same. cc)
     (avoids_if NoListMemory (is_known (length list.lines) f.text && is_known (length list.lines) f.script && is_known (length list.lines) f.scriptscript) _ _ (λ same. cc) (λ same. cc))
 
-form_avoids : (n : ℕ) (list : ListValue) (form : Option Line) → Avoids NoListMemory (with_form n list form)
+form_avoids : (n : ℕ) (list : ListValue) (form : Option ListLine) → Avoids NoListMemory (with_form n list form)
 form_avoids n list None = λ same. cc
 form_avoids n list (Some Nothing) = λ same. cc
 form_avoids n list (Some (Font f)) = font_line_avoids n list f

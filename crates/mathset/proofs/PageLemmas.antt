@@ -13,7 +13,7 @@ use Rattle.mt_box.specs.declared.place.Place.{Place}
 use Rattle.mt_box.specs.declared.place.Place.TheVariants.{Glyph, Rule}
 use Rattle.mt_dvi.specs.Writable.{HasGlyph, IsWritable}
 use Rattle.mt_dvi.specs.WrittenPlaces.{all_places}
-use Rattle.mt_dvi.specs.Limits.{max_places, max_pages}
+use Rattle.mt_dvi.specs.Limits.{max_places, max_dvi_pages}
 use Rattle.mt_dvi.specs.Refusal.{refusal_of}
 use Rattle.mt_display.specs.Lines.{LineValue}
 use Rattle.mt_display.specs.Stack.{stacked_lines}
@@ -77,7 +77,7 @@ less_room pages page room fits full =
 -- pages with no more places than there may be are not refused
 pub pages_few : (pages : List (List Place)) → length pages ≤ 5000 → length (all_places pages) ≤ max_places → refusal_of pages ≡ None
 pages_few pages few places =
-    let pages_in : nat_lt max_pages (length pages) ≡ false = grind (arith, nat_tests) in
+    let pages_in : nat_lt max_dvi_pages (length pages) ≡ false = grind (arith, nat_tests) in
     let places_in : nat_lt max_places (length (all_places pages)) ≡ false = grind (arith, nat_tests) in
     rw (pages_in, places_in) refl
 

@@ -13,11 +13,11 @@ use Rattle.mt_dvi.specs.Trace.{Opcode}
 use Rattle.mt_dvi.specs.Lean.{Across, Downward}
 use Rattle.mt_dvi.specs.File.{Continues, file_step}
 use Rattle.mt_dvi.specs.writer.Emits.{Emits, own_code, own_size}
-use Rattle.mt_dvi.specs.writer.Held.{EmitsMove, held_after, with_next}
+use Rattle.mt_dvi.specs.writer.HeldAmounts.{EmitsMove, held_after, with_next}
 use Rattle.mt_dvi.specs.writer.LeadsTo.{Reached, at_offset_of, in_page, machine_at, with_opcodes}
 use Rattle.mt_dvi.specs.writer.Stands.{Arrived, Lowered, Shifted, Stands}
 use Rattle.mt_family.specs.SetValue.{SetValue}
-use Rattle.mt_dvi.specs.declared.moves.Held.{Held}
+use Rattle.mt_dvi.specs.declared.moves.HeldAmounts.{HeldAmounts}
 use Rattle.mt_dvi.specs.declared.moves.MoveForm.{MoveForm}
 use Rattle.mt_dvi.specs.declared.moves.MoveForm.TheVariants.{None, First, Second, Bytes}
 use Rattle.mt_dvi.specs.declared.page.Cursor.{Cursor}
@@ -101,7 +101,7 @@ step_x0 : (fonts : SetValue) (reached : Reached) (c : Cursor) (rest : List ℕ) 
     → file_step fonts (in_page reached c).file (Add X) rest ≡ Continues (in_page reached (record c { h = c.h +ℤ c.across.second })).file
 step_x0 fonts reached c rest h v = rw (h, v) refl
 
-sets_across : (fonts : SetValue) (old new : List ℕ) (reached : Reached) (h v first second : ℤ) (second_next : Bool) (downward : Held) (font : Option ℕ) (by : ℤ)
+sets_across : (fonts : SetValue) (old new : List ℕ) (reached : Reached) (h v first second : ℤ) (second_next : Bool) (downward : HeldAmounts) (font : Option ℕ) (by : ℤ)
     → is_far (h +ℤ by) ≡ false → is_far v ≡ false → IsOperand by first second → Emits 5 old new (Set (if second_next then X else W) by)
     → Stands fonts old reached (record { h = h; v = v; across = record { first = first; second = second; second_next = second_next }; downward = downward; font = font }) Arrived
     → Stands fonts new reached (record { h = h +ℤ by; v = v; across = with_next (record { first = first; second = second; second_next = second_next }) by; downward = downward; font = font }) Shifted
@@ -199,7 +199,7 @@ step_z0 : (fonts : SetValue) (reached : Reached) (c : Cursor) (rest : List ℕ) 
     → file_step fonts (in_page reached c).file (Add Z) rest ≡ Continues (in_page reached (record c { v = c.v +ℤ c.downward.second })).file
 step_z0 fonts reached c rest h v = rw (h, v) refl
 
-sets_downward : (fonts : SetValue) (old new : List ℕ) (reached : Reached) (h v first second : ℤ) (second_next : Bool) (across : Held) (font : Option ℕ) (by : ℤ)
+sets_downward : (fonts : SetValue) (old new : List ℕ) (reached : Reached) (h v first second : ℤ) (second_next : Bool) (across : HeldAmounts) (font : Option ℕ) (by : ℤ)
     → is_far h ≡ false → is_far (v +ℤ by) ≡ false → IsOperand by first second → Emits 5 old new (Set (if second_next then Z else Y) by)
     → Stands fonts old reached (record { h = h; v = v; downward = record { first = first; second = second; second_next = second_next }; across = across; font = font }) Shifted
     → Stands fonts new reached (record { h = h; v = v +ℤ by; downward = with_next (record { first = first; second = second; second_next = second_next }) by; across = across; font = font }) Lowered

@@ -5,7 +5,7 @@ use Rattle.std.specs.Ordering.{int_eq}
 use Rattle.std.proofs.lemmas.Bool.Decides.{nat_tests}
 use Rattle.std.proofs.lemmas.List.{append-nil, take_more}
 use Rattle.std.proofs.lemmas.List.Elements.{All-append}
-use Rattle.mt_dvi.specs.Limits.{max_pages, max_places}
+use Rattle.mt_dvi.specs.Limits.{max_dvi_pages, max_places}
 use Rattle.mt_dvi.specs.Codes.{Bop, Eop}
 use Rattle.mt_dvi.specs.writer.Emits.{FitsFourBytes, Emits}
 use Rattle.mt_dvi.specs.File.{BetweenPages, Continues, Page, at_start, empty_page, file_step}
@@ -164,7 +164,7 @@ pages_next fonts old_out out new_out defined new_defined last all i d number lt 
     (subst (λ (k : ℕ). WritesPage fonts out new_out defined new_defined k last (get_or all i d)) n one) long)
 
 pub pages_size : (fonts : SetValue) (old_out out defined : List ℕ) (last : ℤ) (all : List (List Place)) (i : ℕ) → PagesSoFar fonts old_out out defined last (take i all)
-    → length old_out ≤ 15 → length all ≤ max_pages → length (all_places all) ≤ max_places → length defined ≤ 48 → i ≤ length all → length out ≤ 41027633
+    → length old_out ≤ 15 → length all ≤ max_dvi_pages → length (all_places all) ≤ max_places → length defined ≤ 48 → i ≤ length all → length out ≤ 41027633
 pages_size fonts old_out out defined last all i so_far first few places fonts_few lt =
     let a = so_far.long in omega (arith, a, take_long all i lt, joined_take all i)
 

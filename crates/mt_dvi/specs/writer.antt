@@ -3,7 +3,7 @@ pub mod Emits
 -- where the machine is after the first bytes of a file, and what a part of the writer adds to them
 pub mod LeadsTo
 -- what the registers of an axis hold, and how an amount is moved by
-pub mod Held
+pub mod HeldAmounts
 -- the greatest edges of places
 pub mod Greatest
 -- the opcodes of a page so far, and what a part of the writer adds to them

@@ -7,7 +7,7 @@ ghost use Rattle.mt_dvi.specs.WrittenPlaces.{page_counts};
 
 use crate::opcode::{
     BOP, EOP, FNT_DEF1, FNT_NUM_0, IDENTIFIER, POST, POST_POST, PRE, PUT_RULE, PUT1, SET_RULE,
-    SET1, UNIT, W0, X0, Y0, Z0,
+    SET1, UNIT, W_0, X_0, Y_0, Z_0,
 };
 use std::alloc::AllocError;
 
@@ -55,10 +55,10 @@ fn zero_opcode(register: Register) -> u8
     ensures { result ≡ zero_code (register_value register) }
 {
     match register {
-        Register::W => W0,
-        Register::X => X0,
-        Register::Y => Y0,
-        Register::Z => Z0,
+        Register::W => W_0,
+        Register::X => X_0,
+        Register::Y => Y_0,
+        Register::Z => Z_0,
     }
 }
 

@@ -2,7 +2,7 @@
 ghost use Rattle.std.specs.Prelude.{◌≡◌, ◌<◌, ◌≤◌, ◌+◌, ◌-◌, ◌*◌, ◌^◌, min, [], length, All, Ok, OnOk, IfOk};
 ghost use Rattle.mt_family.specs.SetValue.{IsSet};
 ghost use Rattle.mt_dvi.specs.File.{Dvi};
-ghost use Rattle.mt_dvi.specs.Limits.{max_pages, max_places};
+ghost use Rattle.mt_dvi.specs.Limits.{max_dvi_pages, max_places};
 ghost use Rattle.mt_dvi.specs.writer.Emits.{FitsFourBytes};
 ghost use Rattle.mt_dvi.specs.Writable.{IsWritable};
 ghost use Rattle.mt_dvi.specs.WrittenPlaces.{all_places};
@@ -28,7 +28,7 @@ use std::alloc::{AllocError, Global};
 pub type DviBytes = Items<u8>;
 
 // A file states the number of its pages in two bytes.
-const MAX_PAGES: usize = 65_535;
+const MAX_DVI_PAGES: usize = 65_535;
 
 /// The most places on all pages of a DVI file together.
 pub const MAX_PLACES: u64 = 2_000_000;
@@ -70,7 +70,7 @@ fn write_pages(
 ) -> Result<i64, AllocError>
     requires set { IsSet fonts.now }
     requires can { All (λ page. All (IsWritable fonts.now) page) pages.now }
-    requires few { length pages.now ≤ max_pages }
+    requires few { length pages.now ≤ max_dvi_pages }
     requires places { length (all_places pages.now) ≤ max_places }
     requires first { length out.old.items ≤ 15 }
     requires none { defined.old.items ≡ [] }
@@ -129,7 +129,7 @@ fn count_places(pages: &[PlaceList]) -> usize
 // The file of pages that are few enough.
 fn write_file(alloc: Global, fonts: &FontSet, pages: &[PlaceList]) -> Result<Vec<u8>, AllocError>
     requires can { All (λ page. All (IsWritable fonts.now) page) pages.now }
-    requires few { length pages.now ≤ max_pages }
+    requires few { length pages.now ≤ max_dvi_pages }
     requires places { length (all_places pages.now) ≤ max_places }
     ensures written { IfOk result (λ bytes. Written fonts.now bytes.items pages.now) }
     ensures lean { IfOk result (λ bytes. Lean fonts.now bytes.items) }
@@ -183,7 +183,7 @@ pub fn write_dvi(
     ensures refused { refusal_in result ≡ refusal_of pages.now }
 {
     let pages = pages.as_slice();
-    if pages.len() > MAX_PAGES {
+    if pages.len() > MAX_DVI_PAGES {
         return Err(DviWriteError::TooManyPages(pages.len() as u64));
     }
     let count = count_places(pages) as u64;

@@ -7,7 +7,7 @@ mod error;
 mod file;
 mod fonts;
 mod moves;
-mod opcode;
+pub mod opcode;
 mod page;
 
 pub use error::DviWriteError;

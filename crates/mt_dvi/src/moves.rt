@@ -1,7 +1,7 @@
 //! How an amount is moved by in the fewest bytes.
 ghost use Rattle.std.specs.Prelude.{◌≡◌, ◌≤◌, nat_abs};
 ghost use Rattle.mt_dvi.specs.Moves.{least_size, move_form};
-ghost use Rattle.mt_dvi.specs.writer.Held.{with_next};
+ghost use Rattle.mt_dvi.specs.writer.HeldAmounts.{with_next};
 
 /// How an amount is moved by, where two registers hold amounts.
 #[derive(Clone, Copy, Debug, PartialEq, Eq)]
@@ -54,7 +54,7 @@ pub fn move_code(amount: i64, first: i64, second: i64) -> MoveForm
 
 /// What the two registers of an axis hold, and which of them the next operand goes to.
 #[derive(Clone, Copy, Debug)]
-pub struct Held {
+pub struct HeldAmounts {
     /// What w or y holds, in scaled points.
     pub first: i64,
     /// What x or z holds, in scaled points.
@@ -63,7 +63,7 @@ pub struct Held {
     pub second_next: bool,
 }
 
-impl Held {
+impl HeldAmounts {
     /// Gives the register whose turn it is the next operand.
     pub fn set_next(&mut self, amount: i64)
         ensures { self.new ≡ with_next self.old amount }

@@ -7,7 +7,7 @@ ghost use Rattle.mt_dvi.specs.Machine.{is_far};
 ghost use Rattle.mt_dvi.specs.Moves.{move_form};
 ghost use Rattle.mt_dvi.specs.writer.Emits.{FitsFourBytes, register_value};
 ghost use Rattle.mt_dvi.specs.writer.Greatest.{edges_after};
-ghost use Rattle.mt_dvi.specs.writer.Held.{EmitsMove, held_after};
+ghost use Rattle.mt_dvi.specs.writer.HeldAmounts.{EmitsMove, held_after};
 ghost use Rattle.mt_dvi.specs.writer.Stands.{Arrived, FillsPlace, Introduces, IsAt, IsNoneOrAmong, Lowered, Selects, Stands, WritesPlace, WritesPlaces};
 ghost use Rattle.mt_dvi.specs.Writable.{HasGlyph, InRange, IsWritable};
 ghost use Rattle.mt_dvi.specs.WrittenPlaces.{first_of};
@@ -17,7 +17,7 @@ use crate::edges::{GreatestEdges, lower_edge, right_edge};
 use crate::emit;
 use crate::emit::Register;
 use crate::fonts::{define, is_defined};
-use crate::moves::{Held, MoveForm, move_code};
+use crate::moves::{HeldAmounts, MoveForm, move_code};
 use mt_box::Place;
 use mt_family::FontSet;
 use std::alloc::AllocError;
@@ -30,9 +30,9 @@ pub struct Cursor {
     /// In scaled points, below the page's origin.
     pub v: i64,
     /// w and x.
-    pub across: Held,
+    pub across: HeldAmounts,
     /// y and z.
-    pub downward: Held,
+    pub downward: HeldAmounts,
     /// The font's number in the set.
     pub font: Option<u16>,
 }
@@ -46,7 +46,7 @@ const AT_ORIGIN: Cursor = Cursor {
     font: None,
 };
 
-const NOTHING_HELD: Held = Held {
+const NOTHING_HELD: HeldAmounts = HeldAmounts {
     first: 0,
     second: 0,
     second_next: false,
@@ -63,7 +63,7 @@ fn next_register(second_next: bool, first: Register, second: Register) -> Regist
 #[tactic(auto, using(crate::proofs::Prefix::longer))]
 fn write_move(
     out: &mut Vec<u8>,
-    held: &mut Held,
+    held: &mut HeldAmounts,
     first: Register,
     second: Register,
     amount: i64,

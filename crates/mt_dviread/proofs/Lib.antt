@@ -7,7 +7,7 @@ pub mod MachineLemmas
 -- what is kept of a file after an operation
 pub mod OpenFiles
 -- the turns of the loop
-pub mod Turns
+pub mod AfterOperations
 -- how many operands an opcode has
 pub mod Sizes
 -- which opcodes are which operations

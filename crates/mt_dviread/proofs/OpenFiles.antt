@@ -19,8 +19,8 @@ use Rattle.mt_dviread.specs.declared.cause.Cause.{Cause}
 use Rattle.mt_dviread.specs.declared.definitions.Definitions.{Definitions}
 use Rattle.mt_dviread.specs.declared.file.Phase.{Phase}
 use Rattle.mt_dviread.specs.declared.file.Phase.TheVariants as phases
-use Rattle.mt_dviread.specs.declared.file.Turn.{Turn}
-use Rattle.mt_dviread.specs.declared.file.Turn.TheVariants as turns
+use Rattle.mt_dviread.specs.declared.file.AfterOperation.{AfterOperation}
+use Rattle.mt_dviread.specs.declared.file.AfterOperation.TheVariants as turns
 use Rattle.mt_dviread.specs.declared.operation.Postamble.{Postamble}
 use Rattle.mt_dviread.specs.declared.operation.Definition.{Definition}
 use Rattle.mt_dviread.specs.declared.operation.Operation.{Operation}
@@ -333,7 +333,7 @@ special_goes fonts o file bytes s = (
 )
 
 -- a step of the phase that the reader is in
-pub steps : (fonts : SetValue) (o new : OpenFile) (p : Phase) (result : Result Turn Cause) (file : files.File) (meant : codes.Operation) (after : List ℕ) → Sees fonts o file → o.phase ≡ p
+pub steps : (fonts : SetValue) (o new : OpenFile) (p : Phase) (result : Result AfterOperation Cause) (file : files.File) (meant : codes.Operation) (after : List ℕ) → Sees fonts o file → o.phase ≡ p
     → Follows fonts result new (files.phase_step (phase_of p) fonts file meant after) → Follows fonts result new (files.file_step fonts file meant after)
 steps fonts o new p result file meant after s e h =
     subst (λ (x : files.Phase). Follows fonts result new (files.phase_step x fonts file meant after)) (sym (s.phase ∙ ap phase_of e)) h

@@ -1,5 +1,5 @@
 -- The numbers and the places of errors: those of the faults that they tell.
-use Rattle.std.specs.Prelude.{ℕ, Option, Some, None}
+use Rattle.std.specs.Prelude.{ℕ, Option}
 use Rattle.std.specs.Option.{option_map, option_map_or}
 use Rattle.mt_dvi.specs.Machine.{Cause, Truncated, BadOpcode, BadPreamble, BadPointer, BadPost, UnknownFont, MissingChar, StackEmpty, TooDeep, OutOfRange, TooMany}
 use Rattle.mt_dvi.specs.File.{Fault}

@@ -15,7 +15,7 @@ use std::collections::BTreeMap;
 
 // What the first definition of a number says.
 #[derive(Clone, Copy, Debug, Drop)]
-struct Entry<'a> {
+struct DefinedFont<'a> {
     name: &'a [u8],
     size: u32,
     // The number in the set of the font of this name and size.
@@ -25,7 +25,7 @@ struct Entry<'a> {
 /// The fonts that a file has defined, by their numbers in the file.
 #[derive(Drop)]
 pub struct Definitions<'a> {
-    by_number: BTreeMap<u32, Entry<'a>>,
+    by_number: BTreeMap<u32, DefinedFont<'a>>,
 }
 
 // The number in the set of the font that a definition names.
@@ -60,7 +60,7 @@ impl<'a> Definitions<'a> {
         }
     }
 
-    fn insert(&mut self, number: u32, entry: Entry<'a>) -> Result<(), AllocError>
+    fn insert(&mut self, number: u32, entry: DefinedFont<'a>) -> Result<(), AllocError>
         ensures { OnOk result ((n : ℕ) → get nat_cmp self.new.by_number n
             ≡ cond (is_at (nat_cmp number) n) (Some entry.entry) (get nat_cmp self.old.by_number n)) }
     {
@@ -83,7 +83,7 @@ impl<'a> Definitions<'a> {
                 }
             }
             None => {
-                let entry = Entry {
+                let entry = DefinedFont {
                     name: definition.name,
                     size: definition.size,
                     font: font_named(fonts, definition),

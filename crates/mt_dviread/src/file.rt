@@ -17,6 +17,7 @@ use crate::operation::{Definition, Operation, Postamble, Preamble};
 use crate::page::OpenPage;
 use mt_box::{Place, PlaceList};
 use mt_dvi::MAX_PLACES;
+use mt_dvi::opcode::{IDENTIFIER, PADDING};
 use mt_family::FontSet;
 use std::alloc::{AllocError, Global};
 use std::mem;
@@ -25,12 +26,6 @@ use std::mem;
 const NUM: u32 = 25_400_000;
 
 const DEN: u32 = 473_628_672;
-
-// The identifier of the format.
-const IDENTIFIER: u32 = 2;
-
-// What stands at the end of a file.
-const PADDING: u8 = 223;
 
 /// Which part of the file the next opcode stands in.
 #[derive(Clone, Copy, Debug, PartialEq, Eq)]
@@ -47,7 +42,7 @@ pub enum Phase {
 
 /// Whether a file goes on after an operation.
 #[derive(Clone, Copy, Debug, PartialEq, Eq)]
-pub enum Turn {
+pub enum AfterOperation {
     /// It goes on.
     Continues,
     /// It has been read to its end.
@@ -85,7 +80,7 @@ fn is_scaled_point(num: u32, den: u32) -> bool
 fn is_preamble(preamble: Preamble) -> bool
     ensures { (meant : codes.Preamble) → IsPreamble preamble meant → result ≡ files.is_preamble meant }
 {
-    preamble.version == IDENTIFIER
+    preamble.version == u32::from(IDENTIFIER)
         && is_scaled_point(preamble.num, preamble.den)
         && preamble.mag > 0
 }
@@ -116,7 +111,7 @@ impl<'a> OpenFile<'a> {
         fonts: &FontSet,
         operation: Operation<'a>,
         after: &[u8],
-    ) -> Result<Turn, Cause>
+    ) -> Result<AfterOperation, Cause>
         requires small { self.old.at < 2 ^ 63 }
         ensures follows { (file : files.File) (meant : codes.Operation)
             → Sees fonts.now self.old file → IsOperation operation.entry meant
@@ -126,15 +121,15 @@ impl<'a> OpenFile<'a> {
         match self.phase {
             Phase::BeforePre => {
                 self.before_pre(operation)?;
-                Ok(Turn::Continues)
+                Ok(AfterOperation::Continues)
             }
             Phase::BetweenPages => {
                 self.between_pages(alloc, fonts, operation)?;
-                Ok(Turn::Continues)
+                Ok(AfterOperation::Continues)
             }
             Phase::InPage => {
                 self.in_page(alloc, fonts, operation)?;
-                Ok(Turn::Continues)
+                Ok(AfterOperation::Continues)
             }
             Phase::AfterPost => self.after_post(fonts, operation, after),
         }
@@ -296,7 +291,7 @@ impl<'a> OpenFile<'a> {
             → Goes fonts result self.new (files.eop_step file) }
         ensures at { self.new.at ≡ self.old.at }
     {
-        if self.page.machine.depth() != 0 {
+        if self.page.machine.saved_count() != 0 {
             return Err(Cause::BadOpcode);
         }
         self.phase = Phase::BetweenPages;
@@ -326,7 +321,7 @@ impl<'a> OpenFile<'a> {
             .page
             .machine
             .perform(fonts, &self.definitions, operation)?;
-        self.deepest = self.deepest.max(self.page.machine.depth());
+        self.deepest = self.deepest.max(self.page.machine.saved_count());
         self.fill(place)
     }
 
@@ -350,7 +345,7 @@ impl<'a> OpenFile<'a> {
         fonts: &FontSet,
         operation: Operation<'a>,
         after: &[u8],
-    ) -> Result<Turn, Cause>
+    ) -> Result<AfterOperation, Cause>
         requires phase { self.old.phase ≡ AfterPost }
         ensures follows { (file : files.File) (meant : codes.Operation)
             → Sees fonts.now self.old file → IsOperation operation.entry meant
@@ -361,23 +356,23 @@ impl<'a> OpenFile<'a> {
             Operation::PostPost { post, version } => self.end(post, version, after),
             Operation::Define(definition) => {
                 self.define_again(fonts, definition)?;
-                Ok(Turn::Continues)
+                Ok(AfterOperation::Continues)
             }
-            Operation::Nop => Ok(Turn::Continues),
+            Operation::Nop => Ok(AfterOperation::Continues),
             _ => Err(Cause::BadOpcode),
         }
     }
 
     // At least four bytes are left, and all of them are 223.
-    fn end(&self, post: u32, version: u32, after: &[u8]) -> Result<Turn, Cause>
+    fn end(&self, post: u32, version: u32, after: &[u8]) -> Result<AfterOperation, Cause>
         ensures { (fonts : SetValue) (file : files.File) → Sees fonts self.now file
             → Follows fonts result self.now (files.post_post_step file post version after.now) }
     {
         if after.len() < 4 {
             return Err(Cause::Truncated);
         }
-        if post as usize == self.post_at && version == IDENTIFIER && is_padding(after) {
-            Ok(Turn::Ends)
+        if post as usize == self.post_at && version == u32::from(IDENTIFIER) && is_padding(after) {
+            Ok(AfterOperation::Ends)
         } else {
             Err(Cause::BadPost)
         }

@@ -8,7 +8,7 @@ mod error;
 mod file;
 mod machine;
 mod number;
-mod opcode;
+mod operands;
 mod operation;
 mod page;
 mod read;

@@ -21,8 +21,8 @@ use mt_tfm::Font;
 use std::alloc::{AllocError, Global};
 use std::marker::Model;
 
-// How many registers push saves at most.
-const MAX_DEPTH: usize = 1_000;
+// The most registers that push saves.
+const MAX_PUSHES: usize = 1_000;
 
 /// The registers, in scaled points; h grows to the right and v downward.
 #[derive(Clone, Copy, Debug)]
@@ -153,7 +153,7 @@ impl Machine {
     }
 
     /// How many registers are saved.
-    pub fn depth(&self) -> usize
+    pub fn saved_count(&self) -> usize
         ensures { result ≡ length self.now.saved }
     {
         self.saved.len()
@@ -227,7 +227,7 @@ impl Machine {
     fn push(&mut self) -> Result<Option<Place>, Cause>
         ensures { Performs result self.new (machine.push_effect self.old) }
     {
-        if self.saved.len() >= MAX_DEPTH {
+        if self.saved.len() >= MAX_PUSHES {
             return Err(Cause::TooDeep);
         }
         self.saved.push(self.registers).map_err(AllocError::from)?;

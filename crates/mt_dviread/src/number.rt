@@ -1,7 +1,7 @@
 //! Numbers in the bytes of a file.
 ghost use Rattle.std.specs.Prelude.{◌≡◌, ◌<◌, ◌≤◌, ◌+◌, ◌*◌, ◌^◌, ◌-ℤ◌, ◌<ℤ◌, ◌≤ℤ◌, pos, int_lt, length};
 ghost use Rattle.std.specs.Prelude.{take, drop, get_or, if◌then◌else◌};
-ghost use Rattle.mt_dvi.specs.Codes.{unsigned, signed, part};
+ghost use Rattle.mt_dvi.specs.Codes.{unsigned, signed, bytes_from};
 
 use byteorder::{BigEndian, ByteOrder};
 
@@ -28,9 +28,9 @@ pub fn past(bytes: &[u8], from: usize) -> &[u8]
 }
 
 /// So many bytes from a place on.
-pub fn part(bytes: &[u8], from: usize, count: usize) -> &[u8]
+pub fn bytes_from(bytes: &[u8], from: usize, count: usize) -> &[u8]
     requires { from + count ≤ length bytes.now }
-    ensures is { result.now ≡ part from count bytes.now }
+    ensures is { result.now ≡ bytes_from from count bytes.now }
     ensures long { length result.now ≡ count }
 {
     front(past(bytes, from), count)

@@ -5,8 +5,8 @@ ghost use Rattle.mt_dvi.specs.Codes.{preamble, postamble};
 ghost use Rattle.mt_dvi.specs.Opcodes.{right1, fnt_num_0};
 ghost use Rattle.mt_dviread.specs.inner.Operations.{IsDefinition, IsPreamble, IsPostamble, IsOperation};
 
-use crate::number::{byte, front, part, past, signed, unsigned};
-use crate::opcode::*;
+use crate::number::{byte, bytes_from, front, past, signed, unsigned};
+use mt_dvi::opcode::*;
 
 /// The registers that hold amounts: w and x are added to h, y and z to v.
 #[derive(Clone, Copy, Debug, PartialEq, Eq)]
@@ -127,8 +127,8 @@ impl<'a> Definition<'a> {
         let area = byte(operands, count + 12);
         Definition {
             number: unsigned(front(operands, count)),
-            size: unsigned(part(operands, count + 4, 4)),
-            area: part(operands, count + 14, area),
+            size: unsigned(bytes_from(operands, count + 4, 4)),
+            area: bytes_from(operands, count + 14, area),
             name: past(operands, count + 14 + area),
         }
     }
@@ -141,9 +141,9 @@ impl Preamble {
     {
         Preamble {
             version: u32::from(operands[0]),
-            num: unsigned(part(operands, 1, 4)),
-            den: unsigned(part(operands, 5, 4)),
-            mag: signed(part(operands, 9, 4)),
+            num: unsigned(bytes_from(operands, 1, 4)),
+            den: unsigned(bytes_from(operands, 5, 4)),
+            mag: signed(bytes_from(operands, 9, 4)),
         }
     }
 }
@@ -155,10 +155,10 @@ impl Postamble {
     {
         Postamble {
             last: signed(front(operands, 4)),
-            num: unsigned(part(operands, 4, 4)),
-            den: unsigned(part(operands, 8, 4)),
-            mag: signed(part(operands, 12, 4)),
-            depth: unsigned(part(operands, 24, 2)),
+            num: unsigned(bytes_from(operands, 4, 4)),
+            den: unsigned(bytes_from(operands, 8, 4)),
+            mag: signed(bytes_from(operands, 12, 4)),
+            depth: unsigned(bytes_from(operands, 24, 2)),
             pages: unsigned(past(operands, 26)),
         }
     }

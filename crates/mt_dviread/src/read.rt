@@ -8,9 +8,9 @@ ghost use Rattle.mt_dvi.specs.WrittenPlaces.{all_places};
 ghost use Rattle.mt_dviread.specs.Faults.{fault_of, ReadsBack};
 
 use crate::error::DviError;
-use crate::file::{OpenFile, Turn};
+use crate::file::{AfterOperation, OpenFile};
 use crate::number::{front, past};
-use crate::opcode::operand_size;
+use crate::operands::operand_size;
 use crate::operation::decode;
 use mt_box::PageList;
 use mt_family::FontSet;
@@ -47,8 +47,8 @@ pub fn read_dvi(alloc: Global, fonts: &FontSet, bytes: &[u8]) -> Result<PageList
         let operation = decode(*opcode, front(later, size));
         let after = past(later, size);
         match file.step(alloc, fonts, operation, after) {
-            Ok(Turn::Continues) => {}
-            Ok(Turn::Ends) => return Ok(PageList::from_vec(file.pages)),
+            Ok(AfterOperation::Continues) => {}
+            Ok(AfterOperation::Ends) => return Ok(PageList::from_vec(file.pages)),
             Err(cause) => return Err(cause.at(file.at as u64)),
         }
         file.at += size + 1;

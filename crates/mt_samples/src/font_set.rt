@@ -1,4 +1,4 @@
-//! The example fonts, read.
+//! The toy fonts, read.
 ghost use Rattle.std.specs.Prelude.{◌≡◌, All, IfOk, map};
 ghost use Rattle.mt_family.specs.ListFacts.{IsFontLine};
 ghost use Rattle.mt_samples.specs.FontSet.{toy_font, toy_named, toy_set};
@@ -9,7 +9,7 @@ use mt_family::{FontLine, FontList, FontSet, Fonts, ListError, SetError, read_fo
 use mt_tfm::{Font, TfmError, read_tfm};
 use std::alloc::{AllocError, Global};
 
-// The example font of a name in the list.
+// The toy font of a name in the list.
 fn toy_named(name: &[u8]) -> Toy
     ensures { result ≡ toy_named name.now }
 {
@@ -55,7 +55,7 @@ fn read_fonts(alloc: Global, lines: &[FontLine]) -> Result<Fonts, AllocError>
     Ok(Fonts::from_vec(fonts))
 }
 
-/// The example fonts by family and size, read from their files.
+/// The toy fonts by family and size, read from their files.
 ///
 /// # Errors
 ///

@@ -1,4 +1,4 @@
-//! The bytes of the example fonts.
+//! The bytes of the toy fonts.
 ghost use Rattle.std.specs.Prelude.{◌≡◌, IfOk};
 ghost use Rattle.mt_samples.specs.Bytes.{roman_bytes, italic_bytes, symbols_bytes, extension_bytes};
 ghost use Rattle.mt_samples.specs.Tables.{ReadsAs, roman, italic, symbols, extension};

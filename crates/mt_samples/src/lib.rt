@@ -36,7 +36,7 @@ family 2 6 7 8
 family 3 9 9 9
 ";
 
-/// The example fonts, of the families 0 to 3 (The TeXbook, chapter 17): roman, math italic, symbols and
+/// The toy fonts, of the families 0 to 3 (The TeXbook, chapter 17): roman, math italic, symbols and
 /// extension. Their files are named toyr, toym, toys and toyx.
 #[derive(Clone, Copy, Debug, PartialEq, Eq)]
 pub enum Toy {
@@ -50,7 +50,7 @@ pub enum Toy {
     Extension,
 }
 
-/// The TFM file of an example font. It reads as the font's table in docs/FORMATS.md says at each of the
+/// The TFM file of a toy font. It reads as the font's table in docs/FORMATS.md says at each of the
 /// sizes 10pt, 7pt and 5pt.
 ///
 /// # Errors
@@ -68,7 +68,7 @@ pub fn toy_tfm(alloc: Global, which: Toy) -> Result<Bytes, AllocError>
     }
 }
 
-/// The list of the example fonts: toyr, toym and toys at 10pt, 7pt and 5pt, toyx at 10pt, and families 0 to 3.
+/// The list of the toy fonts: toyr, toym and toys at 10pt, 7pt and 5pt, toyx at 10pt, and families 0 to 3.
 /// It has at most 65,536 bytes, the limit of a font list.
 ///
 /// # Errors

@@ -1,4 +1,4 @@
-//! Lists set in the example fonts, reckoned by hand.
+//! Lists set in the toy fonts, reckoned by hand.
 ghost use Rattle.std.specs.Prelude.{IfOk, OnOk, length, ◌≡◌, ◌≤◌, ◌+◌, ◌^◌};
 ghost use Rattle.mt_box.specs.Rows.{AllMeasurable, AllModest};
 ghost use Rattle.mt_rules.specs.Facts.{Inside};

@@ -1,4 +1,4 @@
-//! The delimiters of the example fonts.
+//! The delimiters of the toy fonts.
 use crate::pieces::{NO_DELIMITER, glyph};
 use mt_box::{Extents, Mark, places};
 use mt_delim::{Variant, choose_variant, delimiter_box};

@@ -1,4 +1,4 @@
-//! Parts of the example fonts, reckoned by hand.
+//! Parts of the toy fonts, reckoned by hand.
 ghost use Rattle.std.specs.Prelude.{All, IfOk, IsOk, IsTrue, length, ◌≡◌, ◌≤◌, ◌+◌, ◌^◌};
 ghost use Rattle.mt_scaled.specs.Number.{Within};
 ghost use Rattle.mt_rules.specs.Symbols.{find_symbol};

@@ -11,7 +11,7 @@ use Rattle.mt_dvi.specs.File.{File, InPage, read, reading}
 use Rattle.mt_dvi.specs.Trace.{Opcode, Trace, traced, tracing}
 use Rattle.mt_dvi.specs.writer.Emits.{FitsFourBytes}
 use Rattle.mt_dvi.specs.Edges.{right_edge}
-use Rattle.mt_dvi.specs.declared.moves.Held.{Held}
+use Rattle.mt_dvi.specs.declared.moves.HeldAmounts.{HeldAmounts}
 use Rattle.mt_dvi.specs.declared.page.Cursor.{Cursor}
 
 -- what has been read, and the opcodes of it
@@ -62,7 +62,7 @@ in_page reached c = record reached {
   file = record (reached.file) { phase = InPage; machine = machine_at c; deepest = 0 };
 }
 
-abbrev pub nothing_held : Held
+abbrev pub nothing_held : HeldAmounts
 nothing_held = record { first = pos 0; second = pos 0; second_next = false }
 
 abbrev pub at_origin : Cursor

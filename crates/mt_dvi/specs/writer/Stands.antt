@@ -10,7 +10,7 @@ use Rattle.mt_dvi.specs.Trace.{Opcode}
 use Rattle.mt_dvi.specs.Lean.{Axis, Downward, are_few, are_in_turn, are_modest, are_needed, is_allowed, is_font_of_next, is_no_zero, is_short, sets_anew}
 use Rattle.mt_dvi.specs.WrittenPlaces.{written_places}
 use Rattle.mt_dvi.specs.writer.LeadsTo.{LeadsTo, Reached, at_origin, cursor_after, in_page, is_among, with_definitions, with_opcodes, with_place, with_places}
-use Rattle.mt_dvi.specs.declared.moves.Held.{Held}
+use Rattle.mt_dvi.specs.declared.moves.HeldAmounts.{HeldAmounts}
 use Rattle.mt_dvi.specs.declared.page.Cursor.{Cursor}
 
 -- what the writer has done since the last place
@@ -45,7 +45,7 @@ is_lean opcode =
     && is_short opcode.code opcode.size opcode.says
 
 -- from here on the registers of an axis are set in turn
-abbrev pub turns_on : Register → Register → Held → List Opcode → Bool
+abbrev pub turns_on : Register → Register → HeldAmounts → List Opcode → Bool
 turns_on first second held rest =
     if held.second_next then are_in_turn second first rest else are_in_turn first second rest
 

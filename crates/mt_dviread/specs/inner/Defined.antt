@@ -8,7 +8,7 @@ use Rattle.mt_dvi.specs.File.{agrees}
 use Rattle.mt_dvi.specs.Machine.{UnknownFont}
 use Rattle.std.specs.Ordering.{nat_cmp}
 use Rattle.std.specs.BTreeMap.{get}
-use Rattle.mt_dviread.specs.declared.definitions.Entry.{Entry}
+use Rattle.mt_dviread.specs.declared.definitions.DefinedFont.{DefinedFont}
 use Rattle.mt_dviread.specs.declared.definitions.Definitions.{Definitions}
 use Rattle.mt_dviread.specs.declared.cause.Cause.{Cause}
 use Rattle.mt_dviread.specs.inner.Operations.{cause_of}
@@ -27,12 +27,12 @@ font_meant fonts (byte ∷ area) d = None
 abbrev pub known_of : SetValue → Definition → Known
 known_of fonts d = record { name = d.name; size = d.size; font = font_meant fonts d.area d }
 
-abbrev pub entry_known : Entry → Known
-entry_known entry = record { name = entry.name.now; size = entry.size; font = entry.font }
+abbrev pub known_font : DefinedFont → Known
+known_font entry = record { name = entry.name.now; size = entry.size; font = entry.font }
 
 -- what the reader keeps of a number
 abbrev pub known_at : Definitions → ℕ → Option Known
-known_at definitions n = option_map entry_known (get nat_cmp definitions.by_number n)
+known_at definitions n = option_map known_font (get nat_cmp definitions.by_number n)
 
 -- each number stands for what its first definition says
 abbrev pub Knows : SetValue → Definitions → List Definition → Type 0

@@ -10,8 +10,8 @@ use Rattle.mt_dvi.specs.WrittenPlaces.{all_places}
 use Rattle.mt_dviread.specs.declared.cause.Cause.{Cause}
 use Rattle.mt_dviread.specs.declared.file.Phase.{Phase}
 use Rattle.mt_dviread.specs.declared.file.Phase.TheVariants as phases
-use Rattle.mt_dviread.specs.declared.file.Turn.{Turn}
-use Rattle.mt_dviread.specs.declared.file.Turn.TheVariants as turns
+use Rattle.mt_dviread.specs.declared.file.AfterOperation.{AfterOperation}
+use Rattle.mt_dviread.specs.declared.file.AfterOperation.TheVariants as turns
 use Rattle.mt_dviread.specs.declared.file.OpenFile.{OpenFile}
 use Rattle.mt_dviread.specs.inner.Operations.{cause_of}
 use Rattle.mt_dviread.specs.inner.Defined.{Knows}
@@ -77,7 +77,7 @@ Fills (Err cause) old new place =
     IfSome (cause_of cause) (λ c. (c ≡ TooMany) × (is_full old place ≡ true))
 
 -- the result is what comes of an operation
-abbrev pub Follows : SetValue → Result Turn Cause → OpenFile → Continuation → Type 0
+abbrev pub Follows : SetValue → Result AfterOperation Cause → OpenFile → Continuation → Type 0
 Follows fonts (Ok turns.Continues) new continuation =
     (next : files.File) × (continuation ≡ Continues next) × Sees fonts new next
 Follows fonts (Ok turns.Ends) new continuation =

@@ -8,7 +8,7 @@ use Rattle.mt_dvi.specs.Machine as machine
 use Rattle.mt_dvi.specs.WrittenPlaces.{all_places}
 use Rattle.mt_dviread.specs.declared.error.DviError.TheVariants as errors
 use Rattle.mt_dviread.specs.inner.Operations.{cause_of}
-use Rattle.mt_dviread.proofs.Turns.{all_read, back, cut, ends, ends_few, fails, front, next, start, whole}
+use Rattle.mt_dviread.proofs.AfterOperations.{all_read, back, cut, ends, ends_few, fails, front, next, start, whole}
 use Rattle.mt_dviread.proofs.read.read_dvi.Goals as goal
 
 pub loop-rest-init : goal.loop-rest-init

@@ -12,7 +12,7 @@ use Rattle.mt_dviread.proofs.file.OpenFile.end_page.Goals as goal
 pub returns-clause-goes : goal.returns-clause-goes
 returns-clause-goes c = λ fonts file s none.
     let o = c.args.self.now in
-    let empty = ap (λ (m : Machine). length m.saved) s.machine ∙ sym c.depth.ensures ∙ c.if-depth-ne0.false in
+    let empty = ap (λ (m : Machine). length m.saved) s.machine ∙ sym c.saved_count.ensures ∙ c.if-saved_count-ne0.false in
     let machine = ap (λ (p : OpenPage). p.machine) c.replace-page.ensures.after ∙ c.empty.ensures.machine in
     let places = ap (λ (p : OpenPage). p.places.items) c.replace-page.ensures.after ∙ c.empty.ensures.places in
     let more = c.in_ok-keep.ensures.pages ∙ ap (λ (l : List Place). o.pages.items ++ l ∷ []) c.from_vec.ensures ∙ ap (λ (p : OpenPage). o.pages.items ++ p.places.items ∷ []) c.replace-page.ensures.value in

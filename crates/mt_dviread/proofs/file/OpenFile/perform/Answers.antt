@@ -14,4 +14,4 @@ returns-clause-goes c = λ file meant s none is.
     let known : Knows c.args.fonts.now c.args.self.now.definitions file.fonts = subst (Knows c.args.fonts.now c.args.self.now.definitions) (ap (λ (l : List codes.Definition). file.fonts ++ l) none ∙ append-nil file.fonts) s.known in
     performed c.args.fonts.now c.args.self.now c.fill.new.self c.perform.new.self c.max-self.result c.in_ok-place.place c.fill.result file (machine.perform c.args.fonts.now file.fonts file.machine meant) s none
     (subst (λ (m : machine.Machine). seen (machine.perform c.args.fonts.now file.fonts m meant) ≡ Ok (record { machine = c.perform.new.self; place = c.in_ok-place.place })) (sym s.machine) (c.in_ok-place.ensures file.fonts meant known is))
-    (c.max-self.ensures ∙ ap (max c.args.self.now.deepest) c.depth.ensures) c.fill.ensures.fills
+    (c.max-self.ensures ∙ ap (max c.args.self.now.deepest) c.saved_count.ensures) c.fill.ensures.fills

@@ -1,6 +1,6 @@
 use Rattle.std.specs.Prelude.{Ok, Err}
 use Rattle.mt_dviread.specs.declared.file.Phase.TheVariants as phases
-use Rattle.mt_dviread.specs.declared.file.Turn.TheVariants as turns
+use Rattle.mt_dviread.specs.declared.file.AfterOperation.TheVariants as turns
 use Rattle.mt_dviread.proofs.OpenFiles.{early, steps}
 use Rattle.std.proofs.lemmas.Result.{err_from_is_err_and}
 use Rattle.mt_dviread.proofs.file.OpenFile.step.Goals as goal

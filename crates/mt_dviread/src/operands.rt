@@ -1,54 +1,9 @@
-//! The opcodes by their names (tex.web §586), and how many operands they have.
+//! How many bytes of operands an opcode has (tex.web §586).
 ghost use Rattle.std.specs.Prelude.{◌≡◌, ◌≤◌};
 ghost use Rattle.mt_dvi.specs.Codes.{operand_size, special_size, definition_size};
 
 use crate::number::{byte, front, unsigned};
-
-/// The first of the opcodes that set the character of a code in one to four bytes; a smaller opcode
-/// sets the character of its own number.
-pub const SET1: u8 = 128;
-/// Sets a rule of a height and a width.
-pub const SET_RULE: u8 = 132;
-/// The first of the opcodes that put the character of a code in one to four bytes.
-pub const PUT1: u8 = 133;
-/// Puts a rule of a height and a width.
-pub const PUT_RULE: u8 = 137;
-/// Does nothing.
-pub const NOP: u8 = 138;
-/// Begins a page.
-pub const BOP: u8 = 139;
-/// Ends a page.
-pub const EOP: u8 = 140;
-/// Saves the registers.
-pub const PUSH: u8 = 141;
-/// Restores the registers.
-pub const POP: u8 = 142;
-/// The first of the opcodes that move to the right by a number of one to four bytes.
-pub const RIGHT1: u8 = 143;
-/// Moves to the right by w; the four opcodes after it set w first.
-pub const W_0: u8 = 147;
-/// Moves to the right by x; the four opcodes after it set x first.
-pub const X_0: u8 = 152;
-/// The first of the opcodes that move down by a number of one to four bytes.
-pub const DOWN1: u8 = 157;
-/// Moves down by y; the four opcodes after it set y first.
-pub const Y_0: u8 = 161;
-/// Moves down by z; the four opcodes after it set z first.
-pub const Z_0: u8 = 166;
-/// Selects font 0; the 63 opcodes after it select fonts 1 to 63.
-pub const FNT_NUM_0: u8 = 171;
-/// The first of the opcodes that select the font of a number in one to four bytes.
-pub const FNT1: u8 = 235;
-/// The first of the opcodes for specials.
-pub const XXX1: u8 = 239;
-/// The first of the opcodes that define the font of a number in one to four bytes.
-pub const FNT_DEF1: u8 = 243;
-/// Begins a file.
-pub const PRE: u8 = 247;
-/// Ends the pages.
-pub const POST: u8 = 248;
-/// Ends a file.
-pub const POST_POST: u8 = 249;
+use mt_dvi::opcode::*;
 
 /// How many bytes of operands an opcode has, from the bytes after it; a byte that is not there counts
 /// as 0.

@@ -17,8 +17,8 @@ use Rattle.mt_dviread.specs.declared.cause.Cause.{Cause}
 use Rattle.mt_dviread.specs.declared.error.DviError.{DviError}
 use Rattle.mt_dviread.specs.declared.error.DviError.TheVariants as errors
 use Rattle.mt_dviread.specs.declared.file.OpenFile.{OpenFile}
-use Rattle.mt_dviread.specs.declared.file.Turn.{Turn}
-use Rattle.mt_dviread.specs.declared.file.Turn.TheVariants as turns
+use Rattle.mt_dviread.specs.declared.file.AfterOperation.{AfterOperation}
+use Rattle.mt_dviread.specs.declared.file.AfterOperation.TheVariants as turns
 use Rattle.mt_dviread.specs.inner.Operations.{cause_of}
 use Rattle.mt_dviread.specs.inner.Sees.{Follows, IsReading, Sees}
 use Rattle.mt_dviread.proofs.Sizes.{size_of_operands}
@@ -73,7 +73,7 @@ whole later operands code size count taken long =
     long ∙ count ∙ sym (size_of_operands code later) ∙ ap (operand_size code) (ap (λ (n : ℕ). take n later) (sym count) ∙ sym taken)
 
 -- what a step of the reader says of all files that it sees
-abbrev pub Steps : SetValue → OpenFile → OpenFile → Result Turn Cause → ℕ → List ℕ → List ℕ → Type 0
+abbrev pub Steps : SetValue → OpenFile → OpenFile → Result AfterOperation Cause → ℕ → List ℕ → List ℕ → Type 0
 Steps fonts o new result code operands after = (file : files.File) → Sees fonts o file → Follows fonts result new (file_step fonts file (operation code operands) after)
 
 same_step : (fonts : SetValue) (file : files.File) (x code size : ℕ) (xs operands after : List ℕ) → IsFront (x ∷ xs) code size operands after
