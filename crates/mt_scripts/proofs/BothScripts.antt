@@ -16,20 +16,20 @@ use Rattle.mt_rules.specs.Scripts.{both_scripts}
 use Rattle.mt_rules.proofs.Answering.{box_answers, none_out}
 use Rattle.mt_rules.proofs.Stacks.{box_and_last}
 
-both_stack : (delta rise gap top : ℤ) (s b : Layout) → gap ≡ (rise -ℤ s.extents.depth) -ℤ b.extents.height → top ≡ rise +ℤ s.extents.height → stack (EntryBox delta s ∷ EntryKern gap ∷ EntryBox (pos 0) b ∷ []) top ≡ both_scripts delta rise s b
-both_stack delta rise gap top s b e f =
+both_stack : (delta distance gap top : ℤ) (s b : Layout) → gap ≡ (distance -ℤ s.extents.depth) -ℤ b.extents.height → top ≡ distance +ℤ s.extents.height → stack (EntryBox delta s ∷ EntryKern gap ∷ EntryBox (pos 0) b ∷ []) top ≡ both_scripts delta distance s b
+both_stack delta distance gap top s b e f =
     layout_eq
     (extents_eq (omega (arith, ints, clamps)) f (omega (arith, ints, e, f)))
-    (box_and_last delta (top -ℤ s.extents.height) rise (top -ℤ (s.extents.height +ℤ s.extents.depth) -ℤ gap -ℤ b.extents.height) s.places b.places (omega (arith, ints, f)) (omega (arith, ints, e, f)))
+    (box_and_last delta (top -ℤ s.extents.height) distance (top -ℤ (s.extents.height +ℤ s.extents.depth) -ℤ gap -ℤ b.extents.height) s.places b.places (omega (arith, ints, f)) (omega (arith, ints, e, f)))
 
 -- what packing the column answers is what making the box answers
-pub both_answers : (delta rise gap top : ℤ) (s b : Layout) (es : List EntryValue) (r : Result BoxValue PackError) → es ≡ EntryBox delta s ∷ EntryKern gap ∷ EntryBox (pos 0) b ∷ [] → gap ≡ (rise -ℤ s.extents.depth) -ℤ b.extents.height → top ≡ rise +ℤ s.extents.height → Packs (stack es top) r → BoxAnswers r (make_box (both_scripts delta rise s b))
-both_answers delta rise gap top s b es r g e f h =
-    box_answers (both_scripts delta rise s b) r (subst (λ l. Packs l r) (rw g (both_stack delta rise gap top s b e f)) h)
+pub both_answers : (delta distance gap top : ℤ) (s b : Layout) (es : List EntryValue) (r : Result BoxValue PackError) → es ≡ EntryBox delta s ∷ EntryKern gap ∷ EntryBox (pos 0) b ∷ [] → gap ≡ (distance -ℤ s.extents.depth) -ℤ b.extents.height → top ≡ distance +ℤ s.extents.height → Packs (stack es top) r → BoxAnswers r (make_box (both_scripts delta distance s b))
+both_answers delta distance gap top s b es r g e f h =
+    box_answers (both_scripts delta distance s b) r (subst (λ l. Packs l r) (rw g (both_stack delta distance gap top s b e f)) h)
 
 -- where no extent of the box is out of range, the gap is small
-pub gap_small : (e : Extents) (o : Option ℤ) (rise gap sd sh bh : ℤ) → o ≡ first_out e → ((x : ℤ) → o ≡ Some x → ⊥) → e.height ≡ rise +ℤ sh → gap ≡ (rise -ℤ sd) -ℤ bh → Within max_dimen sh → Within max_dimen sd → Within max_dimen bh → Within (2 ^ 40) gap
-gap_small e o rise gap sd sh bh is none f g i j k =
+pub gap_small : (e : Extents) (o : Option ℤ) (distance gap sd sh bh : ℤ) → o ≡ first_out e → ((x : ℤ) → o ≡ Some x → ⊥) → e.height ≡ distance +ℤ sh → gap ≡ (distance -ℤ sd) -ℤ bh → Within max_dimen sh → Within max_dimen sd → Within max_dimen bh → Within (2 ^ 40) gap
+gap_small e o distance gap sd sh bh is none f g i j k =
     let h : ExtentsInRange e = none_out e o is none in
     record {
       low = omega (arith, ints, f, g, h.height.low, i.high, j.high, k.high);

@@ -1,6 +1,6 @@
 -- bounds on what scripts reach
 pub mod Bounds
--- both scripts behind a nucleus, step by step
+-- both scripts after a nucleus, step by step
 pub mod Attaching
 -- the column of both scripts
 pub mod BothScripts

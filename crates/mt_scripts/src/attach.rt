@@ -26,7 +26,7 @@ use std::alloc::{AllocError, Global};
 // How much wider each script is made: 0.5pt (plain TeX's \scriptspace).
 const SCRIPT_SPACE: i64 = 32768;
 
-/// The row of a nucleus with its scripts behind it. `delta` is the italic correction that the
+/// The row of a nucleus with its scripts after it. `delta` is the italic correction that the
 /// nucleus does not have: with both scripts the superscript stands so far to the right. Without
 /// scripts it is the nucleus's row.
 ///
@@ -242,58 +242,59 @@ fn distance_between(shifts: Shifts) -> Length
 }
 
 // The box of both scripts, from the subscript's reference point. The superscript stands `delta` to
-// the right and `rise` higher.
+// the right, and its baseline by `distance` higher.
 fn both_scripts(
     alloc: Global,
     delta: Length,
-    rise: Length,
+    distance: Length,
     sup: Packed,
     sub: Packed,
 ) -> Result<Packed, PackError>
     requires delta { Within (2 ^ 40) delta.sp }
-    requires rise { Within (2 ^ 49) rise.sp }
+    requires distance { Within (2 ^ 49) distance.sp }
     requires sup_level { sup.level < 2 ^ 20 }
     requires sub_level { sub.level < 2 ^ 20 }
-    ensures is { BoxAnswers result (make_box (Scripts.both_scripts delta.sp rise.sp
+    ensures is { BoxAnswers result (make_box (Scripts.both_scripts delta.sp distance.sp
         (layout_of sup) (layout_of sub))) }
     ensures level { IfOk result (λ b. b.level ≡ max sup.level sub.level + 1) }
 {
-    let extents = extents_of_both(delta, rise, sup.extents(), sub.extents());
+    let extents = extents_of_both(delta, distance, sup.extents(), sub.extents());
     if let Some(value) = first_out(extents) {
         return Err(PackError::Overflow(value));
     }
-    let gap = gap_between(rise, sup.extents(), sub.extents());
+    let gap = gap_between(distance, sup.extents(), sub.extents());
     let column = column_of_both(alloc, delta, gap, sup, sub)?;
     vpack(alloc, column, extents.height)
 }
 
 #[tactic(auto, using(std::proofs::lemmas::Int::ints, std::proofs::lemmas::Int::clamps))]
-fn extents_of_both(delta: Length, rise: Length, sup: Extents, sub: Extents) -> Extents
+fn extents_of_both(delta: Length, distance: Length, sup: Extents, sub: Extents) -> Extents
     requires delta { Within (2 ^ 40) delta.sp }
-    requires rise { Within (2 ^ 49) rise.sp }
+    requires distance { Within (2 ^ 49) distance.sp }
     requires sup { ExtentsInRange sup }
     requires sub { ExtentsInRange sub }
     ensures width { result.width ≡ int_max (pos 0) (int_max (delta.sp +ℤ sup.width) sub.width) }
-    ensures height { result.height ≡ rise.sp +ℤ sup.height }
+    ensures height { result.height ≡ distance.sp +ℤ sup.height }
     ensures depth { result.depth ≡ sub.depth }
 {
     let right = delta.plus(Length { sp: sup.width });
     let width = Length { sp: sub.width }.at_least(right).not_negative();
     Extents {
         width: width.sp,
-        height: rise.plus(Length { sp: sup.height }).sp,
+        height: distance.plus(Length { sp: sup.height }).sp,
         depth: sub.depth,
     }
 }
 
 #[tactic(auto, using(std::proofs::lemmas::Int::ints))]
-fn gap_between(rise: Length, sup: Extents, sub: Extents) -> Length
-    requires rise { Within (2 ^ 49) rise.sp }
+fn gap_between(distance: Length, sup: Extents, sub: Extents) -> Length
+    requires distance { Within (2 ^ 49) distance.sp }
     requires sup { ExtentsInRange sup }
     requires sub { ExtentsInRange sub }
-    ensures { result.sp ≡ (rise.sp -ℤ sup.depth) -ℤ sub.height }
+    ensures { result.sp ≡ (distance.sp -ℤ sup.depth) -ℤ sub.height }
 {
-    rise.minus(Length { sp: sup.depth })
+    distance
+        .minus(Length { sp: sup.depth })
         .minus(Length { sp: sub.height })
 }
 

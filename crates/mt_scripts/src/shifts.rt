@@ -194,8 +194,8 @@ fn lack_of(least_gap: Length, up: Length, down: Length, sup: Extents, sub: Exten
     least_gap.minus(bottom.minus(top)).not_negative()
 }
 
-// How far both rise, where the gap lacked something: until the superscript's bottom is at least at
-// `least_bottom`.
+// How much higher both stand, where the gap lacked something: so that the superscript's bottom is at
+// least at `least_bottom`.
 #[tactic(auto, using(std::proofs::lemmas::Int::ints, std::proofs::lemmas::Int::clamps))]
 fn rise_of(least_bottom: Length, up: Length, sup: Extents, lack: Length) -> Length
     requires least_bottom { Within (2 ^ 31) least_bottom.sp }
