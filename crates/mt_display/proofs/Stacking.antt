@@ -115,7 +115,7 @@ fewer room lines rest rest' q page here h e =
 
 -- ---- one line
 
--- the places of a line are put behind the others
+-- the places of a line are put after the others
 pub added_ok : (room left : ℕ) (here next : NextLine) (before now places : List Place) (l : LineValue) (base : ℤ) (x : Extents) → left ≡ room - length before → Placed left (line_places base l) (Ok places)
     → base ≡ top_below (above_value here.above) x.height +ℤ x.height → x ≡ l.body.extents → now ≡ before ++ places → length before ≤ room
     → next.line ≡ here.line + 1 → above_value next.above ≡ Some (record { bottom = base +ℤ x.depth; depth = x.depth }) → IsNear next → AddsLine room here before l (Ok next) now

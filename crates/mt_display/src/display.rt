@@ -17,7 +17,7 @@ ghost use Rattle.mt_display.specs.Displays.{one_line as line_at, own_lines as li
 ghost use Rattle.mt_display.specs.Displays.{display_lines, fitted_lines, placed_lines, numbered_lines};
 ghost use Rattle.mt_display.specs.inner.Fits.{AreWidths, IsSmallSlot, target_value};
 
-use crate::fit::{Widths, fit_with, is_zero};
+use crate::fit::{Widths, fit_with};
 use crate::slot::{Slot, indent, right_end, room_between};
 use crate::{Line, Lines, Numbered};
 use mt_box::{PackError, Packed, Piece, Row, hpack, hpack_to, row_extents, shrink_of};
@@ -229,9 +229,9 @@ fn place_numbered(
     ensures fits { IfOk result (LinesFit (max display.level number.level + 1)) }
 {
     let d = indent(slot, &display);
-    if is_zero(slot.e) {
+    if slot.e.is_zero() {
         let right = right_end(slot.z, &number);
-        own_lines(alloc, left, Shifts { d, right }, display, number)
+        own_lines(alloc, left, DisplayShifts { d, right }, display, number)
     } else {
         let room = room_between(slot, &display, d);
         let row = beside(alloc, left, room, display, number)?;
@@ -242,7 +242,7 @@ fn place_numbered(
 
 // Where a display stands, and its number where it is below it.
 #[derive(Clone, Copy)]
-struct Shifts {
+struct DisplayShifts {
     d: Length,
     right: Length,
 }
@@ -251,7 +251,7 @@ struct Shifts {
 fn own_lines(
     alloc: Global,
     left: bool,
-    shifts: Shifts,
+    shifts: DisplayShifts,
     display: Packed,
     number: Packed,
 ) -> Result<Lines, PackError>

@@ -1,6 +1,5 @@
 //! How wide a display is set, and whether its number stands beside it (tex.web §1201).
-ghost use Rattle.std.specs.Prelude.{◌≡◌, ◌≤ℤ◌, ◌^◌, ◌+◌, ◌+ℤ◌, ◌-ℤ◌, pos, int_le, int_lt, ℕ, IfSome};
-ghost use Rattle.std.specs.Ordering.{int_eq};
+ghost use Rattle.std.specs.Prelude.{◌≡◌, ◌≤ℤ◌, ◌^◌, ◌-ℤ◌, ℕ, IfSome};
 ghost use Rattle.mt_scaled.specs.Number.{Within};
 ghost use Rattle.mt_scaled.specs.declared.length.Length.{Length};
 ghost use Rattle.mt_display.specs.Displays.{fit_alone as fit_of_display, fit as fit_of_widths};
@@ -35,14 +34,15 @@ pub(crate) fn fit_with(widths: Widths) -> Fit
     ensures small { IfSome result.target (λ (t : Length). Within (2 ^ 62) t.sp) }
     ensures e { (n : ℕ) → Within n widths.e.sp → Within n result.e.sp }
 {
-    if fits(sum(widths.w, widths.q), widths.z) {
+    let least = least_width(widths);
+    if widths.w.plus(widths.q).is_at_most(widths.z) {
         Fit {
             target: None,
             e: widths.e,
         }
-    } else if !is_zero(widths.e) && fits(sum(less(widths.w, widths.s), widths.q), widths.z) {
+    } else if !widths.e.is_zero() && least.plus(widths.q).is_at_most(widths.z) {
         Fit {
-            target: Some(room(widths.z, widths.q)),
+            target: Some(width_beside(widths)),
             e: widths.e,
         }
     } else {
@@ -58,7 +58,7 @@ fn fit_alone(widths: Widths) -> Fit
     ensures e { (n : ℕ) → Within n result.e.sp }
 {
     Fit {
-        target: if is_less(widths.z, widths.w) {
+        target: if widths.z.is_less(widths.w) {
             Some(widths.z)
         } else {
             None
@@ -67,52 +67,22 @@ fn fit_alone(widths: Widths) -> Fit
     }
 }
 
+// The width of the display with all that its spaces shrink.
 #[tactic(auto, using(std::proofs::lemmas::Int::ints))]
-pub(crate) fn is_zero(a: Length) -> bool
-    ensures { result ≡ int_eq a.sp (pos 0) }
-{
-    a.sp == 0
-}
-
-#[tactic(auto, using(std::proofs::lemmas::Int::ints))]
-fn fits(a: Length, b: Length) -> bool
-    ensures { result ≡ int_le a.sp b.sp }
-{
-    a.sp <= b.sp
-}
-
-#[tactic(auto, using(std::proofs::lemmas::Int::ints))]
-pub(crate) fn is_less(a: Length, b: Length) -> bool
-    ensures { result ≡ int_lt a.sp b.sp }
-{
-    a.sp < b.sp
-}
-
-#[tactic(auto, using(std::proofs::lemmas::Int::ints))]
-fn sum(a: Length, b: Length) -> Length
-    requires a { Within (2 ^ 62) a.sp }
-    requires b { Within (2 ^ 61 + 2 ^ 31) b.sp }
-    ensures { result.sp ≡ a.sp +ℤ b.sp }
-{
-    Length { sp: a.sp + b.sp }
-}
-
-#[tactic(auto, using(std::proofs::lemmas::Int::ints))]
-fn less(a: Length, b: Length) -> Length
-    requires a { Within (2 ^ 61) a.sp }
-    requires b { Within (2 ^ 61) b.sp }
-    ensures is { result.sp ≡ a.sp -ℤ b.sp }
+fn least_width(widths: Widths) -> Length
+    requires { AreWidths widths }
+    ensures is { result.sp ≡ widths.w.sp -ℤ widths.s.sp }
     ensures small { Within (2 ^ 62) result.sp }
 {
-    Length { sp: a.sp - b.sp }
+    widths.w.minus(widths.s)
 }
 
+// The width that the number leaves to the display.
 #[tactic(auto, using(std::proofs::lemmas::Int::ints))]
-fn room(z: Length, q: Length) -> Length
-    requires z { Within (2 ^ 30) z.sp }
-    requires q { Within (2 ^ 61 + 2 ^ 31) q.sp }
-    ensures is { result.sp ≡ z.sp -ℤ q.sp }
+fn width_beside(widths: Widths) -> Length
+    requires { AreWidths widths }
+    ensures is { result.sp ≡ widths.z.sp -ℤ widths.q.sp }
     ensures small { Within (2 ^ 62) result.sp }
 {
-    Length { sp: z.sp - q.sp }
+    widths.z.minus(widths.q)
 }

@@ -1,12 +1,11 @@
 //! Where a display stands in its line, and what that leaves (tex.web §1202 to §1204).
-ghost use Rattle.std.specs.Prelude.{◌≡◌, ◌^◌, ◌+◌, ◌-ℤ◌, ◌*ℤ◌, pos, ℕ};
-ghost use Rattle.mt_scaled.specs.Number.{Within, half_of};
+ghost use Rattle.std.specs.Prelude.{◌≡◌, ◌^◌, ◌+◌, ◌-ℤ◌, ℕ};
+ghost use Rattle.mt_scaled.specs.Number.{Within};
 ghost use Rattle.mt_display.specs.Displays.{indent as indent_of, room_between as room_of};
 ghost use Rattle.mt_display.specs.inner.Fits.{IsSmallSlot};
 
-use crate::fit::is_less;
 use mt_box::Packed;
-use mt_scaled::{Length, half};
+use mt_scaled::Length;
 
 // The line's width z, the width e of the number beside the display or 0, and whether the display
 // begins with a space.
@@ -24,12 +23,12 @@ pub(crate) fn indent(slot: Slot, display: &Packed) -> Length
     ensures small { Within (2 ^ 33) result.sp }
 {
     let free = gap(slot.z, width_of(display));
-    let middle = half_length(free);
-    if slot.e.is_positive() && is_less(middle, twice(slot.e)) {
+    let middle = free.half();
+    if slot.e.is_positive() && middle.is_less(slot.e.twice()) {
         if slot.flush {
             Length { sp: 0 }
         } else {
-            half_length(gap(free, slot.e))
+            gap(free, slot.e).half()
         }
     } else {
         middle
@@ -71,21 +70,5 @@ fn gap(a: Length, b: Length) -> Length
     ensures is { result.sp ≡ a.sp -ℤ b.sp }
     ensures small { (n : ℕ) → (m : ℕ) → Within n a.sp → Within m b.sp → Within (n + m) result.sp }
 {
-    Length { sp: a.sp - b.sp }
-}
-
-#[tactic(auto, using(std::proofs::lemmas::Int::ints))]
-fn twice(a: Length) -> Length
-    requires { Within (2 ^ 34) a.sp }
-    ensures { result.sp ≡ pos 2 *ℤ a.sp }
-{
-    Length { sp: 2 * a.sp }
-}
-
-fn half_length(a: Length) -> Length
-    requires { Within (2 ^ 35) a.sp }
-    ensures is { result.sp ≡ half_of a.sp }
-    ensures small { (n : ℕ) → Within n a.sp → Within n result.sp }
-{
-    Length { sp: half(a.sp) }
+    a.minus(b)
 }

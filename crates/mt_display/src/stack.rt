@@ -55,7 +55,7 @@ pub fn stack_lines(alloc: Global, lines: &Lines, room: u64) -> Result<PlaceList,
     Ok(Items::from_vec(page))
 }
 
-// Puts the places of the next line behind the others.
+// Puts the places of the next line after the others.
 fn add_line(
     alloc: Global,
     page: &mut Vec<Place>,

@@ -27,7 +27,7 @@ abbrev pub IsFaultOf : ℕ → Option PlaceError → StackError → Type 0
 IsFaultOf line None e = ⊥
 IsFaultOf line (Some fault) e = e ≡ fault_in_line line fault
 
--- the places of a line behind those before, or its first fault
+-- the places of a line after those before, or its first fault
 abbrev pub AddsLine : ℕ → NextLine → List Place → LineValue → Result NextLine StackError → List Place → Type 0
 AddsLine room here before l (Ok next) now =
     (now ≡ before ++ line_places (reference_below (above_value here.above) l) l)
