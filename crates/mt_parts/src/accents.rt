@@ -2,7 +2,7 @@
 ghost use Rattle.std.specs.Prelude.{◌≡◌, ◌≤◌, ◌<◌, ◌^◌, ◌+◌, ◌*◌, ◌+ℤ◌, ◌-ℤ◌, ◌≤ℤ◌, ◌&&◌, ◌∷◌, [], ℕ, length, max, neg_ℤ, pos, int_le, IfOk, IsOk, IsTrue, Ok};
 ghost use Rattle.std.specs.Int.{int_max, int_min};
 ghost use Rattle.mt_scaled.specs.Number.{Within, half_of};
-ghost use Rattle.mt_tfm.specs.Font.{exists, width_of, italic_of, param_of};
+ghost use Rattle.mt_tfm.specs.Font.{exists, width_of, param_of};
 ghost use Rattle.mt_box.specs.Layout.{layout_of};
 ghost use Rattle.mt_box.specs.Boxes.{glyph_layout};
 ghost use Rattle.mt_box.specs.Extents.{ExtentsInRange};
@@ -13,10 +13,9 @@ ghost use Rattle.mt_rules.specs.Symbols.{find_symbol, extents_without_italic};
 ghost use Rattle.mt_rules.specs.Accents;
 ghost use Rattle.mt_parts.specs.Accented.{accented_layout};
 
-use crate::shifts::half_of_length;
 use mt_box::{Extents, PackError, Packed, Piece, Row, first_out, glyph_box, hpack, with_extents};
 use mt_family::{FontSet, Size};
-use mt_rules::{PartError, Symbol};
+use mt_rules::{PartError, Symbol, extents_without_italic, width_with_italic};
 use mt_scaled::Length;
 use mt_tfm::Font;
 use std::alloc::{AllocError, Global};
@@ -28,9 +27,9 @@ use std::alloc::{AllocError, Global};
 ///
 /// The accent is the symbol's character, or one of its next larger ones: as far along as they
 /// exist and are not wider than `plain`. With its italic correction it stands in the middle of that
-/// width. It is raised by its own depth, and by as much as `plain` is higher than the x-height of
-/// the accent's font, where it is. The width and the depth are those of the body; the height is the
-/// body's, or that of the accent's top where it is higher.
+/// width. Its baseline is above the body's by its own depth and, where `plain` is higher than the
+/// x-height of the accent's font, by the difference too. The width and the depth are those of the
+/// body; the height is the body's, or that of the accent's top where it is higher.
 ///
 /// Refused with `Overflow` of the first extent out of range of the accent's glyph, and then of the
 /// whole; and with `OutOfMemory`.
@@ -102,23 +101,8 @@ fn accent_glyph(alloc: Global, number: u16, font: &Font, code: u8) -> Result<Pac
     ensures level { IfOk result (λ b. b.level ≡ 1) }
     ensures in_range { IfOk result (λ b. ExtentsInRange b.extents) }
 {
-    let extents = Extents {
-        width: font.width(code),
-        height: font.height(code),
-        depth: font.depth(code),
-    };
+    let extents = extents_without_italic(font, code);
     Ok(glyph_box(alloc, number, code, extents)?)
-}
-
-#[tactic(auto, using(std::proofs::lemmas::Int::ints))]
-fn width_with_italic(font: &Font, code: u8) -> Length
-    requires { IsTrue (exists font.now code) }
-    ensures is { result.sp ≡ width_of font.now code +ℤ italic_of font.now code }
-    ensures small { Within (2 ^ 32) result.sp }
-{
-    Length {
-        sp: font.width(code) + font.italic(code),
-    }
 }
 
 // The height of the small letters of the accent's font.
@@ -136,33 +120,32 @@ fn shift_to_middle(plain: Extents, width: Length) -> Length
     ensures is { result.sp ≡ half_of (plain.width -ℤ width.sp) }
     ensures small { Within (3 * 2 ^ 38) result.sp }
 {
-    let room = Length { sp: plain.width }.minus(width);
-    half_of_length(room)
+    Length { sp: plain.width }.minus(width).half()
 }
 
 // How far the accent's baseline is above the body's. It is at least the accent's depth.
 #[tactic(auto, using(std::proofs::lemmas::Int::ints, std::proofs::lemmas::Int::clamps))]
-fn raise_of_accent(x_height: Length, plain: Extents, body: Extents, accent: Extents) -> Length
-    requires x_height { Within (2 ^ 31) x_height.sp }
+fn raise_of_accent(
+    accent_x_height: Length,
+    plain: Extents,
+    body: Extents,
+    accent: Extents,
+) -> Length
+    requires x_height { Within (2 ^ 31) accent_x_height.sp }
     requires plain { Within (2 ^ 40) plain.height }
     requires body { ExtentsInRange body }
     requires accent { ExtentsInRange accent }
-    ensures is { result.sp ≡ (body.height -ℤ (int_min plain.height x_height.sp
+    ensures is { result.sp ≡ (body.height -ℤ (int_min plain.height accent_x_height.sp
         +ℤ (body.height -ℤ plain.height))) +ℤ accent.depth }
     ensures small { Within (2 ^ 42) result.sp }
     ensures low { accent.depth ≤ℤ result.sp }
 {
     let height = Length { sp: body.height };
     let plain_height = Length { sp: plain.height };
-    let delta = lesser(plain_height, x_height).plus(height.minus(plain_height));
+    let delta = plain_height
+        .at_most(accent_x_height)
+        .plus(height.minus(plain_height));
     height.minus(delta).plus(Length { sp: accent.depth })
-}
-
-#[tactic(auto, using(std::proofs::lemmas::Int::ints, std::proofs::lemmas::Int::clamps))]
-fn lesser(a: Length, b: Length) -> Length
-    ensures { result.sp ≡ int_min a.sp b.sp }
-{
-    if b.sp < a.sp { b } else { a }
 }
 
 // The accent to the right of the body's reference point and above it, then the body.
@@ -239,7 +222,7 @@ fn accented_row(
     ensures level { IfOk result (λ row. row_level row ≡ max body.level 1 + 1) }
 {
     let from_end = back_to_start(to_middle, accent.extents());
-    let from_skew = negative_of(skew);
+    let from_skew = skew.negated();
     let pieces = vec![in alloc;
         Piece::Kern(skew.sp),
         Piece::Kern(to_middle.sp),
@@ -265,13 +248,4 @@ fn back_to_start(to_middle: Length, accent: Extents) -> Length
     Length {
         sp: -(to_middle.sp + accent.width),
     }
-}
-
-#[tactic(auto, using(std::proofs::lemmas::Int::ints))]
-fn negative_of(length: Length) -> Length
-    requires { Within (2 ^ 40) length.sp }
-    ensures is { result.sp ≡ neg_ℤ length.sp }
-    ensures small { Within (2 ^ 40) result.sp }
-{
-    Length { sp: -length.sp }
 }

@@ -16,7 +16,7 @@ use mt_box::{Column, Entry, Extents, Packed, vpack};
 use mt_family::{FontSet, Size};
 use mt_rules::parameters::axis_height;
 use mt_rules::{PackedList, PartError, line_gap, part_answer};
-use mt_scaled::{Length, half, in_range};
+use mt_scaled::{Length, in_range};
 use std::alloc::{AllocError, Global};
 
 // Lines in a column, and how far it reaches from its top to its bottom.
@@ -68,16 +68,7 @@ fn height_of(fonts: &FontSet, size: Size, total: Length) -> Length
     ensures is { result.sp ≡ parameters.axis_height fonts.now size +ℤ half_of total.sp }
     ensures small { Within (2 ^ 54) result.sp }
 {
-    axis_height(fonts, size).plus(half_of_total(total))
-}
-
-#[tactic(auto, using(std::proofs::lemmas::Int::ints))]
-fn half_of_total(total: Length) -> Length
-    requires { Within (2 ^ 53) total.sp }
-    ensures is { result.sp ≡ half_of total.sp }
-    ensures small { Within (2 ^ 53) result.sp }
-{
-    Length { sp: half(total.sp) }
+    axis_height(fonts, size).plus(total.half())
 }
 
 // The rows with the gaps between them.

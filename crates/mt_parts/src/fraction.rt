@@ -13,8 +13,7 @@ ghost use Rattle.mt_rules.specs.Fractions;
 ghost use Rattle.mt_parts.specs.Widths.{layout_of_width};
 
 use crate::shifts::{
-    ShiftLengths, greater_width, half_of_length, is_zero, shifts_with_rule, shifts_without_rule,
-    top_of_rule,
+    ShiftLengths, greater_width, shifts_with_rule, shifts_without_rule, top_of_rule,
 };
 use mt_box::{Column, Entry, Extents, PackError, Packed, Piece, Row, hpack, recentre, vpack};
 use mt_delim::{Raised, delimiter_box};
@@ -120,7 +119,7 @@ fn fraction_body(
     let width = width_of_both(&num, &den);
     let num = recentre(num, width.sp);
     let den = recentre(den, width.sp);
-    if is_zero(thickness) {
+    if thickness.is_zero() {
         body_without_rule(alloc, fonts, style, num, den)
     } else {
         body_with_rule(alloc, fonts, style, thickness, num, den)
@@ -335,9 +334,7 @@ fn twice_half_less(thickness: Length) -> Length
     ensures is { result.sp ≡ (pos 2 *ℤ half_of thickness.sp) -ℤ thickness.sp }
     ensures small { Within (2 ^ 32) result.sp }
 {
-    Length {
-        sp: 2 * half_of_length(thickness).sp - thickness.sp,
-    }
+    thickness.half().twice().minus(thickness)
 }
 
 #[tactic(auto, using(std::proofs::lemmas::Int::ints))]

@@ -18,8 +18,8 @@ use std::alloc::{AllocError, Global};
 /// The body with a rule over it. The gap between them is three times the rule's thickness, and the space above the
 /// rule is as high as it is thick. The body's level is at most 2^20 - 4.
 ///
-/// Refused with `Overflow` of the first number out of range: the rule's thickness, then an extent of the whole; and with
-/// `OutOfMemory`. The rule's width is in range, since the body's is.
+/// Refused with `Overflow` of the first number out of range: the rule's thickness, then an extent
+/// of the whole; and with `OutOfMemory`. The rule's width is in range, since the body's is.
 #[tactic(auto, unfolding(mt_rules::specs::Lines::overline))]
 pub fn overline_box(
     alloc: Global,
@@ -35,15 +35,15 @@ pub fn overline_box(
     let extents = body.extents();
     let thickness = default_rule_thickness(fonts, size);
     test_rule(rule_width(extents).sp, thickness.sp)?;
-    let column = column_over(alloc, thickness, body)?;
-    part_answer(vpack(alloc, column, top_over(extents, thickness).sp))
+    let column = column_of_overline(alloc, thickness, body)?;
+    part_answer(vpack(alloc, column, height_with_rule(extents, thickness).sp))
 }
 
 /// The body with a rule under it. The gap between them is three times the rule's thickness, and the space below the
 /// rule is as high as it is thick. The body's level is at most 2^20 - 4.
 ///
-/// Refused with `Overflow` of the first number out of range: the rule's thickness, then an extent of the whole; and with
-/// `OutOfMemory`. The rule's width is in range, since the body's is.
+/// Refused with `Overflow` of the first number out of range: the rule's thickness, then an extent
+/// of the whole; and with `OutOfMemory`. The rule's width is in range, since the body's is.
 #[tactic(auto, unfolding(mt_rules::specs::Lines::underline))]
 pub fn underline_box(
     alloc: Global,
@@ -59,7 +59,7 @@ pub fn underline_box(
     let extents = body.extents();
     let thickness = default_rule_thickness(fonts, size);
     test_rule(rule_width(extents).sp, thickness.sp)?;
-    let column = column_under(alloc, thickness, body)?;
+    let column = column_of_underline(alloc, thickness, body)?;
     part_answer(vpack(alloc, column, extents.height))
 }
 
@@ -87,7 +87,7 @@ fn gap_of(thickness: Length) -> Length
 
 // The height of a body with its rule.
 #[tactic(auto, using(std::proofs::lemmas::Int::ints))]
-fn top_over(body: Extents, thickness: Length) -> Length
+fn height_with_rule(body: Extents, thickness: Length) -> Length
     requires body { ExtentsInRange body }
     requires thickness { Within (2 ^ 31) thickness.sp }
     ensures is { result.sp ≡ body.height +ℤ (pos 5 *ℤ thickness.sp) }
@@ -98,7 +98,7 @@ fn top_over(body: Extents, thickness: Length) -> Length
     }
 }
 
-fn column_over(alloc: Global, thickness: Length, body: Packed) -> Result<Column, AllocError>
+fn column_of_overline(alloc: Global, thickness: Length, body: Packed) -> Result<Column, AllocError>
     requires thickness { Within (2 ^ 31) thickness.sp }
     requires level { body.level < 2 ^ 20 }
     ensures is { IfOk result (λ column. entry_values column ≡ EntryKern thickness.sp ∷ EntryRule thickness.sp
@@ -117,7 +117,7 @@ fn column_over(alloc: Global, thickness: Length, body: Packed) -> Result<Column,
     Ok(Column::from_vec(entries))
 }
 
-fn column_under(alloc: Global, thickness: Length, body: Packed) -> Result<Column, AllocError>
+fn column_of_underline(alloc: Global, thickness: Length, body: Packed) -> Result<Column, AllocError>
     requires thickness { Within (2 ^ 31) thickness.sp }
     requires level { body.level < 2 ^ 20 }
     ensures is { IfOk result (λ column. entry_values column ≡ EntryBox (pos 0) (layout_of body)

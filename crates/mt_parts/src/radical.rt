@@ -10,7 +10,6 @@ ghost use Rattle.mt_rules.specs.Radicals;
 ghost use Rattle.mt_parts.specs.RuledBodies.{ruled_body};
 
 use crate::lines::rule_width;
-use crate::shifts::half_of_length;
 use mt_box::{Column, Entry, Extents, Packed, Piece, Row, hpack, vpack};
 use mt_delim::delimiter_box;
 use mt_family::FontSet;
@@ -19,11 +18,12 @@ use mt_rules::{Delim, PartError, Style, part_answer, test_rule};
 use mt_scaled::Length;
 use std::alloc::{AllocError, Global};
 
-/// The body beside a radical sign and under its rule. The rule is as thick as the sign is high, and the space above it
-/// is as high. The least gap between body and rule is as high as a rule of the font is thick, and a quarter more: of
-/// |x_height| in display style, of that thickness else. The sign is a delimiter for what the body, the least gap and a
-/// rule of the font reach together. Where the sign is deeper than body and least gap reach, half of the difference is
-/// added to the gap. The body's level is at most 2^20 - 4.
+/// The body beside a radical sign and under its rule. The rule is as thick as the sign is high, and
+/// the space above it is as high. The least gap between body and rule is the thickness of a rule of
+/// the font, plus a quarter of the absolute value of the x-height in display style and of that
+/// thickness else, rounded down. The sign is a delimiter for what the body, the least gap and a rule
+/// of the font reach together. Where the sign is deeper than body and least gap reach, half of the
+/// difference is added to the gap. The body's level is at most 2^20 - 4.
 ///
 /// Refused as by [`delimiter_box`] of the sign; then with `Overflow` of the first extent out of range, of body and rule
 /// together, then of the whole; and with `OutOfMemory`. The rule's width and thickness are those of boxes in range.
@@ -110,7 +110,7 @@ fn gap_over_body(fonts: &FontSet, style: Style, body: Extents, sign: Extents) ->
     ensures small { Within (2 ^ 37) result.sp }
 {
     let least = least_clearance(fonts, style);
-    let gain = half_of_length(excess_of(least, body, sign)).not_negative();
+    let gain = excess_of(least, body, sign).half().not_negative();
     least.plus(gain)
 }
 

@@ -12,7 +12,7 @@ use mt_box::Extents;
 use mt_family::FontSet;
 use mt_rules::parameters::{axis_height, default_rule_thickness, denom1, denom2, num1, num2, num3};
 use mt_rules::{Shifts, Style};
-use mt_scaled::{Length, half};
+use mt_scaled::Length;
 
 /// How far the numerator of a fraction is shifted up and its denominator down, in scaled points.
 ///
@@ -71,7 +71,7 @@ fn reboxed_shifts(
     let width = greater_width(num, den);
     let num = reboxed(num, width);
     let den = reboxed(den, width);
-    if is_zero(thickness) {
+    if thickness.is_zero() {
         shifts_without_rule(fonts, style, num, den)
     } else {
         shifts_with_rule(fonts, style, thickness, num, den)
@@ -84,14 +84,6 @@ pub fn greater_width(num: Extents, den: Extents) -> Length
 {
     let least = Length { sp: num.width };
     Length { sp: den.width }.at_least(least)
-}
-
-/// Whether a length is 0.
-#[tactic(auto, using(std::proofs::lemmas::Int::ints))]
-pub fn is_zero(length: Length) -> bool
-    ensures { result ≡ int_eq length.sp (pos 0) }
-{
-    length.sp == 0
 }
 
 #[tactic(auto, using(std::proofs::lemmas::Int::ints))]
@@ -157,19 +149,6 @@ fn least_down(fonts: &FontSet, style: Style) -> Length
     }
 }
 
-/// Half of a length, an odd one first made greater by 1.
-pub fn half_of_length(length: Length) -> Length
-    requires { Within (2 ^ 44) length.sp }
-    ensures is { result.sp ≡ half_of length.sp }
-    ensures small { Within (2 ^ 44) result.sp }
-    ensures near { Within (2 ^ 36) length.sp → Within (2 ^ 36) result.sp }
-    ensures in_range { Within max_dimen length.sp → Within max_dimen result.sp }
-{
-    Length {
-        sp: half(length.sp),
-    }
-}
-
 // ---- without a rule
 
 // The gap that there is to be at least between numerator and denominator.
@@ -229,7 +208,7 @@ pub fn shifts_without_rule(
     let up = least_up_over_no_rule(fonts, style);
     let down = least_down(fonts, style);
     let lack = lack_between(least_gap(fonts, style), up, down, num, den);
-    let more = half_of_length(lack).not_negative();
+    let more = lack.half().not_negative();
     ShiftLengths {
         up: up.plus(more),
         down: down.plus(more),
@@ -240,7 +219,7 @@ pub fn shifts_without_rule(
 
 // The gap that there is to be at least above the rule, and below it.
 #[tactic(auto, using(std::proofs::lemmas::Int::ints))]
-fn clearance_of(style: Style, thickness: Length) -> Length
+fn least_gap_at_rule(style: Style, thickness: Length) -> Length
     requires { Within (2 ^ 40) thickness.sp }
     ensures is { result.sp ≡ if is_display style then pos 3 *ℤ thickness.sp else thickness.sp }
     ensures small { Within (2 ^ 42) result.sp }
@@ -264,19 +243,19 @@ pub fn top_of_rule(fonts: &FontSet, style: Style, thickness: Length) -> Length
     ensures small { Within (2 ^ 45) result.sp }
     ensures near { Within max_dimen thickness.sp → Within (2 ^ 33) result.sp }
 {
-    axis_height(fonts, style.size()).plus(half_of_length(thickness))
+    axis_height(fonts, style.size()).plus(thickness.half())
 }
 
 // How high the bottom of such a rule of even thickness is.
 #[tactic(auto, using(std::proofs::lemmas::Int::ints))]
-fn bottom_of_rule(fonts: &FontSet, style: Style, thickness: Length) -> Length
+fn bottom_of_even_rule(fonts: &FontSet, style: Style, thickness: Length) -> Length
     requires { Within (2 ^ 40) thickness.sp }
     ensures is { result.sp
         ≡ Parameters.axis_height fonts.now (size_of style) -ℤ half_of thickness.sp }
     ensures small { Within (2 ^ 45) result.sp }
     ensures near { Within max_dimen thickness.sp → Within (2 ^ 33) result.sp }
 {
-    axis_height(fonts, style.size()).minus(half_of_length(thickness))
+    axis_height(fonts, style.size()).minus(thickness.half())
 }
 
 // What the gap above the rule lacks.
@@ -336,9 +315,9 @@ pub fn shifts_with_rule(
     ensures down_near { Within max_dimen thickness.sp → Within max_dimen den.height
         → Within (2 ^ 37) result.down.sp }
 {
-    let clearance = clearance_of(style, thickness);
+    let clearance = least_gap_at_rule(style, thickness);
     let top = top_of_rule(fonts, style, thickness);
-    let bottom = bottom_of_rule(fonts, style, thickness);
+    let bottom = bottom_of_even_rule(fonts, style, thickness);
     let up = least_up_over_rule(fonts, style);
     let down = least_down(fonts, style);
     ShiftLengths {

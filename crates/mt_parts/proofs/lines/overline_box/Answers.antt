@@ -11,11 +11,11 @@ returns-clause-is c =
     over_answers c.args.fonts.now c.args.size (layout_of c.args.body) _ _ _ _ _
     (rw same at c.rule_width.ensures.is) c.rule_width.ensures.in_range
     c.default_rule_thickness-thickness.ensures.is c.default_rule_thickness-thickness.ensures.small
-    (rw same at c.top_over.ensures.is) c.top_over.ensures.small
+    (rw same at c.height_with_rule.ensures.is) c.height_with_rule.ensures.small
     c.in_ok-test_rule.ensures c.in_ok-column.ensures.is (c.part_answer.ensures.is _ c.vpack.ensures.packs)
 
 pub returns-clause-level : goal.returns-clause-level
 returns-clause-level c = c.part_answer.ensures.level _ (rw c.in_ok-column.ensures.level at c.vpack.ensures.level)
 
 pub returns-clause-in_range : goal.returns-clause-in_range
-returns-clause-in_range c = made_in_range (stack (entry_values c.in_ok-column.column) (to_z w64 (of_z w64 c.top_over.result.sp))) _ (c.part_answer.ensures.is _ c.vpack.ensures.packs)
+returns-clause-in_range c = made_in_range (stack (entry_values c.in_ok-column.column) (to_z w64 (of_z w64 c.height_with_rule.result.sp))) _ (c.part_answer.ensures.is _ c.vpack.ensures.packs)
