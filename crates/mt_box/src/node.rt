@@ -1,6 +1,7 @@
 //! The nodes of a box.
 
-/// The number of a node among the nodes of its box, counted from 0. The number of all nodes stands for their end.
+/// The number of a node among the nodes of its box, counted from 0. The number of all nodes stands
+/// for their end.
 #[derive(Clone, Copy, Debug, PartialEq, Eq)]
 pub struct NodeId(pub usize);
 
@@ -28,8 +29,8 @@ pub enum Mark {
     },
 }
 
-/// A node of a box, with its offset from its parent, or from the reference point where it has none. x grows to the
-/// right and y upward, in scaled points.
+/// A node of a box, with its offset from its parent, or from the reference point where it has none.
+/// x grows to the right and y upward, in scaled points.
 #[derive(Clone, Copy, Debug, PartialEq, Eq)]
 pub struct Node {
     pub x: i64,

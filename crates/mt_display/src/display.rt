@@ -32,26 +32,26 @@ use std::alloc::{AllocError, Global};
 /// e be the width of the number, and q that and the quad of the symbols at text size. Without a
 /// number e and q are 0.
 ///
-/// The width: where w + q is at most z, the display keeps its width. Else, where e is not 0 and
-/// w - s + q is at most z, it is set to z - q. In every other case e becomes 0, and a display that is
+/// The width: where w + q is at most z, the display keeps its width. Else, where e is not 0 and w -
+/// s + q is at most z, it is set to z - q. In every other case e becomes 0, and a display that is
 /// wider than z is set to z. From here on w is the new width.
 ///
 /// The place: d is half of z - w. But where e is positive and d is less than 2e, d is half of
 /// z - w - e, or 0 where the display begins with a space.
 ///
-/// With e not 0, display and number are one line of width z - d, with what is left of the line between
-/// them: the display first, shifted by d (`\eqno`), or the number first, shifted by 0 (`\leqno`). With
-/// e = 0 the display is shifted by d, and a number has a line of its own: below the display, with its
-/// right end at z (`\eqno`), or above it, shifted by 0 (`\leqno`).
+/// With e not 0, display and number are one line of width z - d, with what is left of the line
+/// between them: the display first, shifted by d (`\eqno`), or the number first, shifted by 0
+/// (`\leqno`). With e = 0 the display is shifted by d, and a number has a line of its own: below
+/// the display, with its right end at z (`\eqno`), or above it, shifted by 0 (`\leqno`).
 ///
-/// The width of the line is from 1 to 2^30 - 1. The row has at most 2^21 pieces, each number in it is
-/// at most 2^40 scaled points in size, and the level of each box in it is at most 2^20 - 4; the same
-/// holds for the row of the number. There are one or two lines. The level of a box in them is at most
-/// 2 above the greatest of these levels.
+/// The width of the line is from 1 to 2^30 - 1. The row has at most 2^21 pieces, each number in it
+/// is at most 2^40 scaled points in size, and the level of each box in it is at most 2^20 - 4; the
+/// same holds for the row of the number. There are one or two lines. The level of a box in them is
+/// at most 2 above the greatest of these levels.
 ///
 /// Refused with `Overflow` of the first of width, height and depth that is out of range: of the
-/// display as it is set, then of the number, then of the row of both where they are one line; and with
-/// `OutOfMemory`.
+/// display as it is set, then of the number, then of the row of both where they are one line; and
+/// with `OutOfMemory`.
 pub fn place_display(
     alloc: Global,
     fonts: &FontSet,

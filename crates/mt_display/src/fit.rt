@@ -18,15 +18,16 @@ pub(crate) struct Widths {
     pub(crate) q: Length,
 }
 
-// What a display is set to, where it does not keep its own width; and e, which is 0 where the number
-// does not stand beside it.
+// What a display is set to, where it does not keep its own width; and e, which is 0 where the
+// number does not stand beside it.
 #[derive(Clone, Copy)]
 pub(crate) struct Fit {
     pub(crate) target: Option<Length>,
     pub(crate) e: Length,
 }
 
-// Beside the number, where both fit; shrunk to make room for it, where that is enough; or without it.
+// Beside the number, where both fit; shrunk to make room for it, where that is enough; or without
+// it.
 pub(crate) fn fit_with(widths: Widths) -> Fit
     requires { AreWidths widths }
     ensures is { fit_value result ≡ fit_of_widths widths.z.sp widths.w.sp widths.s.sp widths.e.sp widths.q.sp }

@@ -12,9 +12,9 @@ use std::alloc::{AllocError, Global};
 
 /// The line of a formula in the text: its row packed, at the left end of the page.
 ///
-/// The row has at most 2^21 pieces, each number in it is at most 2^40 scaled points in size, and the
-/// level of each box in it is below 2^20. The level of the line's box is one more than the greatest
-/// of theirs, and 1 without boxes.
+/// The row has at most 2^21 pieces, each number in it is at most 2^40 scaled points in size, and
+/// the level of each box in it is below 2^20. The level of the line's box is one more than the
+/// greatest of theirs, and 1 without boxes.
 ///
 /// Refused with `Overflow` of the first of width, height and depth of the packed row that is out of
 /// range, and with `OutOfMemory`.

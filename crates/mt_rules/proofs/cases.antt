@@ -1,4 +1,4 @@
--- Worked cases of the rules of Appendix G, in made-up fonts with odd numbers and in the example fonts.
+-- Worked cases of the rules of Appendix G, in made-up fonts with odd numbers and in the toy fonts.
 mod Writing
 mod OddFonts
 mod ToyFonts

@@ -1,4 +1,4 @@
--- Atoms in the example fonts, worked.
+-- Atoms in the toy fonts, worked.
 use Rattle.std.proofs.Common.{◌≡◌, refl, Ok, Some, None, pos, [], ◌∷◌}
 use Rattle.mt_box.specs.declared.place.Place.TheVariants.{Glyph, Rule}
 use Rattle.mt_box.specs.Rows.{PieceGlyph, PieceBox}
