@@ -6,6 +6,8 @@ pub mod Unmatched
 pub mod Named
 -- the first # that no parameter follows
 pub mod Hashes
+-- where groups end, and the tokens of pieces
+pub mod Ending
 -- groups and arguments, taken a token at a time
 pub mod Taking
 -- how far a list is expanded

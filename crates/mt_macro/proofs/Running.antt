@@ -9,11 +9,11 @@ use Rattle.mt_macro.specs.Table.{Table, macro_at}
 use Rattle.std.specs.Borrow.{Bor}
 use Rattle.mt_macro.specs.Limits.{max_tokens, max_steps}
 use Rattle.mt_macro.specs.Arguments.{Arguments, arguments, fill}
-use Rattle.mt_macro.specs.inner.Taking.{tokens_behind}
+use Rattle.mt_macro.specs.inner.Taking.{lent_tokens}
 use Rattle.mt_macro.specs.Expansion.{MacroStep, Done, Missing, Next, past, macro_step, macro_step_at, replacement, Expansion, Expanded, OverBudget, NoArgument, at_last, further, within_budget, run}
 use Rattle.mt_macro.specs.inner.Replacing.{ExceedsBudget, FitsBudget}
 
-pub lent_length : (ts : List (Bor Token)) → length (tokens_behind ts) ≡ length ts
+pub lent_length : (ts : List (Bor Token)) → length (lent_tokens ts) ≡ length ts
 lent_length [] = refl
 lent_length (t ∷ ts) = ap suc (lent_length ts)
 

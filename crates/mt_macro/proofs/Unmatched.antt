@@ -7,17 +7,17 @@ use Rattle.mt_token.specs.declared.token.Token.{Token}
 use Rattle.mt_macro.specs.Braces.{Taken, onto, group, level_after, is_open, is_close, index_after_first, first_unmatched}
 use Rattle.mt_macro.proofs.Indexes.{shifted, shifted_none, shifted_next, shifted_here}
 
-not_both : (t : Token) → is_open t ≡ true → is_close t ≡ false
+pub not_both : (t : Token) → is_open t ≡ true → is_close t ≡ false
 not_both t o = grind (arith, nat_tests, o)
 
 and_no : (b : Bool) → b && false ≡ false
 and_no true = refl
 and_no false = refl
 
-suc_zero : (level : ℕ) → (suc level == 0) ≡ false
+pub suc_zero : (level : ℕ) → (suc level == 0) ≡ false
 suc_zero level = grind (arith, nat_tests)
 
-inside_not : (level : ℕ) (b : Bool) → (suc level == 0) && b ≡ false
+pub inside_not : (level : ℕ) (b : Bool) → (suc level == 0) && b ≡ false
 inside_not level b = ap (λ x. x && b) (suc_zero level)
 
 pub group_on : (level : ℕ) (t : Token) (rest : List Token) → (level == 0) && is_close t ≡ false → group level (t ∷ rest) ≡ onto t (group (level_after level t) rest)
@@ -27,13 +27,13 @@ is_some_onto : (t : Token) (o : Option Taken) → is_some (onto t o) ≡ is_some
 is_some_onto t None = refl
 is_some_onto t (Some taken) = refl
 
-level_open : (level : ℕ) (t : Token) → is_open t ≡ true → level_after level t ≡ level + 1
+pub level_open : (level : ℕ) (t : Token) → is_open t ≡ true → level_after level t ≡ level + 1
 level_open level t o = rw o refl
 
-level_close : (level : ℕ) (t : Token) → is_open t ≡ false → is_close t ≡ true → level_after level t ≡ level - 1
+pub level_close : (level : ℕ) (t : Token) → is_open t ≡ false → is_close t ≡ true → level_after level t ≡ level - 1
 level_close level t o c = rw (o, c) refl
 
-level_other : (level : ℕ) (t : Token) → is_open t ≡ false → is_close t ≡ false → level_after level t ≡ level
+pub level_other : (level : ℕ) (t : Token) → is_open t ≡ false → is_close t ≡ false → level_after level t ≡ level
 level_other level t o c = rw (o, c) refl
 
 -- whether the groups that are open end, with so many inside
@@ -68,7 +68,7 @@ ends_innermost : (level : ℕ) (xs : List Token) → is_some (group level xs) �
 ends_innermost zero xs h = h
 ends_innermost (suc level) xs h = ends_innermost level xs (ends_inner level xs h)
 
-true_not_false : true ≡ false → ⊥
+pub true_not_false : true ≡ false → ⊥
 true_not_false e = cc
 
 -- the first brace without partner, by the index of the { that opened the outermost group, and the tokens from an index on
@@ -141,7 +141,7 @@ outside : (outermost outermost' at : ℕ) (rest : List Token) → watched 0 oute
 unfolding watched
 outside outermost outermost' at rest = refl
 
-not_open : (t : Token) → is_close t ≡ true → is_open t ≡ false
+pub not_open : (t : Token) → is_close t ≡ true → is_open t ≡ false
 not_open t c = grind (arith, nat_tests, c)
 
 -- one token more, where it is no } outside of all groups

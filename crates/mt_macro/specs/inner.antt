@@ -1,4 +1,8 @@
--- lent tokens, and what is taken of them
+-- where groups end, and the tokens of pieces
+pub mod Ends
+-- where a piece leaves a group
+pub mod Pieces
+-- what is taken of the tokens that are left
 pub mod Taking
 -- what became of a macro in a step
 pub mod Replacing

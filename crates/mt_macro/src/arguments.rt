@@ -1,48 +1,44 @@
 //! The arguments of a macro.
-ghost use Rattle.std.specs.Prelude.{◌≡◌, ◌<◌, ◌≤◌, ◌+◌, ◌^◌, ◌++◌, ◌∷◌, [], IfOk, IfSome, OnOk, length, All};
+ghost use Rattle.std.specs.Prelude.{◌≡◌, ◌<◌, ◌≤◌, ◌+◌, ◌^◌, IfOk, IfSome, OnOk, [], ◌∷◌, ◌++◌, length, All};
 ghost use Rattle.std.specs.Option.{option_map};
 ghost use Rattle.mt_macro.specs.Braces.{group};
 ghost use Rattle.mt_macro.specs.Arguments.{argument, arguments};
-ghost use Rattle.mt_macro.specs.inner.Taking.{Takes, TakesAll, IsShortArgument, tokens_behind, token_lists_behind};
+ghost use Rattle.mt_macro.specs.inner.Taking.{Takes, TakesAll, IsShortArgument};
 
-use crate::braces::{closes_none, is_close, is_open, level_after};
+use crate::argument::Argument;
+use crate::braces::{is_close, is_open};
 use crate::inputs::Inputs;
+use crate::pieces::{Closing, Piece};
 use crate::spare::SpareLists;
-use mt_scaled::Items;
 use mt_token::{Token, is_space};
 use std::alloc::{AllocError, Global};
-
-/// The tokens of an argument.
-pub type Argument<'a> = Items<&'a Token>;
-
-/// Puts a token at the end.
-pub fn push_token<'a>(list: &mut Vec<&'a Token>, token: &'a Token) -> Result<(), AllocError>
-    ensures { OnOk result (tokens_behind list.new.items
-        ≡ tokens_behind list.old.items ++ token.now ∷ []) }
-{
-    list.push(token)?;
-    Ok(())
-}
+use std::slice;
 
 // Takes the rest of a group, with the brace that closes it; the brace is left out of what it gives.
+// Where the end is known in the first piece, no token is looked at.
 fn take_group<'a>(
     spare: &mut SpareLists<'a>,
     rest: &mut Inputs<'a>,
 ) -> Result<Option<Argument<'a>>, AllocError>
     requires { length rest.old < 2 ^ 31 }
     ensures short { IfOk result (λ taken. IfSome taken (λ a. length a ≤ length rest.old)) }
-    ensures takes { IfOk result (λ taken. Takes (option_map (λ v. tokens_behind v) taken)
-        (group 0 rest.old) rest.new) }
-    ensures falls { length rest.new ≤ length rest.old }
+    ensures takes { IfOk result (λ taken. Takes taken (group 0 rest.old) rest.new) }
+    ensures falls { IfOk result (λ taken. length rest.new ≤ length rest.old) }
 {
-    let mut inside = spare.take();
+    let mut inside = Argument::in_list(spare.take());
     let mut level = 0;
-    while let Some(token) = rest.pop() {
-        if closes_none(level, token) {
-            return Ok(Some(Argument::from_vec(inside)));
+    while let Some(piece) = rest.take_piece() {
+        match piece.closing(level) {
+            Closing::At(index) => {
+                inside.push(piece.up_to(index))?;
+                rest.put(piece.from_index(index + 1))?;
+                return Ok(Some(inside));
+            }
+            Closing::Open(next) => {
+                inside.push(piece)?;
+                level = next;
+            }
         }
-        level = level_after(level, token);
-        push_token(&mut inside, token)?;
     }
     Ok(None)
 }
@@ -54,9 +50,8 @@ fn take_argument<'a>(
 ) -> Result<Option<Argument<'a>>, AllocError>
     requires { length rest.old < 2 ^ 31 }
     ensures short { IfOk result (λ taken. IfSome taken (λ a. length a ≤ length rest.old)) }
-    ensures takes { IfOk result (λ taken. Takes (option_map (λ v. tokens_behind v) taken)
-        (argument rest.old) rest.new) }
-    ensures falls { length rest.new ≤ length rest.old }
+    ensures takes { IfOk result (λ taken. Takes taken (argument rest.old) rest.new) }
+    ensures falls { IfOk result (λ taken. length rest.new ≤ length rest.old) }
 {
     while let Some(token) = rest.pop() {
         if is_open(token) {
@@ -66,9 +61,9 @@ fn take_argument<'a>(
             return Ok(None);
         }
         if !is_space(token) {
-            let mut one = spare.take();
-            push_token(&mut one, token)?;
-            return Ok(Some(Argument::from_vec(one)));
+            let mut one = Argument::in_list(spare.take());
+            one.push(Piece::plain(slice::from_ref(token)))?;
+            return Ok(Some(one));
         }
     }
     Ok(None)
@@ -83,9 +78,9 @@ pub fn take_arguments<'a>(
 ) -> Result<Option<Vec<Argument<'a>>>, AllocError>
     requires { length rest.old < 2 ^ 31 }
     ensures short { IfOk result (λ taken. IfSome taken (λ all. All IsShortArgument all.items)) }
-    ensures takes { IfOk result (λ taken. TakesAll
-        (option_map (λ v. token_lists_behind v.items) taken) (arguments params rest.old) rest.new) }
-    ensures falls { length rest.new ≤ length rest.old }
+    ensures takes { IfOk result (λ taken. TakesAll (option_map (λ v. v.items) taken)
+        (arguments params rest.old) rest.new) }
+    ensures falls { IfOk result (λ taken. length rest.new ≤ length rest.old) }
 {
     let mut taken = Vec::new(alloc);
     let mut left = params;
@@ -102,8 +97,7 @@ pub fn take_arguments<'a>(
 fn push_argument<'a>(list: &mut Vec<Argument<'a>>, argument: Argument<'a>) -> Result<(), AllocError>
     ensures short { All IsShortArgument list.old.items → IsShortArgument argument.entry
         → OnOk result (All IsShortArgument list.new.items) }
-    ensures is { OnOk result (token_lists_behind list.new.items
-        ≡ token_lists_behind list.old.items ++ tokens_behind argument.entry ∷ []) }
+    ensures is { OnOk result (list.new.items ≡ list.old.items ++ argument.entry ∷ []) }
 {
     list.push(argument)?;
     Ok(())

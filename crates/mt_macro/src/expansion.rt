@@ -1,18 +1,21 @@
 //! Expansion: macros are replaced, one step after another, until none is left.
-ghost use Rattle.std.specs.Prelude.{◌≡◌, ◌<◌, ◌≤◌, ◌+◌, IfOk, length, Err, None};
+ghost use Rattle.std.specs.Prelude.{◌≡◌, ◌<◌, ◌≤◌, ◌+◌, ◌∷◌, [], ◌++◌, IfOk, OnOk, length, Err, None};
 ghost use Rattle.mt_macro.specs.Limits.{max_steps, max_tokens};
 ghost use Rattle.mt_macro.specs.Braces.{first_unmatched};
 ghost use Rattle.mt_macro.specs.inner.Kept.{HasShortBody};
-ghost use Rattle.mt_macro.specs.inner.Taking.{tokens_behind};
+ghost use Rattle.mt_macro.specs.inner.Taking.{lent_tokens};
 ghost use Rattle.mt_macro.specs.Arguments.{arguments};
 ghost use Rattle.mt_macro.specs.Expansion.{run, expansion, Expands, replacement};
 ghost use Rattle.mt_macro.specs.inner.Replacing.{Replaces};
 ghost use Rattle.mt_macro.specs.declared.expansion.ExpandError.TheVariants.{OutOfMemory};
 
-use crate::arguments::{Argument, push_token, take_arguments};
+use crate::argument::Argument;
+use crate::arguments::take_arguments;
 use crate::braces::first_unmatched;
+use crate::ends::ends_of;
 use crate::filling::{fill, fill_len};
 use crate::inputs::Inputs;
+use crate::pieces::Piece;
 use crate::spare::SpareLists;
 use crate::table::{Macro, Macros};
 use mt_token::{Token, TokenList};
@@ -110,15 +113,24 @@ pub fn expand(alloc: Global, macros: &Macros, list: &[Token]) -> Result<TokenLis
     run_steps(alloc, macros, list)
 }
 
-// The tokens behind references, in memory of their own.
+// The tokens that references lend, in memory of their own.
 fn copy_tokens(alloc: Global, list: &[&Token]) -> Result<TokenList, AllocError>
-    ensures { IfOk result (λ tokens. tokens ≡ tokens_behind list.now) }
+    ensures { IfOk result (λ tokens. tokens ≡ lent_tokens list.now) }
 {
     let mut tokens = Vec::with_capacity(alloc, list.len())?;
     for token in list {
         tokens.push(token.copied(alloc)?)?;
     }
     Ok(TokenList::from_vec(tokens))
+}
+
+// Puts a token at the end.
+fn push_token<'a>(list: &mut Vec<&'a Token>, token: &'a Token) -> Result<(), AllocError>
+    ensures { OnOk result (lent_tokens list.new.items
+        ≡ lent_tokens list.old.items ++ token.now ∷ []) }
+{
+    list.push(token)?;
+    Ok(())
 }
 
 // What became of a macro and its arguments.
@@ -153,7 +165,7 @@ fn replace<'a>(
         return Ok(Replacement::TooLong(length));
     }
     let body = fill(spare, text, given)?;
-    rest.push_all(body.as_slice())?;
+    rest.put_all(body.as_slice())?;
     spare.keep(body)?;
     keep_all(spare, arguments)?;
     Ok(Replacement::Done)
@@ -165,18 +177,23 @@ fn keep_all<'a>(
     arguments: Vec<Argument<'a>>,
 ) -> Result<(), AllocError> {
     for argument in arguments {
-        spare.keep(argument.into_vec())?;
+        spare.keep(argument.into_list())?;
     }
     Ok(())
 }
 
 // The tokens that the steps leave.
-fn run_steps(alloc: Global, macros: &Macros, list: &[Token]) -> Result<TokenList, ExpandError>
+fn run_steps<'a>(
+    alloc: Global,
+    macros: &'a Macros,
+    list: &'a [Token],
+) -> Result<TokenList, ExpandError>
     requires { length list.now ≤ max_tokens }
     ensures { Expands result (run macros.now max_steps 0 list.now) }
 {
+    let ends = ends_of(alloc, list)?;
     let mut passed = Vec::with_capacity(alloc, list.len())?;
-    let mut rest = Inputs::of(alloc, list)?;
+    let mut rest = Inputs::of(alloc, Piece::new(list, ends.as_slice()));
     let mut spare = SpareLists::none(alloc);
     let mut steps = 0;
     while let Some(token) = rest.pop() {

@@ -2,13 +2,16 @@
 ghost use Rattle.std.specs.Prelude.{◌≡◌, ◌<◌, ◌≤◌, ◌+◌, ◌-◌, ◌^◌, ◌++◌, [], IfOk, OnOk, length, All, get_or};
 ghost use Rattle.mt_token.specs.Character.{character_code};
 ghost use Rattle.mt_macro.specs.Arguments.{fill};
-ghost use Rattle.mt_macro.specs.inner.Taking.{tokens_behind, token_lists_behind, IsShortArgument};
+ghost use Rattle.mt_macro.specs.inner.Ends.{joined};
+ghost use Rattle.mt_macro.specs.inner.Taking.{IsShortArgument};
 
-use crate::arguments::{Argument, push_token};
+use crate::argument::Argument;
 use crate::parameters::is_hash;
+use crate::pieces::Piece;
 use crate::spare::SpareLists;
 use mt_token::{Token, character_code};
 use std::alloc::AllocError;
+use std::slice;
 
 // The index of a parameter's argument, by its digit.
 fn index_of(digit: &Token) -> usize
@@ -20,8 +23,7 @@ fn index_of(digit: &Token) -> usize
 // How many tokens a parameter's argument has, 0 where there is none.
 fn argument_len(arguments: &[Argument], digit: &Token) -> usize
     requires { All IsShortArgument arguments.now }
-    ensures is { result ≡ length (get_or (token_lists_behind arguments.now)
-        (character_code digit.now.kind - 49) []) }
+    ensures is { result ≡ length (get_or arguments.now (character_code digit.now.kind - 49) []) }
     ensures short { result < 2 ^ 31 }
 {
     match arguments.get(index_of(digit)) {
@@ -34,7 +36,7 @@ fn argument_len(arguments: &[Argument], digit: &Token) -> usize
 pub fn fill_len(body: &[Token], arguments: &[Argument]) -> u64
     requires body { length body.now ≤ 2 ^ 32 }
     requires arguments { All IsShortArgument arguments.now }
-    ensures is { result ≡ length (fill (token_lists_behind arguments.now) body.now) }
+    ensures is { result ≡ length (fill arguments.now body.now) }
     ensures small { result ≤ 2 ^ 63 }
 {
     let mut count = 0;
@@ -54,51 +56,50 @@ pub fn fill_len(body: &[Token], arguments: &[Argument]) -> u64
     }
 }
 
-/// A body with arguments in place of its parameters.
+/// The pieces of a body with arguments in place of its parameters.
 pub fn fill<'a>(
     spare: &mut SpareLists<'a>,
     body: &'a [Token],
     arguments: &[Argument<'a>],
-) -> Result<Vec<&'a Token>, AllocError>
-    ensures { IfOk result (λ tokens. tokens_behind tokens.items
-        ≡ fill (token_lists_behind arguments.now) body.now) }
+) -> Result<Vec<Piece<'a>>, AllocError>
+    ensures { IfOk result (λ pieces. joined pieces.items ≡ fill arguments.now body.now) }
 {
-    let mut tokens = spare.take();
+    let mut pieces = spare.take();
     let mut rest = body;
     loop {
         match rest {
             [hash, digit, after @ ..] if is_hash(hash) => {
-                push_argument(&mut tokens, arguments, digit)?;
+                push_argument(&mut pieces, arguments, digit)?;
                 rest = after;
             }
             [token, after @ ..] => {
-                push_token(&mut tokens, token)?;
+                push_piece(&mut pieces, Piece::plain(slice::from_ref(token)))?;
                 rest = after;
             }
-            [] => return Ok(tokens),
+            [] => return Ok(pieces),
         }
     }
 }
 
 // Puts a parameter's argument at the end.
 fn push_argument<'a>(
-    tokens: &mut Vec<&'a Token>,
+    pieces: &mut Vec<Piece<'a>>,
     arguments: &[Argument<'a>],
     digit: &Token,
 ) -> Result<(), AllocError>
-    ensures { OnOk result (tokens_behind tokens.new.items ≡ tokens_behind tokens.old.items
-        ++ get_or (token_lists_behind arguments.now) (character_code digit.now.kind - 49) []) }
+    ensures { OnOk result (joined pieces.new.items ≡ joined pieces.old.items
+        ++ get_or arguments.now (character_code digit.now.kind - 49) []) }
 {
     match arguments.get(index_of(digit)) {
-        Some(argument) => push_slice(tokens, argument.as_slice()),
+        Some(argument) => argument.append_to(pieces),
         None => Ok(()),
     }
 }
 
-fn push_slice<'a>(tokens: &mut Vec<&'a Token>, more: &[&'a Token]) -> Result<(), AllocError>
-    ensures { OnOk result (tokens_behind tokens.new.items
-        ≡ tokens_behind tokens.old.items ++ tokens_behind more.now) }
+// Puts a piece at the end.
+fn push_piece<'a>(pieces: &mut Vec<Piece<'a>>, piece: Piece<'a>) -> Result<(), AllocError>
+    ensures { OnOk result (joined pieces.new.items ≡ joined pieces.old.items ++ piece.entry) }
 {
-    tokens.extend_from_slice(more)?;
+    pieces.push(piece)?;
     Ok(())
 }

@@ -2,13 +2,16 @@
 //! chapter 20; tex.web part 25).
 #![tactic(auto)]
 
+mod argument;
 mod arguments;
 mod braces;
 mod definition;
+mod ends;
 mod expansion;
 mod filling;
 mod inputs;
 mod parameters;
+mod pieces;
 mod spare;
 mod table;
 

@@ -1,14 +1,14 @@
 //! Lists whose memory is used again.
 ghost use Rattle.std.specs.Prelude.{◌≡◌, [], ◌∷◌, ◌++◌, OnOk};
 
-use mt_token::Token;
+use crate::pieces::Piece;
 use std::alloc::{AllocError, Global};
 
-/// Lists of tokens that are done with. Later lists take their memory.
+/// Lists of pieces that are done with. Later lists take their memory.
 #[derive(Drop)]
 pub struct SpareLists<'a> {
     alloc: Global,
-    lists: Vec<Vec<&'a Token>>,
+    lists: Vec<Vec<Piece<'a>>>,
 }
 
 impl<'a> SpareLists<'a> {
@@ -21,7 +21,7 @@ impl<'a> SpareLists<'a> {
     }
 
     /// An empty list, in the memory of one that is done with if there is one.
-    pub fn take(&mut self) -> Vec<&'a Token>
+    pub fn take(&mut self) -> Vec<Piece<'a>>
         ensures { result.items ≡ [] }
     {
         match self.lists.pop() {
@@ -34,7 +34,7 @@ impl<'a> SpareLists<'a> {
     }
 
     /// Keeps a list that is done with.
-    pub fn keep(&mut self, list: Vec<&'a Token>) -> Result<(), AllocError>
+    pub fn keep(&mut self, list: Vec<Piece<'a>>) -> Result<(), AllocError>
         ensures { OnOk result (self.new.lists.items ≡ self.old.lists.items ++ list.entry ∷ []) }
     {
         self.lists.push(list)?;

@@ -1,16 +1,13 @@
--- Tokens that are lent while a step goes on, and what is taken of them.
+-- What is taken of the tokens that are left, and tokens that are lent.
 use Rattle.std.specs.Prelude.{◌≡◌, ◌<◌, ◌^◌, List, length, map, Option, Some, None}
 use Rattle.std.specs.Borrow.{Bor}
 use Rattle.mt_token.specs.declared.token.Token.{Token}
 use Rattle.mt_macro.specs.Braces.{Taken}
 use Rattle.mt_macro.specs.Arguments.{Arguments}
 
--- the tokens behind references
-abbrev pub tokens_behind : List (Bor Token) → List Token
-tokens_behind ts = map (λ (t : Bor Token). t.now) ts
-
-abbrev pub token_lists_behind : List (List (Bor Token)) → List (List Token)
-token_lists_behind vs = map (λ (v : List (Bor Token)). tokens_behind v) vs
+-- the tokens that references lend
+abbrev pub lent_tokens : List (Bor Token) → List Token
+lent_tokens ts = map (λ (t : Bor Token). t.now) ts
 
 -- what was taken, if anything, is this argument, and these tokens are left after it
 abbrev pub Takes : Option (List Token) → Option Taken → List Token → Type 0
@@ -23,5 +20,5 @@ TakesAll None expected after = expected ≡ None
 TakesAll (Some all) expected after = expected ≡ Some (record { arguments = all; after = after })
 
 -- an argument that is short enough for the tokens of a filled body to be counted
-abbrev pub IsShortArgument : List (Bor Token) → Type 0
+abbrev pub IsShortArgument : List Token → Type 0
 IsShortArgument argument = length argument < 2 ^ 31
