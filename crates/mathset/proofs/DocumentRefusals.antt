@@ -21,8 +21,11 @@ use Rattle.mt_plain.specs.CodeTables.{CodeTables, plain_codes}
 use Rattle.mt_plain.specs.PlainMacros.{plain_table, token_of}
 use Rattle.mt_family.specs.SetValue.{SetValue}
 use Rattle.mt_family.specs.Sets.{units_of}
-use Rattle.mt_scan.specs.Parts.{Read, Got, Fault}
+use Rattle.mt_scan.specs.declared.fault.ReadCause.{ReadCause}
+use Rattle.mt_scan.specs.declared.fault.ReadCause.TheVariants.{UnknownName, DoubleScript, TwoFractions, BadDelimiter, Unbalanced, MisplacedLimits, MissingField, BadNumber, BadDimension, MisplacedNumber, TooDeep as TooManyGroups}
+use Rattle.mt_scan.specs.Parts.{Read, ReadOr, Got, Fault}
 use Rattle.mt_formula.specs.Formulas.{Reading, Reads, ReadFault, reading}
+use Rattle.mt_reader.specs.declared.outside_cause.OutsideCause.{OutsideCause}
 use Rattle.mt_reader.specs.declared.outside_role.OutsideRole.{OutsideRole}
 use Rattle.mt_reader.specs.declared.outside_role.OutsideRole.TheVariants.{Passed, Defines, SetsMathCode, SetsDelimiterCode, BeginsFormula, EndsPage, EndsDocument, Misplaced}
 use Rattle.mt_reader.specs.documents.Assignments.{math_code_assignment, delcode_assignment}
@@ -30,7 +33,7 @@ use Rattle.mt_reader.specs.documents.Definitions.{MacroDefinition, macro_definit
 use Rattle.mt_reader.specs.documents.Documents.{DocumentState, DocumentAnswer, Turn, Goes, Ends, Stops, StopsOutside, after_assignment, after_definition, after_expansion, after_reading, formula_in, formula_turn, is_page_limit, outside_role, pages_from, start_state, turn_answer, turn_by, with_table}
 use Rattle.mt_reader.specs.documents.Dollars.{begins_display, between_dollars, up_to_end}
 use Rattle.mt_reader.specs.documents.Sources.{document_by}
-use Rattle.mathset.specs.Documents.{document_from, document_of, document_refusal, token_refusal}
+use Rattle.mathset.specs.Documents.{document_from, document_of, document_refusal, reading_refusal, token_refusal}
 use Rattle.mathset.specs.declared.status.Status.TheVariants.{BadFormula, TooDeep, OutOfMemory}
 use Rattle.mathset.proofs.Avoiding.{Avoids, avoids_err}
 use Rattle.mathset.proofs.Balanced.{balanced}
@@ -141,7 +144,7 @@ table_avoids : (s : DocumentState) (left : ℕ) (rest : List Token) (made : Resu
 table_avoids s left rest (Ok macros) = tt
 table_avoids s left rest (Err e) = tt
 
-definition_avoids : (s : DocumentState) (left : ℕ) (read : Read MacroDefinition) → TurnAvoids (after_definition s left read)
+definition_avoids : (s : DocumentState) (left : ℕ) (read : ReadOr OutsideCause MacroDefinition) → TurnAvoids (after_definition s left read)
 definition_avoids s left (Fault cause at) = tt
 definition_avoids s left (Got d rest) = table_avoids s left rest (define s.macros d.name d.params d.body)
 
@@ -149,12 +152,21 @@ assignment_avoids : (s : DocumentState) (left : ℕ) (read : Read CodeTables) �
 assignment_avoids s left (Fault cause at) = tt
 assignment_avoids s left (Got tables rest) = tt
 
-cause_avoids : (b : Bool) (n cause place : ℕ) → cond b (TooDeep n place) (BadFormula n place cause) ≡ OutOfMemory → ⊥
-cause_avoids true n cause place h = cc
-cause_avoids false n cause place h = cc
+cause_avoids : (n : ℕ) (cause : ReadCause) (place : ℕ) → reading_refusal n cause place ≡ OutOfMemory → ⊥
+cause_avoids n UnknownName place h = cc
+cause_avoids n DoubleScript place h = cc
+cause_avoids n TwoFractions place h = cc
+cause_avoids n BadDelimiter place h = cc
+cause_avoids n Unbalanced place h = cc
+cause_avoids n MisplacedLimits place h = cc
+cause_avoids n MissingField place h = cc
+cause_avoids n BadNumber place h = cc
+cause_avoids n BadDimension place h = cc
+cause_avoids n MisplacedNumber place h = cc
+cause_avoids n TooManyGroups place h = cc
 
 reading_avoids : (units : Units) (s : DocumentState) (display : Bool) (total : ℕ) (rest : List Token) (read : Reading) → TurnAvoids (after_reading units s display total rest read)
-reading_avoids units s display total rest (ReadFault cause place) = cause_avoids (cause == 11) (s.count + 1) cause place
+reading_avoids units s display total rest (ReadFault cause place) = cause_avoids (s.count + 1) cause place
 reading_avoids units s display total rest (Reads body tag) = tt
 
 expanded_avoids : (units : Units) (s : DocumentState) (display : Bool) (rest list : List Token) (b : Bool) → nat_lt 1000000 (s.total + length list) ≡ b

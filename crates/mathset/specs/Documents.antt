@@ -1,10 +1,13 @@
 -- The document of a source (`document_of`), and the status of what is wrong with it (`document_refusal`).
-use Rattle.std.specs.Prelude.{ℕ, ◌==◌, List, Result, Ok, Err, if◌then◌else◌}
+use Rattle.std.specs.Prelude.{ℕ, List, Result, Ok, Err}
 use Rattle.mt_token.specs.declared.token.TokenError.{TokenError}
 use Rattle.mt_token.specs.declared.token.TokenError.TheVariants.{NotAscii, BadByte, TooLong as SourceTooLong, OutOfMemory as NoTokenMemory}
 use Rattle.mt_macro.specs.Expansion.{Expansion, Expanded, OverBudget, NoArgument, NoPartner, ListTooLong}
 use Rattle.mt_family.specs.SetValue.{SetValue}
 use Rattle.mt_family.specs.Sets.{units_of}
+use Rattle.mt_scan.specs.declared.fault.ReadCause.{ReadCause}
+use Rattle.mt_scan.specs.declared.fault.ReadCause.TheVariants.{TooDeep as TooManyGroups}
+use Rattle.mt_scan.specs.Errors.{cause_number}
 use Rattle.mt_rules.specs.declared.document.Formula.{Formula}
 use Rattle.mt_reader.specs.documents.Documents.{DocumentAnswer, DocumentFault, NotLexed, Outside, NotExpanded, NotRead, TooManyTokens, TooManyPages}
 use Rattle.mt_reader.specs.documents.Sources.{source_document}
@@ -29,9 +32,10 @@ expansion_refusal n (NoArgument place) = BadFormula n place 21
 expansion_refusal n (Expanded list) = OutOfMemory
 expansion_refusal n (NoPartner place) = OutOfMemory
 
--- formula n is not read: cause 11 is that too many groups are open
-abbrev pub reading_refusal : ℕ → ℕ → ℕ → Status
-reading_refusal n cause place = if cause == 11 then TooDeep n place else BadFormula n place cause
+-- formula n is not read
+abbrev pub reading_refusal : ℕ → ReadCause → ℕ → Status
+reading_refusal n TooManyGroups place = TooDeep n place
+reading_refusal n cause place = BadFormula n place (cause_number cause)
 
 -- a document that is refused
 abbrev pub document_refusal : DocumentFault → Status

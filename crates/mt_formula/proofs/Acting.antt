@@ -1,171 +1,186 @@
--- A turn is the action of what stands in front.
-use Rattle.std.proofs.Common.{◌≡◌, ℕ, ◌+◌, Bool, true, false, List, [], ◌∷◌, length, Option, refl, sym, ap, ◌∙◌}
-use Rattle.std.specs.Prelude.{drop, ⊤, if◌then◌else◌}
+-- What an action takes of the tokens (`action_here_takes`), and what it carries (`action_here_carries`).
+use Rattle.std.proofs.Common.{◌≡◌, ℕ, ◌+◌, ◌*◌, ◌/◌, ◌<◌, Bool, true, false, nat_lt, List, [], ◌∷◌, length, Option, refl, arith}
+use Rattle.std.specs.Prelude.{⊤, ℤ, if◌then◌else◌}
 use Rattle.mt_token.specs.declared.token.Token.{Token}
 use Rattle.mt_scaled.specs.declared.unit.Units.{Units}
-use Rattle.mt_rules.specs.declared.class.Class.TheVariants.{Ord, Op, Bin, Rel, Open, Close, Punct, Inner}
-use Rattle.mt_rules.specs.declared.kind.Kind.TheVariants.{Plain, Vcenter}
 use Rattle.mt_rules.specs.declared.symbol.Symbol.{Symbol}
-use Rattle.mt_rules.specs.declared.symbol.Delim.{Delim}
-use Rattle.mt_rules.specs.declared.kind.Limits.{Limits as WhereLimits}
-use Rattle.mt_rules.specs.Sequence.{Sequence, Element, Rows, SymbolPart, ListPart, RowsPart}
+use Rattle.mt_rules.specs.Modest.{IsAmount, GlueAmounts, ElementAmounts}
 use Rattle.mt_plain.specs.CodeTables.{CodeTables}
-use Rattle.mt_formula.specs.declared.open.ending.Ending.TheVariants.{AtBrace, AtRight}
-use Rattle.mt_formula.specs.declared.open.frame.Owner.TheVariants.{Fence as FenceOwner}
+use Rattle.mt_scan.specs.Limits.{max_groups, max_math_char, max_delimiter}
+use Rattle.mt_scan.specs.declared.fault.ReadCause.TheVariants.{DoubleScript, MisplacedLimits, MissingField, TooDeep}
 use Rattle.mt_scan.specs.declared.role.Side.{Side}
 use Rattle.mt_scan.specs.declared.role.Side.TheVariants.{Up}
-use Rattle.mt_scan.specs.declared.role.NucleusKind.{NucleusKind}
-use Rattle.mt_scan.specs.declared.role.NucleusKind.TheVariants.{Class, Radical, Accent, Over, Under}
+use Rattle.mt_scan.specs.declared.role.FieldKind.{FieldKind}
+use Rattle.mt_scan.specs.declared.role.FieldKind.TheVariants.{Radical, Accent}
 use Rattle.mt_scan.specs.declared.role.Amount.{Amount}
 use Rattle.mt_scan.specs.declared.role.Amount.TheVariants.{MuSkip, MuKern, Skip, Kern}
 use Rattle.mt_scan.specs.declared.role.Role.{Role}
 use Rattle.mt_scan.specs.declared.role.Role.TheVariants.{Blank, MathCode, CharWord, DelimiterWord, Prime as PrimeRole, Script as ScriptRole, OpenBrace, Nucleus, RadicalWord, AccentWord, VcenterWord, HboxWord, LeftWord, LimitsWord, ChoiceWord, AmountWord, ItemWord, FamilyWord, Unknown}
 use Rattle.mt_formula.specs.declared.step.action.FieldStart.{FieldStart}
 use Rattle.mt_formula.specs.declared.step.action.FieldStart.TheVariants.{Symbol as SymbolStart, Group as GroupStart}
-use Rattle.mt_formula.specs.declared.step.action.Action.TheVariants.{Prime as PrimeAction, Limits as LimitsAction, Choice as ChoiceAction}
-use Rattle.mt_scan.specs.Role.{role_of, nucleus_kind, is_open_brace, is_left}
-use Rattle.mt_scan.specs.Parts.{Read, Got, Fault, then_read, after_blanks, after_spaces, opening}
+use Rattle.mt_formula.specs.declared.step.action.Action.{Action}
+use Rattle.mt_formula.specs.declared.step.action.Action.TheVariants.{Item, Group, ScriptGroup, LeftRight, Choice, Prime as PrimeAction, Limits as LimitsAction, Stop}
+use Rattle.mt_scan.specs.Role.{role_of, simple_element, is_open_brace, is_left}
+use Rattle.mt_scan.specs.Parts.{Read, Got, Fault, then_read, after_blanks, opening}
 use Rattle.mt_scan.specs.Numbers.{math_code, delimiter_number, whole_number}
 use Rattle.mt_scan.specs.Dimensions.{dimension, glue}
 use Rattle.mt_scan.specs.Symbols.{code_symbol, delim_of}
-use Rattle.mt_scan.specs.Delimiters.{delimiter}
-use Rattle.mt_formula.specs.Atoms.{AtomValue, Filling, InSymbol, InGroup, nucleus_atom, plain_atom, filling_part, group_atom, is_free, is_op}
-use Rattle.mt_formula.specs.Lists.{StretchReader, Stretch, list}
-use Rattle.mt_formula.specs.Groups.{between_boundaries, brace_group, left_right, choice}
-use Rattle.mt_formula.specs.Fields.{field, field_here, field_at}
-use Rattle.mt_formula.specs.Items.{put_atom, put_item, put_nucleus, put_script, at_script, at_prime, at_limits, amount_item, at_token, turn}
-use Rattle.mt_formula.specs.machine.Frames.{owned, choice_with_none}
-use Rattle.mt_formula.specs.machine.Actions.{field_start, field_start_here, field_start_at, filled, script_filled, nucleus_action, script_action, amount_action, fence_action, action, action_here, performed}
-use Rattle.mt_formula.proofs.Standing.{then_same, then_then}
+use Rattle.mt_scan.specs.Delimiters.{scan_delimiter}
+use Rattle.mt_formula.specs.Atoms.{AtomValue, is_free, is_op}
+use Rattle.mt_formula.specs.Fields.{field_start_at, field_start_here, field_start}
+use Rattle.mt_formula.specs.Items.{filled, script_filled, nucleus_action, script_action, amount_action, left_action, action, action_here}
+use Rattle.mt_formula.proofs.Short.{Within, within_next, within_if, within_more, none, blanks_short, whole_number_short, number_to_short, delimiter_short, opening_takes, dimension_short, glue_short}
+use Rattle.mt_formula.proofs.Fitting.{Holds, holds_next, holds_after, holds_if, dimension_amount, glue_amounts, RoleFits, role_fits}
 
--- a symbol as a nucleus
-symbol_nucleus : (kind : NucleusKind) (symbol : Symbol) → nucleus_atom (nucleus_kind kind) (InSymbol symbol) ≡ plain_atom (nucleus_kind kind) (SymbolPart symbol)
-symbol_nucleus (Class Ord) symbol = refl
-symbol_nucleus (Class Op) symbol = refl
-symbol_nucleus (Class Bin) symbol = refl
-symbol_nucleus (Class Rel) symbol = refl
-symbol_nucleus (Class Open) symbol = refl
-symbol_nucleus (Class Close) symbol = refl
-symbol_nucleus (Class Punct) symbol = refl
-symbol_nucleus (Class Inner) symbol = refl
-symbol_nucleus (Radical delim) symbol = refl
-symbol_nucleus (Accent accent) symbol = refl
-symbol_nucleus Over symbol = refl
-symbol_nucleus Under symbol = refl
+-- what a token counts for that an action takes: four items
+abbrev pub action_four : Action → ℕ
+action_four Stop = 0
+action_four _ = 4
 
-module _ (tables : CodeTables) (units : Units) (again : StretchReader) (depth : ℕ) (family : Option ℕ) where
-  -- the rest of a field
-  abbrev field_rest : FieldStart → List Token → Read Filling
-  field_rest (SymbolStart symbol) rest = Got (InSymbol symbol) rest
-  field_rest GroupStart inside = then_read (list tables units again AtBrace (depth + 1) family inside) (λ (inner : Sequence) (brace : List Token). Got (InGroup inner) (drop 1 brace))
+filled_four : (kind : FieldKind) (start : FieldStart) → action_four (filled kind start) ≡ 4
+filled_four kind (SymbolStart symbol) = refl
+filled_four kind GroupStart = refl
 
-  -- a group after its brace
-  group_opened : {A B : Type 0} (r : Read ⊤) (L : List Token → Read A) (f : A → List Token → Read B) → then_read (then_read r (λ (here : ⊤) (inside : List Token). then_read (L inside) (λ (inner : A) (brace : List Token). Got inner (drop 1 brace)))) f ≡ then_read r (λ (here : ⊤) (inside : List Token). then_read (L inside) (λ (inner : A) (brace : List Token). f inner (drop 1 brace)))
-  group_opened r L f = then_then r _ f ∙ then_same r _ _ (λ here inside. then_then (L inside) _ f)
+script_filled_four : (side : Side) (start : FieldStart) → action_four (script_filled side start) ≡ 4
+script_filled_four side (SymbolStart symbol) = refl
+script_filled_four side GroupStart = refl
 
-  field_is_at : (t : Token) (rest : List Token) (role : Role) → field_at tables units again depth family t rest role ≡ then_read (field_start_at tables depth family t rest role) field_rest
-  field_is_at t rest (MathCode code) = refl
-  field_is_at t rest CharWord = sym (then_then (math_code rest) _ field_rest)
-  field_is_at t rest DelimiterWord = sym (then_then (delimiter_number rest) _ field_rest)
-  field_is_at t rest OpenBrace = group_opened (opening tables is_open_brace depth (t ∷ rest)) (list tables units again AtBrace (depth + 1) family) (λ (inner : Sequence) (after : List Token). Got (InGroup inner) after) ∙ sym (then_then (opening tables is_open_brace depth (t ∷ rest)) _ field_rest)
-  field_is_at t rest _ = refl
+-- an action that opens a group stands where one more may be open, and an item has modest amounts
+abbrev pub Carries : ℕ → Action → Type 0
+Carries level (Item item) = ElementAmounts (simple_element item)
+Carries level (Group kind) = level < max_groups
+Carries level (ScriptGroup side) = level < max_groups
+Carries level (LeftRight left) = level < max_groups
+Carries level Choice = level < max_groups
+Carries level _ = ⊤
 
-  field_is_here : (ts : List Token) → field_here tables units again depth family ts ≡ then_read (field_start_here tables depth family ts) field_rest
-  field_is_here [] = refl
-  field_is_here (t ∷ rest) = field_is_at t rest (role_of tables t)
+abbrev StartCarries : ℕ → FieldStart → Type 0
+StartCarries level (SymbolStart symbol) = ⊤
+StartCarries level GroupStart = level < max_groups
 
-  field_is : (ts : List Token) → field tables units again depth family ts ≡ then_read (field_start tables depth family ts) field_rest
-  field_is ts = field_is_here (after_blanks tables ts)
+filled_carries : (level : ℕ) (kind : FieldKind) (start : FieldStart) → StartCarries level start → Carries level (filled kind start)
+filled_carries level kind (SymbolStart symbol) h = tt
+filled_carries level kind GroupStart h = h
 
-  -- a field, and what it is for
-  field_then : {A : Type 0} (ts : List Token) (f : Filling → List Token → Read A) → then_read (field tables units again depth family ts) f ≡ then_read (field_start tables depth family ts) (λ (start : FieldStart) (after : List Token). then_read (field_rest start after) f)
-  field_then ts f = ap (λ r. then_read r f) (field_is ts) ∙ then_then (field_start tables depth family ts) field_rest f
+script_filled_carries : (level : ℕ) (side : Side) (start : FieldStart) → StartCarries level start → Carries level (script_filled side start)
+script_filled_carries level side (SymbolStart symbol) h = tt
+script_filled_carries level side GroupStart h = h
 
-  module _ (hand : Option AtomValue) where
-    nucleus_start : (kind : NucleusKind) (start : FieldStart) (after : List Token) → then_read (field_rest start after) (λ (f : Filling) (rest : List Token). put_atom tables units again depth family hand (nucleus_atom (nucleus_kind kind) f) rest) ≡ performed tables units again depth family hand (filled kind start) after
-    nucleus_start kind (SymbolStart symbol) after = ap (λ a. put_atom tables units again depth family hand a after) (symbol_nucleus kind symbol)
-    nucleus_start kind GroupStart after = then_then (list tables units again AtBrace (depth + 1) family after) _ (λ (f : Filling) (rest : List Token). put_atom tables units again depth family hand (nucleus_atom (nucleus_kind kind) f) rest)
+module _ (tables : CodeTables) where
+  -- where a group opens, one more may be open
+  pub opening_level : (opens : Role → Bool) (level : ℕ) (ts : List Token) → Holds (λ (here : ⊤). level < max_groups) (opening tables opens level ts)
+  opening_level opens level [] = tt
+  opening_level opens level (t ∷ rest) =
+      holds_if (λ (here : ⊤). level < max_groups) (opens (role_of tables t)) (if nat_lt level max_groups then Got tt rest else Fault TooDeep (length rest + 1)) (Fault MissingField (length rest + 1))
+      (λ e. holds_if (λ (here : ⊤). level < max_groups) (nat_lt level max_groups) (Got tt rest) (Fault TooDeep (length rest + 1)) (λ h. grind (arith, h)) tt) tt
 
-    nucleus_acts : (kind : NucleusKind) (ts : List Token) → put_nucleus tables units again depth family hand kind ts ≡ then_read (nucleus_action tables units depth family kind ts) (performed tables units again depth family hand)
-    nucleus_acts kind ts =
-        field_then ts (λ (f : Filling) (rest : List Token). put_atom tables units again depth family hand (nucleus_atom (nucleus_kind kind) f) rest)
-        ∙ (then_same (field_start tables depth family ts) _ _ (nucleus_start kind) ∙ sym (then_then (field_start tables depth family ts) _ (performed tables units again depth family hand)))
+  module _ (level : ℕ) (family : Option ℕ) where
+    -- how a field begins
+    field_start_at_short : (t : Token) (rest : List Token) (role : Role) → Within none (4 * length rest + 4) (field_start_at tables level family t rest role)
+    field_start_at_short t rest (MathCode code) = omega arith
+    field_start_at_short t rest CharWord = within_next none none (4 * length rest) (4 * length rest + 4) (math_code rest) (λ (code : ℕ) (after : List Token). Got (SymbolStart (code_symbol family code)) after) (number_to_short max_math_char rest) (λ code after w. omega (arith, w))
+    field_start_at_short t rest DelimiterWord = within_next none none (4 * length rest) (4 * length rest + 4) (delimiter_number rest) (λ (code : ℕ) (after : List Token). Got (SymbolStart (code_symbol family (code / 4096))) after) (number_to_short max_delimiter rest) (λ code after w. omega (arith, w))
+    field_start_at_short t rest OpenBrace = within_next (λ (here : ⊤). 4) none (4 * length (t ∷ rest)) (4 * length rest + 4) (opening tables is_open_brace level (t ∷ rest)) (λ (here : ⊤) (inside : List Token). Got GroupStart inside) (opening_takes tables is_open_brace level (t ∷ rest)) (λ here inside w. omega (arith, w))
+    field_start_at_short t rest _ = tt
 
-    script_start : (side : Side) (start : FieldStart) (after : List Token) → then_read (field_rest start after) (λ (f : Filling) (rest : List Token). put_script tables units again depth family hand side (filling_part f) rest) ≡ performed tables units again depth family hand (script_filled side start) after
-    script_start side (SymbolStart symbol) after = refl
-    script_start side GroupStart after = then_then (list tables units again AtBrace (depth + 1) family after) _ (λ (f : Filling) (rest : List Token). put_script tables units again depth family hand side (filling_part f) rest)
+    field_start_here_short : (ts : List Token) → Within none (4 * length ts) (field_start_here tables level family ts)
+    field_start_here_short [] = tt
+    field_start_here_short (t ∷ rest) = within_more none (4 * length rest + 4) (4 * length (t ∷ rest)) (field_start_at tables level family t rest (role_of tables t)) (omega arith) (field_start_at_short t rest (role_of tables t))
 
-    script_acts : (side : Side) (ts : List Token) → then_read (field tables units again depth family ts) (λ (f : Filling) (rest : List Token). put_script tables units again depth family hand side (filling_part f) rest) ≡ then_read (script_action tables units depth family side ts) (performed tables units again depth family hand)
-    script_acts side ts =
-        field_then ts (λ (f : Filling) (rest : List Token). put_script tables units again depth family hand side (filling_part f) rest)
-        ∙ (then_same (field_start tables depth family ts) _ _ (script_start side) ∙ sym (then_then (field_start tables depth family ts) _ (performed tables units again depth family hand)))
+    field_start_short : (ts : List Token) → Within none (4 * length ts) (field_start tables level family ts)
+    field_start_short ts = within_more none (4 * length (after_blanks tables ts)) (4 * length ts) (field_start tables level family ts) (omega (arith, blanks_short tables ts)) (field_start_here_short (after_blanks tables ts))
 
-    script_free : (side : Side) (rest : List Token) (free : Bool) → at_script tables units again depth family hand side rest free ≡ then_read (if free then script_action tables units depth family side rest else Fault 2 (length rest + 1)) (performed tables units again depth family hand)
-    script_free side rest true = script_acts side rest
-    script_free side rest false = refl
+    field_start_at_carries : (t : Token) (rest : List Token) (role : Role) → Holds (StartCarries level) (field_start_at tables level family t rest role)
+    field_start_at_carries t rest (MathCode code) = tt
+    field_start_at_carries t rest CharWord = holds_after (StartCarries level) (math_code rest) (λ (code : ℕ) (after : List Token). Got (SymbolStart (code_symbol family code)) after) (λ code after. tt)
+    field_start_at_carries t rest DelimiterWord = holds_after (StartCarries level) (delimiter_number rest) (λ (code : ℕ) (after : List Token). Got (SymbolStart (code_symbol family (code / 4096))) after) (λ code after. tt)
+    field_start_at_carries t rest OpenBrace = holds_next (λ (here : ⊤). level < max_groups) (StartCarries level) (opening tables is_open_brace level (t ∷ rest)) (λ (here : ⊤) (inside : List Token). Got GroupStart inside) (opening_level is_open_brace level (t ∷ rest)) (λ here inside h. h)
+    field_start_at_carries t rest _ = tt
 
-    prime_free : (rest : List Token) (free : Bool) → at_prime tables units again depth family hand rest free ≡ then_read (if free then Got PrimeAction rest else Fault 2 (length rest + 1)) (performed tables units again depth family hand)
-    prime_free rest true = refl
-    prime_free rest false = refl
+    field_start_here_carries : (ts : List Token) → Holds (StartCarries level) (field_start_here tables level family ts)
+    field_start_here_carries [] = tt
+    field_start_here_carries (t ∷ rest) = field_start_at_carries t rest (role_of tables t)
 
-    limits_op : (limits : WhereLimits) (rest : List Token) (op : Bool) → at_limits tables units again depth family hand limits rest op ≡ then_read (if op then Got (LimitsAction limits) rest else Fault 6 (length rest + 1)) (performed tables units again depth family hand)
-    limits_op limits rest true = refl
-    limits_op limits rest false = refl
+    -- fields
+    nucleus_takes : (kind : FieldKind) (ts : List Token) → Within action_four (4 * length ts + 4) (nucleus_action tables level family kind ts)
+    nucleus_takes kind ts = within_next none action_four (4 * length ts) (4 * length ts + 4) (field_start tables level family ts) (λ (start : FieldStart) (after : List Token). Got (filled kind start) after) (field_start_short ts) (λ start after w. omega (arith, w, filled_four kind start))
 
-    amount_acts : (amount : Amount) (ts : List Token) → then_read (amount_item tables units amount ts) (λ (item : Element) (after : List Token). put_item tables units again depth family hand item after) ≡ then_read (amount_action tables units amount ts) (performed tables units again depth family hand)
-    amount_acts MuSkip ts = then_then (glue units true ts) _ _ ∙ sym (then_then (glue units true ts) _ (performed tables units again depth family hand))
-    amount_acts Skip ts = then_then (glue units false ts) _ _ ∙ sym (then_then (glue units false ts) _ (performed tables units again depth family hand))
-    amount_acts MuKern ts = then_then (dimension units true ts) _ _ ∙ sym (then_then (dimension units true ts) _ (performed tables units again depth family hand))
-    amount_acts Kern ts = then_then (dimension units false ts) _ _ ∙ sym (then_then (dimension units false ts) _ (performed tables units again depth family hand))
+    script_takes : (side : Side) (ts : List Token) → Within action_four (4 * length ts + 4) (script_action tables level family side ts)
+    script_takes side ts = within_next none action_four (4 * length ts) (4 * length ts + 4) (field_start tables level family ts) (λ (start : FieldStart) (after : List Token). Got (script_filled side start) after) (field_start_short ts) (λ start after w. omega (arith, w, script_filled_four side start))
 
-    abbrev atom_between : Sequence → List Token → Read Stretch
-    atom_between inner after = put_atom tables units again depth family hand (plain_atom (Plain Inner) (ListPart inner)) after
+    nucleus_carries : (kind : FieldKind) (ts : List Token) → Holds (Carries level) (nucleus_action tables level family kind ts)
+    nucleus_carries kind ts = holds_next (StartCarries level) (Carries level) (field_start tables level family ts) (λ (start : FieldStart) (after : List Token). Got (filled kind start) after) (field_start_here_carries (after_blanks tables ts)) (λ start after h. filled_carries level kind start h)
 
-    fence_then : (left : Delim) (inside : List Token) → then_read (then_read (list tables units again AtRight (depth + 1) family inside) (λ (inner : Sequence) (word : List Token). then_read (delimiter tables (drop 1 word)) (λ (right : Delim) (rest : List Token). Got (between_boundaries left inner right) rest))) atom_between ≡ then_read (list tables units again AtRight (depth + 1) family inside) (owned tables units again depth family hand 0 (FenceOwner left))
-    fence_then left inside = then_then (list tables units again AtRight (depth + 1) family inside) _ atom_between ∙ then_same (list tables units again AtRight (depth + 1) family inside) _ _ (λ inner word. then_then (delimiter tables (drop 1 word)) _ atom_between)
+    script_carries : (side : Side) (ts : List Token) → Holds (Carries level) (script_action tables level family side ts)
+    script_carries side ts = holds_next (StartCarries level) (Carries level) (field_start tables level family ts) (λ (start : FieldStart) (after : List Token). Got (script_filled side start) after) (field_start_here_carries (after_blanks tables ts)) (λ start after h. script_filled_carries level side start h)
 
-    fence_acts : (here : ⊤) (after : List Token) → then_read (then_read (delimiter tables after) (λ (left : Delim) (inside : List Token). then_read (list tables units again AtRight (depth + 1) family inside) (λ (inner : Sequence) (word : List Token). then_read (delimiter tables (drop 1 word)) (λ (right : Delim) (rest : List Token). Got (between_boundaries left inner right) rest)))) atom_between ≡ then_read (fence_action tables units after) (performed tables units again depth family hand)
-    fence_acts here after = then_then (delimiter tables after) _ atom_between ∙ (then_same (delimiter tables after) _ _ fence_then ∙ sym (then_then (delimiter tables after) _ (performed tables units again depth family hand)))
+    left_takes : (ts : List Token) → Within action_four (4 * length ts + 4) (left_action tables ts)
+    left_takes ts = within_next none action_four (4 * length ts) (4 * length ts + 4) (scan_delimiter tables ts) _ (delimiter_short tables ts) (λ left inside w. omega (arith, w))
 
-    left_acts : (ts : List Token) → then_read (left_right tables units again depth family ts) atom_between ≡ then_read (then_read (opening tables is_left depth ts) (λ (here : ⊤) (after : List Token). fence_action tables units after)) (performed tables units again depth family hand)
-    left_acts ts = then_then (opening tables is_left depth ts) _ atom_between ∙ (then_same (opening tables is_left depth ts) _ _ fence_acts ∙ sym (then_then (opening tables is_left depth ts) _ (performed tables units again depth family hand)))
+    module _ (units : Units) where
+      amount_takes : (amount : Amount) (ts : List Token) → Within action_four (4 * length ts + 4) (amount_action units amount ts)
+      amount_takes MuSkip ts = within_next none action_four (4 * length ts) (4 * length ts + 4) (glue units true ts) _ (glue_short units true ts) (λ g rest w. omega (arith, w))
+      amount_takes Skip ts = within_next none action_four (4 * length ts) (4 * length ts + 4) (glue units false ts) _ (glue_short units false ts) (λ g rest w. omega (arith, w))
+      amount_takes MuKern ts = within_next none action_four (4 * length ts) (4 * length ts + 4) (dimension units true ts) _ (dimension_short units true true ts) (λ k rest w. omega (arith, w))
+      amount_takes Kern ts = within_next none action_four (4 * length ts) (4 * length ts + 4) (dimension units false ts) _ (dimension_short units false true ts) (λ k rest w. omega (arith, w))
 
-    abbrev put_choice : Element → List Token → Read Stretch
-    put_choice item after = put_item tables units again depth family hand item after
+      amount_carries : (amount : Amount) (ts : List Token) → Holds (Carries level) (amount_action units amount ts)
+      amount_carries MuSkip ts = holds_next GlueAmounts (Carries level) (glue units true ts) _ (glue_amounts units true ts) (λ g rest w. w)
+      amount_carries Skip ts = holds_next GlueAmounts (Carries level) (glue units false ts) _ (glue_amounts units false ts) (λ g rest w. w)
+      amount_carries MuKern ts = holds_next IsAmount (Carries level) (dimension units true ts) _ (dimension_amount units true true ts) (λ k rest w. w)
+      amount_carries Kern ts = holds_next IsAmount (Carries level) (dimension units false ts) _ (dimension_amount units false true ts) (λ k rest w. w)
 
-    choice_lists : (ts : List Token) → then_read (choice tables units again depth family ts) put_choice ≡ then_read (brace_group tables units again depth family ts) (choice_with_none tables units again depth family hand)
-    choice_lists ts =
-        then_then (brace_group tables units again depth family ts) _ put_choice
-        ∙ then_same (brace_group tables units again depth family ts) _ _ (λ display first. then_then (brace_group tables units again depth family (after_spaces first)) _ put_choice
-        ∙ then_same (brace_group tables units again depth family (after_spaces first)) _ _ (λ text second. then_then (brace_group tables units again depth family (after_spaces second)) _ put_choice
-        ∙ then_same (brace_group tables units again depth family (after_spaces second)) _ _ (λ script third. then_then (brace_group tables units again depth family (after_spaces third)) _ put_choice)))
+      module _ (last : Option AtomValue) where
+        -- an action takes a token, if there is an item
+        action_takes : (t : Token) (rest : List Token) (role : Role) → Within action_four (4 * length rest + 4) (action tables units level family last t rest role)
+        action_takes t rest Blank = omega arith
+        action_takes t rest (MathCode code) = omega arith
+        action_takes t rest CharWord = within_next none action_four (4 * length rest) (4 * length rest + 4) (math_code rest) _ (number_to_short max_math_char rest) (λ code after w. omega (arith, w))
+        action_takes t rest DelimiterWord = within_next none action_four (4 * length rest) (4 * length rest + 4) (delimiter_number rest) _ (number_to_short max_delimiter rest) (λ code after w. omega (arith, w))
+        action_takes t rest OpenBrace = within_next (λ (here : ⊤). 4) action_four (4 * length (t ∷ rest)) (4 * length rest + 4) (opening tables is_open_brace level (t ∷ rest)) _ (opening_takes tables is_open_brace level (t ∷ rest)) (λ here inside w. omega (arith, w))
+        action_takes t rest (Nucleus kind) = nucleus_takes kind rest
+        action_takes t rest RadicalWord = within_next none action_four (4 * length rest) (4 * length rest + 4) (delimiter_number rest) _ (number_to_short max_delimiter rest) (λ code after w. within_more action_four (4 * length after + 4) (4 * length rest + 4) (nucleus_action tables level family (Radical (delim_of code)) after) (omega (arith, w)) (nucleus_takes (Radical (delim_of code)) after))
+        action_takes t rest AccentWord = within_next none action_four (4 * length rest) (4 * length rest + 4) (math_code rest) _ (number_to_short max_math_char rest) (λ code after w. within_more action_four (4 * length after + 4) (4 * length rest + 4) (nucleus_action tables level family (Accent (code_symbol family code)) after) (omega (arith, w)) (nucleus_takes (Accent (code_symbol family code)) after))
+        action_takes t rest VcenterWord = within_next (λ (here : ⊤). 4) action_four (4 * length rest) (4 * length rest + 4) (opening tables is_open_brace level rest) _ (opening_takes tables is_open_brace level rest) (λ here inside w. omega (arith, w))
+        action_takes t rest LeftWord = within_next (λ (here : ⊤). 4) action_four (4 * length (t ∷ rest)) (4 * length rest + 4) (opening tables is_left level (t ∷ rest)) _ (opening_takes tables is_left level (t ∷ rest)) (λ here after w. within_more action_four (4 * length after + 4) (4 * length rest + 4) (left_action tables after) (omega (arith, w)) (left_takes after))
+        action_takes t rest (ScriptRole side) = within_if action_four (4 * length rest + 4) (is_free side last) (script_action tables level family side rest) (Fault DoubleScript (length rest + 1)) (script_takes side rest) tt
+        action_takes t rest PrimeRole = within_if action_four (4 * length rest + 4) (is_free Up last) (Got PrimeAction rest) (Fault DoubleScript (length rest + 1)) (omega arith) tt
+        action_takes t rest (LimitsWord limits) = within_if action_four (4 * length rest + 4) (is_op last) (Got (LimitsAction limits) rest) (Fault MisplacedLimits (length rest + 1)) (omega arith) tt
+        action_takes t rest ChoiceWord = within_next (λ (here : ⊤). 4) action_four (4 * length rest) (4 * length rest + 4) (opening tables is_open_brace level rest) _ (opening_takes tables is_open_brace level rest) (λ here inside w. omega (arith, w))
+        action_takes t rest (AmountWord amount) = amount_takes amount rest
+        action_takes t rest (ItemWord item) = omega arith
+        action_takes t rest FamilyWord = within_next none action_four (4 * length rest) (4 * length rest + 4) (whole_number rest) _ (whole_number_short rest) (λ n after w. omega (arith, w))
+        action_takes t rest HboxWord = tt
+        action_takes t rest Unknown = tt
+        action_takes t rest _ = omega arith
 
-    choice_acts : (ts : List Token) → then_read (choice tables units again depth family ts) put_choice ≡ then_read (then_read (opening tables is_open_brace depth ts) (λ (here : ⊤) (inside : List Token). Got ChoiceAction inside)) (performed tables units again depth family hand)
-    choice_acts ts = choice_lists ts ∙ (group_opened (opening tables is_open_brace depth ts) (list tables units again AtBrace (depth + 1) family) (choice_with_none tables units again depth family hand) ∙ sym (then_then (opening tables is_open_brace depth ts) _ (performed tables units again depth family hand)))
+        pub action_here_takes : (ts : List Token) → Within action_four (4 * length ts) (action_here tables units level family last ts)
+        action_here_takes [] = omega arith
+        action_here_takes (t ∷ rest) = within_more action_four (4 * length rest + 4) (4 * length (t ∷ rest)) (action tables units level family last t rest (role_of tables t)) (omega arith) (action_takes t rest (role_of tables t))
 
-    -- what a token does
-    acts : (t : Token) (rest : List Token) (role : Role) → at_token tables units again depth family hand t rest role ≡ then_read (action tables units depth family hand t rest role) (performed tables units again depth family hand)
-    acts t rest Blank = refl
-    acts t rest (MathCode code) = refl
-    acts t rest CharWord = sym (then_then (math_code rest) _ (performed tables units again depth family hand))
-    acts t rest DelimiterWord = sym (then_then (delimiter_number rest) _ (performed tables units again depth family hand))
-    acts t rest OpenBrace = group_opened (opening tables is_open_brace depth (t ∷ rest)) (list tables units again AtBrace (depth + 1) family) (λ (inner : Sequence) (after : List Token). put_atom tables units again depth family hand (group_atom inner) after) ∙ sym (then_then (opening tables is_open_brace depth (t ∷ rest)) _ (performed tables units again depth family hand))
-    acts t rest (Nucleus kind) = nucleus_acts kind rest
-    acts t rest RadicalWord = then_same (delimiter_number rest) _ _ (λ code after. nucleus_acts (Radical (delim_of code)) after) ∙ sym (then_then (delimiter_number rest) _ (performed tables units again depth family hand))
-    acts t rest AccentWord = then_same (math_code rest) _ _ (λ code after. nucleus_acts (Accent (code_symbol family code)) after) ∙ sym (then_then (math_code rest) _ (performed tables units again depth family hand))
-    acts t rest VcenterWord = then_then (opening tables is_open_brace depth rest) _ (λ (inner : Rows) (after : List Token). put_atom tables units again depth family hand (plain_atom Vcenter (RowsPart inner)) after) ∙ sym (then_then (opening tables is_open_brace depth rest) _ (performed tables units again depth family hand))
-    acts t rest LeftWord = left_acts (t ∷ rest)
-    acts t rest (ScriptRole side) = script_free side rest (is_free side hand)
-    acts t rest PrimeRole = prime_free rest (is_free Up hand)
-    acts t rest (LimitsWord limits) = limits_op limits rest (is_op hand)
-    acts t rest ChoiceWord = choice_acts rest
-    acts t rest (AmountWord amount) = amount_acts amount rest
-    acts t rest (ItemWord item) = refl
-    acts t rest FamilyWord = sym (then_then (whole_number rest) _ (performed tables units again depth family hand))
-    acts t rest HboxWord = refl
-    acts t rest Unknown = refl
-    acts t rest _ = refl
+        -- what an action carries
+        action_carries : (t : Token) (rest : List Token) (role : Role) → RoleFits role → Holds (Carries level) (action tables units level family last t rest role)
+        action_carries t rest Blank r = tt
+        action_carries t rest (MathCode code) r = tt
+        action_carries t rest CharWord r = holds_after (Carries level) (math_code rest) _ (λ code after. tt)
+        action_carries t rest DelimiterWord r = holds_after (Carries level) (delimiter_number rest) _ (λ code after. tt)
+        action_carries t rest OpenBrace r = holds_next (λ (here : ⊤). level < max_groups) (Carries level) (opening tables is_open_brace level (t ∷ rest)) _ (opening_level is_open_brace level (t ∷ rest)) (λ here inside h. h)
+        action_carries t rest (Nucleus kind) r = nucleus_carries kind rest
+        action_carries t rest RadicalWord r = holds_after (Carries level) (delimiter_number rest) _ (λ code after. nucleus_carries (Radical (delim_of code)) after)
+        action_carries t rest AccentWord r = holds_after (Carries level) (math_code rest) _ (λ code after. nucleus_carries (Accent (code_symbol family code)) after)
+        action_carries t rest VcenterWord r = holds_after (Carries level) (opening tables is_open_brace level rest) _ (λ here inside. tt)
+        action_carries t rest LeftWord r = holds_next (λ (here : ⊤). level < max_groups) (Carries level) (opening tables is_left level (t ∷ rest)) _ (opening_level is_left level (t ∷ rest)) (λ here after h. holds_after (Carries level) (scan_delimiter tables after) _ (λ left inside. h))
+        action_carries t rest (ScriptRole side) r = holds_if (Carries level) (is_free side last) (script_action tables level family side rest) (Fault DoubleScript (length rest + 1)) (λ e. script_carries side rest) tt
+        action_carries t rest PrimeRole r = holds_if (Carries level) (is_free Up last) (Got PrimeAction rest) (Fault DoubleScript (length rest + 1)) (λ e. tt) tt
+        action_carries t rest (LimitsWord limits) r = holds_if (Carries level) (is_op last) (Got (LimitsAction limits) rest) (Fault MisplacedLimits (length rest + 1)) (λ e. tt) tt
+        action_carries t rest ChoiceWord r = holds_next (λ (here : ⊤). level < max_groups) (Carries level) (opening tables is_open_brace level rest) _ (opening_level is_open_brace level rest) (λ here inside h. h)
+        action_carries t rest (AmountWord amount) r = amount_carries amount rest
+        action_carries t rest (ItemWord item) r = r
+        action_carries t rest FamilyWord r = holds_after (Carries level) (whole_number rest) _ (λ n after. tt)
+        action_carries t rest HboxWord r = tt
+        action_carries t rest Unknown r = tt
+        action_carries t rest _ r = tt
 
-    pub acting : (ts : List Token) → turn tables units again depth family hand ts ≡ then_read (action_here tables units depth family hand ts) (performed tables units again depth family hand)
-    acting [] = refl
-    acting (t ∷ rest) = acts t rest (role_of tables t)
+        pub action_here_carries : (ts : List Token) → Holds (Carries level) (action_here tables units level family last ts)
+        action_here_carries [] = tt
+        action_here_carries (t ∷ rest) = action_carries t rest (role_of tables t) (role_fits tables t)

@@ -21,8 +21,9 @@ use Rattle.mt_plain.specs.declared.meaning.Command.{Command}
 use Rattle.mt_plain.specs.declared.meaning.Command.TheVariants.{Thin, Medium, Thick, NegativeThin}
 use Rattle.mt_plain.specs.declared.meaning.Meaning.{Meaning}
 use Rattle.mt_plain.specs.declared.meaning.Meaning.TheVariants.{MathChar as CodeMeaning, Command as CommandMeaning}
+use Rattle.mt_scan.specs.declared.fault.ReadCause.TheVariants.{BadDimension}
 use Rattle.mt_scan.specs.declared.role.Role.{Role}
-use Rattle.mt_scan.specs.declared.role.Role.TheVariants.{MathCode, Prime, Script, OpenBrace, CloseBrace, Dollar, Stray, ItemWord, Unknown}
+use Rattle.mt_scan.specs.declared.role.Role.TheVariants.{MathCode, Prime, Script, OpenBrace, CloseBrace, Dollar, Misplaced, ItemWord, Unknown}
 use Rattle.mt_scan.specs.Role.{role_of, kind_role, meaning_role, command_role, code_role, character_role, simple_element}
 use Rattle.mt_scan.specs.declared.role.Side.{Side}
 use Rattle.mt_scan.specs.declared.role.Side.TheVariants.{Up, Down}
@@ -34,8 +35,8 @@ use Rattle.mt_scan.specs.Parts.{Read, Got, Fault, then_read, after_spaces}
 use Rattle.mt_scan.specs.Numbers.{signs, with_sign}
 use Rattle.mt_scan.specs.Dimensions.{measure, factor, length_of, is_dimension, dimension_in_range, dimension_of, dimension_from, dimension, after_letters, amount_after, amount, glue}
 use Rattle.mt_scan.specs.Symbols.{null_delim}
-use Rattle.mt_scan.specs.Delimiters.{delimiter}
-use Rattle.mt_formula.specs.Atoms.{AtomValue, element_of_atom, hand_items, append, plain_atom, is_bare_ord, is_accent_kind, Filling, InSymbol, InGroup, nucleus_of, nucleus_of_atom, filling_part, group_atom, group_atom_of, nucleus_atom, with_script, with_limits, prime_items}
+use Rattle.mt_scan.specs.Delimiters.{scan_delimiter}
+use Rattle.mt_formula.specs.Atoms.{AtomValue, element_of_atom, last_atom_items, append, plain_atom, is_bare_ord, is_accent_kind, Filling, InSymbol, InGroup, nucleus_of, nucleus_of_atom, filling_part, group_atom, group_atom_of, nucleus_atom, with_script, with_limits, prime_items}
 use Rattle.mt_formula.specs.Lists.{fraction_list, bar_thickness, with_bar, fraction_head}
 use Rattle.mt_formula.proofs.Short.{Within}
 use Rattle.mt_formula.proofs.Inside.{second_true}
@@ -184,17 +185,17 @@ pub nucleus_atom_fits : (n : ℕ) (kind : Kind) (f : Filling) → FillingFits n 
 nucleus_atom_fits n (Plain Ord) (InGroup list) h = group_fits n list h
 nucleus_atom_fits n kind f h = plain_fits n kind (filling_part f) (filling_fits n f h)
 
--- the atom at hand
-abbrev pub HandFits : ℕ → Option AtomValue → Type 0
-HandFits n hand = Fits n (hand_items hand)
+-- the last atom
+abbrev pub LastAtomFits : ℕ → Option AtomValue → Type 0
+LastAtomFits n last = Fits n (last_atom_items last)
 
-pub script_fits : (n : ℕ) (side : Side) (part : Part) (hand : Option AtomValue) → PartFits n part → HandFits (n + 1) hand → HandFits (n + 1) (Some (with_script side part hand))
+pub script_fits : (n : ℕ) (side : Side) (part : Part) (last : Option AtomValue) → PartFits n part → LastAtomFits (n + 1) last → LastAtomFits (n + 1) (Some (with_script side part last))
 script_fits n Up part None f h = record { nesting = omega (arith, f.nesting); amounts = ((tt, f.amounts, tt), tt) }
 script_fits n Down part None f h = record { nesting = omega (arith, f.nesting); amounts = ((tt, tt, f.amounts), tt) }
 script_fits n Up part (Some a) f h = record { nesting = omega (arith, f.nesting, h.nesting); amounts = ((h.amounts.0.0, f.amounts, h.amounts.0.2), tt) }
 script_fits n Down part (Some a) f h = record { nesting = omega (arith, f.nesting, h.nesting); amounts = ((h.amounts.0.0, h.amounts.0.1, f.amounts), tt) }
 
-pub limits_fit : (n : ℕ) (limits : WhereLimits) (hand : Option AtomValue) → HandFits n hand → HandFits n (with_limits limits hand)
+pub limits_fit : (n : ℕ) (limits : WhereLimits) (last : Option AtomValue) → LastAtomFits n last → LastAtomFits n (with_limits limits last)
 limits_fit n limits None h = h
 limits_fit n limits (Some a) h = record { nesting = h.nesting; amounts = h.amounts }
 
@@ -212,7 +213,7 @@ in_range true (negsuc n) h = record { low = grind (arith, ints, h); high = grind
 in_range false (negsuc n) h = absurd (true≢false (sym h))
 
 amount_in_range : (negative : Bool) (first whole : ℕ) (value : ℤ) (rest : List Token) → Holds IsAmount (dimension_in_range negative first whole value rest)
-amount_in_range negative first whole value rest = holds_if IsAmount (nat_le whole max_dimen && is_dimension negative value) (Got value rest) (Fault 9 first) (λ h. in_range negative value (second_true (nat_le whole max_dimen) (is_dimension negative value) h)) tt
+amount_in_range negative first whole value rest = holds_if IsAmount (nat_le whole max_dimen && is_dimension negative value) (Got value rest) (Fault BadDimension first) (λ h. in_range negative value (second_true (nat_le whole max_dimen) (is_dimension negative value) h)) tt
 
 abbrev pub HeadFits : FractionHead → Type 0
 HeadFits f = ThicknessAmount f.thickness
@@ -252,9 +253,9 @@ module _ (units : Units) where
   pub fraction_head_fits : (tables : CodeTables) (delims : Bool) (bar : Bar) (ts : List Token) → Holds HeadFits (fraction_head tables units delims bar ts)
   fraction_head_fits tables false bar ts = with_bar_fits bar null_delim null_delim ts
   fraction_head_fits tables true bar ts =
-      holds_after HeadFits (delimiter tables ts)
-      (λ (left : Delim) (after : List Token). then_read (delimiter tables after) (λ (right : Delim) (rest : List Token). with_bar units bar left right rest))
-      (λ left after. holds_after HeadFits (delimiter tables after) (λ (right : Delim) (rest : List Token). with_bar units bar left right rest)
+      holds_after HeadFits (scan_delimiter tables ts)
+      (λ (left : Delim) (after : List Token). then_read (scan_delimiter tables after) (λ (right : Delim) (rest : List Token). with_bar units bar left right rest))
+      (λ left after. holds_after HeadFits (scan_delimiter tables after) (λ (right : Delim) (rest : List Token). with_bar units bar left right rest)
       (λ right rest. with_bar_fits bar left right rest))
 
 -- words that are items
@@ -295,7 +296,7 @@ character_fits tables c =
     (role_if (c == 94) (Script Up) _ tt
     (role_if (c == 95) (Script Down) _ tt
     (role_if (c == 36) Dollar _ tt
-    (role_if ((c == 38) || (c == 35)) Stray (code_role c (math_code_of tables c)) tt (code_fits c (math_code_of tables c)))))))
+    (role_if ((c == 38) || (c == 35)) Misplaced (code_role c (math_code_of tables c)) tt (code_fits c (math_code_of tables c)))))))
 
 kind_fits : (tables : CodeTables) (kind : TokenKind) → RoleFits (kind_role tables kind)
 kind_fits tables (Control name) = meaning_fits (control name)

@@ -4,47 +4,46 @@ use Rattle.mt_token.specs.declared.token.Token.{Token}
 use Rattle.mt_scaled.specs.declared.unit.Units.{Units}
 use Rattle.mt_rules.specs.Sequence.{Sequence, End}
 use Rattle.mt_plain.specs.CodeTables.{CodeTables}
-use Rattle.mt_formula.specs.declared.open.ending.Ending.{Ending}
-use Rattle.mt_formula.specs.declared.open.ending.Ending.TheVariants.{AtEnd}
-use Rattle.mt_formula.specs.declared.open.frame.Frame.{Frame}
+use Rattle.mt_formula.specs.declared.open.open_list.Ending.{Ending}
+use Rattle.mt_formula.specs.declared.open.open_list.Ending.TheVariants.{AtEnd}
+use Rattle.mt_formula.specs.declared.open.open_list.Frame.{Frame}
 use Rattle.mt_formula.specs.declared.open.open_list.InnerItems.{InnerItems}
 use Rattle.mt_formula.specs.declared.open.open_list.OpenList.{OpenList}
-use Rattle.mt_scan.specs.declared.part.Fault.{Fault as FaultFields}
-use Rattle.mt_scan.specs.declared.part.Part.{Part}
+use Rattle.mt_scan.specs.declared.fault.Fault.{Fault as FaultFields}
+use Rattle.mt_scan.specs.declared.scanned.Scanned.{Scanned}
 use Rattle.mt_formula.specs.declared.step.turn.Progress.{Progress}
 use Rattle.mt_formula.specs.declared.step.turn.Progress.TheVariants.{Whole}
 use Rattle.mt_formula.specs.declared.read_error.ReadError.{ReadError}
-use Rattle.mt_formula.specs.declared.open.turned.Stop.{Stop}
-use Rattle.mt_formula.specs.declared.open.turned.Stop.TheVariants.{Fault as AtFault, OutOfMemory}
+use Rattle.mt_formula.specs.declared.open.open_list.Stop.{Stop}
+use Rattle.mt_formula.specs.declared.open.open_list.Stop.TheVariants.{Fault as AtFault, OutOfMemory}
 use Rattle.mt_formula.specs.Answers.{IsFault}
 use Rattle.mt_rules.specs.Modest.{list_items}
 use Rattle.mt_formula.specs.Counts.{formula_items}
 use Rattle.mt_scan.specs.Role.{role_of}
 use Rattle.mt_scan.specs.Parts.{Read, Got, Fault, then_read}
 use Rattle.mt_formula.specs.Lists.{list}
-use Rattle.mt_formula.specs.Formulas.{FormulaParts, Reads, ReadFault, reading_of, is_at_left, body_ending, stretch, with_tag, formula, reading}
-use Rattle.mt_scan.specs.Meets.{cause_number}
+use Rattle.mt_formula.specs.Formulas.{FormulaParts, Reads, ReadFault, reading_of, is_at_left, body_ending, item_run, with_tag, formula, reading}
 use Rattle.mt_formula.specs.machine.OpenLists.{inner_sequence, Begins}
 use Rattle.mt_formula.specs.machine.Progressing.{Progressed}
-use Rattle.mt_formula.specs.machine.Stands.{Stands, behind}
+use Rattle.mt_formula.specs.machine.Stands.{Stands, tokens_after_all}
 use Rattle.mt_formula.specs.machine.Reads.{fitting, HasFault, IsWholeStop}
 use Rattle.std.proofs.lemmas.List.{take_all}
 use Rattle.mt_formula.proofs.Standing.{begun_list}
 use Rattle.mt_formula.proofs.Short.{Within}
 use Rattle.mt_formula.proofs.Bounds.{list_within}
-use Rattle.mt_formula.proofs.ItemBounds.{stretch_within, HasAtMost, reading_bound}
+use Rattle.mt_formula.proofs.ItemBounds.{item_run_within, HasAtMost, reading_bound}
 
 -- the fault of a list in these frames is one of the whole
-pub whole_fault : (whole : Read Sequence) (frames : List Frame) (fault : FaultFields) (stop : Stop) → whole ≡ Fault (cause_number fault.cause) (fault.left + behind frames) → IsWholeStop stop (AtFault fault) frames → HasFault stop whole
-whole_fault whole frames fault (AtFault at) e is = (fault.left + behind frames, e ∙ ap (λ c. Fault (cause_number c) (fault.left + behind frames)) (sym is.0), is.1)
+pub whole_fault : (whole : Read Sequence) (frames : List Frame) (fault : FaultFields) (stop : Stop) → whole ≡ Fault fault.cause (fault.left + tokens_after_all frames) → IsWholeStop stop (AtFault fault) frames → HasFault stop whole
+whole_fault whole frames fault (AtFault at) e is = (fault.left + tokens_after_all frames, e ∙ ap (λ c. Fault c (fault.left + tokens_after_all frames)) (sym is.0), is.1)
 whole_fault whole frames fault OutOfMemory e is = tt
 
 -- all tokens that are left
-pub all_left : (all left : ℕ) (frames start : List Frame) → all < 2 ^ 64 → fitting (all + behind frames) ≡ fitting (left + behind start) → frames ≡ [] → all ≡ fitting (left + behind start)
+pub all_left : (all left : ℕ) (frames start : List Frame) → all < 2 ^ 64 → fitting (all + tokens_after_all frames) ≡ fitting (left + tokens_after_all start) → frames ≡ [] → all ≡ fitting (left + tokens_after_all start)
 all_left all left frames start small e none = same ∙ e
   where
-    same : all ≡ fitting (all + behind frames)
-    same = omega (arith, small, ap behind none)
+    same : all ≡ fitting (all + tokens_after_all frames)
+    same = omega (arith, small, ap tokens_after_all none)
 
 -- the first of some tokens, and the others
 abbrev pub after_first_of : List Token → List Token
@@ -56,7 +55,7 @@ first_of (x ∷ xs) t low e = ap (λ (y : Token). y ∷ xs) (sym e) ∙ ap (λ (
 
 module _ (tables : CodeTables) (units : Units) (before : Read Sequence → Type 0) (frames : List Frame) where
   -- the whole is read
-  pub whole_read : (progress : Progress) (part : Part InnerItems) → progress ≡ Whole part → Progressed tables units before (Ok progress) frames → (whole : Read Sequence) → before whole → whole ≡ Got (inner_sequence part.value) part.rest.now
+  pub whole_read : (progress : Progress) (part : Scanned InnerItems) → progress ≡ Whole part → Progressed tables units before (Ok progress) frames → (whole : Read Sequence) → before whole → whole ≡ Got (inner_sequence part.value) part.rest.now
   whole_read progress part e t = subst (λ (p : Progress). Progressed tables units before (Ok p) frames) e t
 
   pub whole_stopped : (stop result : Stop) → Progressed tables units before (Err stop) frames → IsWholeStop result stop frames → (whole : Read Sequence) → before whole → HasFault result whole
@@ -66,7 +65,7 @@ module _ (tables : CodeTables) (units : Units) (before : Read Sequence → Type 
 
 module _ (tables : CodeTables) (units : Units) where
   -- a list begins
-  pub begun : (n : ℕ) (ending : Ending) (new : OpenList) (ts : List Token) → length ts < n → Begins End None 0 None ending new → Stands tables units (list tables units (stretch tables units n) ending 0 None ts) [] new ts
+  pub begun : (n : ℕ) (ending : Ending) (new : OpenList) (ts : List Token) → length ts < n → Begins End None 0 None ending new → Stands tables units (list tables units (item_run tables units n) ending 0 None ts) [] new ts
   begun n ending new ts low b = record {
     turns = n;
     later = n;
@@ -84,20 +83,20 @@ module _ (tables : CodeTables) (units : Units) where
 
   module _ (display : Bool) (ts : List Token) where
     abbrev pub body_read : Read Sequence
-    body_read = list tables units (stretch tables units (length ts + 1)) (body_ending display) 0 None ts
+    body_read = list tables units (item_run tables units (length ts + 1)) (body_ending display) 0 None ts
 
     abbrev pub side_read : List Token → Read Sequence
-    side_read rest = list tables units (stretch tables units (length ts + 1)) AtEnd 0 None rest
+    side_read rest = list tables units (item_run tables units (length ts + 1)) AtEnd 0 None rest
 
     abbrev pub formula_read : Read FormulaParts
-    formula_read = formula tables units (stretch tables units (length ts + 1)) display ts
+    formula_read = formula tables units (item_run tables units (length ts + 1)) display ts
 
     abbrev with_side : Sequence → List Token → Read FormulaParts
-    with_side = with_tag tables units (stretch tables units (length ts + 1))
+    with_side = with_tag tables units (item_run tables units (length ts + 1))
 
     pub side_short : (body : Sequence) (left : List Token) (t : Token) (rest : List Token) → body_read ≡ Got body left → left ≡ t ∷ rest → length rest < length ts + 1
     side_short body left t rest e is =
-        shorter (list_short body_read ts body left (list_within tables units (stretch tables units (length ts + 1)) (stretch_within tables units (length ts + 1)) (body_ending display) 0 None ts) e)
+        shorter (list_short body_read ts body left (list_within tables units (item_run tables units (length ts + 1)) (item_run_within tables units (length ts + 1)) (body_ending display) 0 None ts) e)
       where
         shorter : length left ≤ length ts → length rest < length ts + 1
         shorter h = omega (arith, h, ap length is)
@@ -131,9 +130,9 @@ module _ (tables : CodeTables) (units : Units) where
       few h = omega (arith, h)
 
 -- the place of a fault
-pub error_placed : (error : ReadError) (fault : FaultFields) (count place : ℕ) (read : Read FormulaParts) → count ≤ 2 ^ 31 → place ≡ count - fault.left → IsFault error (ReadFault (cause_number fault.cause) place) → HasFault (AtFault fault) read → IsFault error (reading_of count read)
+pub error_placed : (error : ReadError) (fault : FaultFields) (count place : ℕ) (read : Read FormulaParts) → count ≤ 2 ^ 31 → place ≡ count - fault.left → IsFault error (ReadFault fault.cause place) → HasFault (AtFault fault) read → IsFault error (reading_of count read)
 error_placed error fault count place read small is at h =
-    subst (IsFault error) (ap (λ (p : ℕ). ReadFault (cause_number fault.cause) p) (is ∙ same) ∙ sym (ap (reading_of count) h.1)) at
+    subst (IsFault error) (ap (λ (p : ℕ). ReadFault fault.cause p) (is ∙ same) ∙ sym (ap (reading_of count) h.1)) at
   where
     same : count - fault.left ≡ count - h.0
     same = omega (arith, small, h.2)

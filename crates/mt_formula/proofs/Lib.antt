@@ -2,8 +2,6 @@
 mod Inside
 -- what a turn leaves of open lists
 mod Standing
--- a turn is the action of what stands in front
-mod Acting
 -- what becomes of a list where no item stands
 mod Stopping
 -- lists that go on after what was read of one of their items
@@ -15,7 +13,7 @@ mod Remaining
 -- actions that open a list
 mod Opening
 -- what a list that is read leaves: between boundaries, of a choice, a row, and any other
-mod Fencing
+mod Boundaries
 mod Choosing
 mod Rowing
 mod Closing
@@ -30,6 +28,8 @@ mod Bounds
 pub mod ItemBounds
 -- and its nesting and its amounts are bounded
 mod Fitting
+-- what an action takes and carries
+mod Acting
 pub mod Nesting
 -- the reading of a formula, of a list and perhaps of another one at its side
 mod FormulaReading
@@ -46,4 +46,4 @@ mod NameFaults
 mod ScriptFaults
 mod FieldFaults
 mod NumberFaults
-mod DepthFaults
+mod LevelFaults

@@ -8,66 +8,65 @@ use Rattle.mt_plain.specs.CodeTables.{CodeTables}
 use Rattle.mt_formula.specs.declared.step.action.Action.{Action}
 use Rattle.mt_formula.specs.declared.step.action.Action.TheVariants.{Stop as StopAction}
 use Rattle.mt_formula.specs.declared.open.open_list.FractionHead.{FractionHead}
-use Rattle.mt_formula.specs.declared.open.frame.Frame.{Frame}
+use Rattle.mt_formula.specs.declared.open.open_list.Frame.{Frame}
 use Rattle.mt_formula.specs.declared.open.open_list.OpenList.{OpenList}
-use Rattle.mt_scan.specs.declared.part.Fault.{Fault as FaultFields}
+use Rattle.mt_scan.specs.declared.fault.Fault.{Fault as FaultFields}
 use Rattle.mt_scan.specs.declared.role.Bar.{Bar}
 use Rattle.mt_formula.specs.declared.step.turn.Progress.{Progress}
 use Rattle.mt_formula.specs.declared.step.turn.Progress.TheVariants.{Open, Whole}
-use Rattle.mt_formula.specs.declared.open.turned.Stop.{Stop}
-use Rattle.mt_formula.specs.declared.open.turned.Stop.TheVariants.{Fault as AtFault, OutOfMemory}
+use Rattle.mt_formula.specs.declared.open.open_list.Stop.{Stop}
+use Rattle.mt_formula.specs.declared.open.open_list.Stop.TheVariants.{Fault as AtFault, OutOfMemory}
 use Rattle.mt_formula.specs.declared.step.stops.ListStop.TheVariants.{Ends, Divides as DividesAt}
 use Rattle.mt_scan.specs.Parts.{Read, Got, Fault, then_read}
-use Rattle.mt_formula.specs.Atoms.{append, hand_items}
-use Rattle.mt_formula.specs.Lists.{Stretch, fraction_head, denominator}
-use Rattle.mt_formula.specs.Formulas.{stretch}
-use Rattle.mt_scan.specs.Meets.{cause_number}
-use Rattle.mt_formula.specs.machine.Actions.{action_here, performed, spent}
+use Rattle.mt_formula.specs.Atoms.{append, last_atom_items}
+use Rattle.mt_formula.specs.Lists.{ItemRun, fraction_head, denominator}
+use Rattle.mt_formula.specs.Formulas.{item_run}
+use Rattle.mt_formula.specs.Items.{action_here, follows}
+use Rattle.mt_formula.specs.machine.Actions.{spent}
 use Rattle.mt_formula.specs.machine.Frames.{left_after}
-use Rattle.mt_formula.specs.machine.OpenLists.{items_of, hand_of, all_items, Divides}
+use Rattle.mt_formula.specs.machine.OpenLists.{items_of, last_atom_of, all_items, Divides}
 use Rattle.mt_formula.specs.machine.Progressing.{Finishing, Finishes, Ended, Divided, Progressed, IfOpen}
 use Rattle.mt_formula.specs.machine.PutsAction.{PutsAction}
 use Rattle.mt_formula.specs.machine.Remaining.{remaining}
-use Rattle.mt_formula.specs.machine.Stands.{list_with, Unwinds, Stands, behind}
+use Rattle.mt_formula.specs.machine.Stands.{list_with, Unwinds, Stands, tokens_after_all}
 use Rattle.mt_formula.specs.machine.Stops.{StopsAt}
-use Rattle.mt_formula.specs.machine.Turned.{Performing, Resuming, Turns}
+use Rattle.mt_formula.specs.machine.Turned.{Performing, Resuming, Leaves}
 use Rattle.mt_formula.proofs.Remaining.{popped_remaining}
 use Rattle.mt_formula.proofs.Standing.{lower, turning, fault_at, finish_fault, finish_whole, resuming, divides}
-use Rattle.mt_formula.proofs.Acting.{acting}
-use Rattle.mt_formula.proofs.Stopping.{ends_with, cut_off, ends_before, stray_at, divides_here}
+use Rattle.mt_formula.proofs.Stopping.{ends_with, cut_off, ends_before, misplaced_at, divides_here}
 use Rattle.mt_formula.proofs.Continuing.{performing_continues, continued_put}
 
 module _ (tables : CodeTables) (units : Units) where
   module _ (whole : Read Sequence) (frames : List Frame) (l : OpenList) (ts rest : List Token) where
     -- what stands in front
     module _ (g : Stands tables units whole frames l ts) where
-      pub performing : (action : Action) → action_here tables units l.depth l.family (hand_of l.hand) ts ≡ Got action rest → Performing tables units whole frames l ts action rest
+      pub performing : (action : Action) → action_here tables units l.level l.family (last_atom_of l.last) ts ≡ Got action rest → Performing tables units whole frames l ts action rest
       performing action e = record {
         stands = g;
-        is = λ again. acting tables units again l.depth l.family (hand_of l.hand) ts ∙ ap (λ r. then_read r (performed tables units again l.depth l.family (hand_of l.hand))) e;
+        is = λ again. ap (λ r. then_read r (follows tables units again l.level l.family (last_atom_of l.last))) e;
       }
 
-      pub action_fault : (fault : FaultFields) → action_here tables units l.depth l.family (hand_of l.hand) ts ≡ Fault (cause_number fault.cause) fault.left → whole ≡ Fault (cause_number fault.cause) (fault.left + behind frames)
+      pub action_fault : (fault : FaultFields) → action_here tables units l.level l.family (last_atom_of l.last) ts ≡ Fault fault.cause fault.left → whole ≡ Fault fault.cause (fault.left + tokens_after_all frames)
       action_fault fault e =
-          fault_at tables units whole frames l ts (cause_number fault.cause) fault.left g
-          (λ again. acting tables units again l.depth l.family (hand_of l.hand) ts ∙ ap (λ r. then_read r (performed tables units again l.depth l.family (hand_of l.hand))) e)
+          fault_at tables units whole frames l ts (fault.cause) fault.left g
+          (λ again. ap (λ r. then_read r (follows tables units again l.level l.family (last_atom_of l.last))) e)
 
       -- no item
-      pub stop_finishes : action_here tables units l.depth l.family (hand_of l.hand) ts ≡ Got StopAction rest → length rest ≤ length ts → Finishing tables units whole frames l rest
+      pub stop_finishes : action_here tables units l.level l.family (last_atom_of l.last) ts ≡ Got StopAction rest → length rest ≤ length ts → Finishing tables units whole frames l rest
       stop_finishes e h =
           let u = turning tables units whole frames l ts g in
           record {
             m = u.m;
             enough = omega (arith, h, u.enough_later);
             is = lower tables units frames (length ts) (length rest) _ whole h
-                (subst (λ (r : Read Stretch). Unwinds tables units frames (length ts) (then_read r (list_with tables units (stretch tables units u.m) l)) whole) (acting tables units (stretch tables units u.n) l.depth l.family (hand_of l.hand) ts ∙ ap (λ r. then_read r (performed tables units (stretch tables units u.n) l.depth l.family (hand_of l.hand))) e) u.is);
+                (subst (λ (r : Read ItemRun). Unwinds tables units frames (length ts) (then_read r (list_with tables units (item_run tables units u.m) l)) whole) (ap (λ r. then_read r (follows tables units (item_run tables units u.n) l.level l.family (last_atom_of l.last))) e) u.is);
           }
 
     module _ (action : Action) (g : Performing tables units whole frames l ts action rest) (h : length rest < length ts) where
       pub put_performs : (new : OpenList) → PutsAction action l new → Stands tables units whole frames new rest
       put_performs new p =
-          continued_put tables units whole frames l (length rest) (λ again. performed tables units again l.depth l.family (hand_of l.hand) action rest) (performing_continues tables units whole frames l ts action rest g h)
-          new rest p.items p.hand p.family (λ again. p.is tables units again rest) p.becomes (omega arith)
+          continued_put tables units whole frames l (length rest) (λ again. follows tables units again l.level l.family (last_atom_of l.last) action rest) (performing_continues tables units whole frames l ts action rest g h)
+          new rest p.items p.last p.family (λ again. p.is tables units again rest) p.becomes (omega arith)
 
   -- no item stands at these tokens
   module _ (l : OpenList) where
@@ -75,9 +74,9 @@ module _ (tables : CodeTables) (units : Units) where
     stops_end [] e = λ again. ends_with tables units l again e
     stops_end (t ∷ rest) e = λ again. ends_before tables units l t rest again e.0 e.1
 
-    pub stops_fault : (ts : List Token) (fault : FaultFields) → StopsAt (Err fault) tables l ts → Finishes tables units l ts (λ again. Fault (cause_number fault.cause) fault.left)
-    stops_fault [] fault e = λ again. cut_off tables units l again e.0 ∙ (ap (λ c. Fault c 0) (sym e.1) ∙ ap (λ x. Fault (cause_number fault.cause) x) (sym e.2))
-    stops_fault (t ∷ rest) fault e = λ again. stray_at tables units l t rest again e.0 e.1 ∙ (ap (λ c. Fault c (length rest + 1)) (sym e.2) ∙ ap (λ x. Fault (cause_number fault.cause) x) (sym e.3))
+    pub stops_fault : (ts : List Token) (fault : FaultFields) → StopsAt (Err fault) tables l ts → Finishes tables units l ts (λ again. Fault fault.cause fault.left)
+    stops_fault [] fault e = λ again. cut_off tables units l again e.0 ∙ (ap (λ c. Fault c 0) (sym e.1) ∙ ap (λ x. Fault fault.cause x) (sym e.2))
+    stops_fault (t ∷ rest) fault e = λ again. misplaced_at tables units l t rest again e.0 e.1 ∙ (ap (λ c. Fault c (length rest + 1)) (sym e.2) ∙ ap (λ x. Fault fault.cause x) (sym e.3))
 
     pub divides_less : (ts rest : List Token) (delims : Bool) (bar : Bar) → StopsAt (Ok (DividesAt delims bar)) tables l ts → rest ≡ drop 1 ts → length rest < length ts
     divides_less [] rest delims bar e d = absurd e
@@ -89,7 +88,7 @@ module _ (tables : CodeTables) (units : Units) where
       finishing = g;
       less = omega (arith, ap (λ (x : List Token). length x) d);
       is = λ again. divides_here tables units l t ts delims bar again e.0 e.1
-          ∙ ap (λ x. then_read (fraction_head tables units delims bar x) (denominator tables units again l.ending l.depth (record { items = append (items_of l) (hand_items (hand_of l.hand)); family = l.family }))) (sym d);
+          ∙ ap (λ x. then_read (fraction_head tables units delims bar x) (denominator tables units again l.ending l.level (record { items = append (items_of l) (last_atom_items (last_atom_of l.last)); family = l.family }))) (sym d);
     }
 
   -- a fraction word
@@ -97,13 +96,13 @@ module _ (tables : CodeTables) (units : Units) where
     pub divided_list : (new : OpenList) (head : FractionHead) (after : List Token) → fraction_head tables units delims bar rest ≡ Got head after → Divides head l new → length after ≤ length rest → Stands tables units whole frames new after
     divided_list new head after e d h =
         divides tables units whole frames l new ts after head g.finishing
-        (λ again. g.is again ∙ ap (λ r. then_read r (denominator tables units again l.ending l.depth (record { items = append (items_of l) (hand_items (hand_of l.hand)); family = l.family }))) e)
+        (λ again. g.is again ∙ ap (λ r. then_read r (denominator tables units again l.ending l.level (record { items = append (items_of l) (last_atom_items (last_atom_of l.last)); family = l.family }))) e)
         d (omega (arith, h, g.less))
 
-    pub divided_fault : (fault : FaultFields) → fraction_head tables units delims bar rest ≡ Fault (cause_number fault.cause) fault.left → whole ≡ Fault (cause_number fault.cause) (fault.left + behind frames)
+    pub divided_fault : (fault : FaultFields) → fraction_head tables units delims bar rest ≡ Fault fault.cause fault.left → whole ≡ Fault fault.cause (fault.left + tokens_after_all frames)
     divided_fault fault e =
-        finish_fault tables units whole frames l ts (cause_number fault.cause) fault.left g.finishing
-        (λ again. g.is again ∙ ap (λ r. then_read r (denominator tables units again l.ending l.depth (record { items = append (items_of l) (hand_items (hand_of l.hand)); family = l.family }))) e)
+        finish_fault tables units whole frames l ts (fault.cause) fault.left g.finishing
+        (λ again. g.is again ∙ ap (λ r. then_read r (denominator tables units again l.ending l.level (record { items = append (items_of l) (last_atom_items (last_atom_of l.last)); family = l.family }))) e)
 
   -- a list ends
   module _ (whole : Read Sequence) (frames : List Frame) (l : OpenList) (ts : List Token) (all : Sequence) (g : Ended tables units whole frames l ts) (is_all : all ≡ all_items l) where
@@ -117,7 +116,7 @@ module _ (tables : CodeTables) (units : Units) where
 
   -- a turn and a step of it
   module _ (P Q : Read Sequence → Type 0) (frames : List Frame) (f : (whole : Read Sequence) → P whole → Q whole) where
-    pub progressed_stop : (stop : Stop) → Turns tables units Q (Err stop) frames → Progressed tables units P (Err stop) frames
+    pub progressed_stop : (stop : Stop) → Leaves tables units Q (Err stop) frames → Progressed tables units P (Err stop) frames
     progressed_stop (AtFault fault) t = λ whole p. t whole (f whole p)
     progressed_stop OutOfMemory t = tt
 

@@ -7,6 +7,8 @@ use Rattle.mt_scaled.specs.declared.unit.Unit.{Unit as Measure}
 use Rattle.mt_scaled.specs.declared.unit.Units.{Units}
 use Rattle.mt_rules.specs.declared.symbol.Delim.{Delim}
 use Rattle.mt_plain.specs.CodeTables.{CodeTables}
+use Rattle.mt_scan.specs.Limits.{max_groups, max_delimiter}
+use Rattle.mt_scan.specs.declared.fault.ReadCause.TheVariants.{MissingField, BadNumber, BadDimension, TooDeep}
 use Rattle.mt_scan.specs.declared.role.Role.{Role}
 use Rattle.mt_scan.specs.declared.role.Bar.{Bar}
 use Rattle.mt_scan.specs.declared.role.Bar.TheVariants.{Own as OwnBar, None as NoBar, Given as GivenBar}
@@ -16,7 +18,7 @@ use Rattle.mt_scan.specs.Parts.{Read, Got, Fault, then_read, after_spaces, after
 use Rattle.mt_scan.specs.Numbers.{Signs, signs, at_sign, turns_sign, sign_after, with_sign, Whole, digits, at_digit, digit_of, digits_in, first_digit, quoted_code, quoted_value, quoted_kind, unsigned_number, in_bound, whole_number, at_most, number_to, delimiter_number}
 use Rattle.mt_scan.specs.declared.decimals.Decimal.{Decimal}
 use Rattle.mt_scan.specs.Dimensions.{measures, measure_of, begins_measure, letter, second_letter, after_first_letter, measure, Digits, at_decimal, before_digits, decimals, with_decimals, is_point, after_whole, factor, length_of, dimension_in_range, dimension_of, dimension_from, dimension, after_letters, amount_after, amount, glue}
-use Rattle.mt_scan.specs.Delimiters.{code_of_kind, delimiter_by_code, delimiter_at, delimiter_here, delimiter}
+use Rattle.mt_scan.specs.Delimiters.{code_of_kind, delimiter_by_code, delimiter_at, delimiter_here, scan_delimiter}
 use Rattle.mt_formula.specs.Lists.{bar_thickness, with_bar, fraction_head}
 use Rattle.mt_scan.specs.Symbols.{null_delim, delim_of}
 
@@ -106,7 +108,7 @@ unsigned_short (t ∷ rest) =
     (digits_in_short 10 (t ∷ rest))))
 
 pub in_bound_short : (first : ℕ) (minus : Bool) (value : ℕ) (rest : List Token) (b : ℕ) → 4 * length rest ≤ b → Within none b (in_bound first minus value rest)
-in_bound_short first minus value rest b h = within_if none b (nat_le value 2147483647) (Got (with_sign minus (pos value)) (after_one_space rest)) (Fault 8 first) (omega (arith, one_space_short rest, h)) tt
+in_bound_short first minus value rest b h = within_if none b (nat_le value 2147483647) (Got (with_sign minus (pos value)) (after_one_space rest)) (Fault BadNumber first) (omega (arith, one_space_short rest, h)) tt
 
 pub whole_number_short : (ts : List Token) → Shortens ts (whole_number ts)
 whole_number_short ts =
@@ -114,7 +116,7 @@ whole_number_short ts =
     (λ value rest w. in_bound_short (length ts) (signs false ts).minus value rest (4 * length ts) (omega (arith, w, signs_short false ts)))
 
 pub at_most_short : (most first : ℕ) (n : ℤ) (rest : List Token) (b : ℕ) → 4 * length rest ≤ b → Within none b (at_most most first n rest)
-at_most_short most first (pos n) rest b h = within_if none b (nat_le n most) (Got n rest) (Fault 8 first) (omega (arith, h)) tt
+at_most_short most first (pos n) rest b h = within_if none b (nat_le n most) (Got n rest) (Fault BadNumber first) (omega (arith, h)) tt
 at_most_short most first (negsuc n) rest b h = tt
 
 pub number_to_short : (most : ℕ) (ts : List Token) → Shortens ts (number_to most ts)
@@ -133,7 +135,7 @@ first_letter_short mu a (t ∷ rest) = second_letter_short (measure_of (measures
 
 pub measure_short : (mu : Bool) (ts : List Token) → Shortens ts (measure mu ts)
 measure_short mu [] = tt
-measure_short mu (t ∷ rest) = within_if none (4 * length (t ∷ rest)) (begins_measure (measures mu) (letter t)) (after_first_letter mu (letter t) rest) (Fault 9 (length rest + 1)) (within_more none (4 * length rest) (4 * length (t ∷ rest)) (after_first_letter mu (letter t) rest) (omega arith) (first_letter_short mu (letter t) rest)) tt
+measure_short mu (t ∷ rest) = within_if none (4 * length (t ∷ rest)) (begins_measure (measures mu) (letter t)) (after_first_letter mu (letter t) rest) (Fault BadDimension (length rest + 1)) (within_more none (4 * length rest) (4 * length (t ∷ rest)) (after_first_letter mu (letter t) rest) (omega arith) (first_letter_short mu (letter t) rest)) tt
 
 pub at_decimal_short : (d : Option ℕ) (ts : List Token) (f : ℕ → Digits) (n : ℕ) → length ts ≤ n → ((v : ℕ) → length (f v).rest ≤ n) → length (at_decimal d ts f).rest ≤ n
 at_decimal_short None ts f n h k = h
@@ -144,11 +146,11 @@ decimals_short [] = omega arith
 decimals_short (t ∷ rest) = at_decimal_short (digit_of 10 t) (t ∷ rest) (λ (d : ℕ). before_digits d (decimals rest)) (suc (length rest)) (omega arith) (λ v. omega (arith, decimals_short rest))
 
 pub whole_short : (some : Bool) (whole : ℕ) (ts : List Token) → Shortens ts (after_whole some whole ts)
-whole_short some whole [] = within_if none 0 some (Got (record { whole = whole; part = 0 }) []) (Fault 9 0) (omega arith) tt
+whole_short some whole [] = within_if none 0 some (Got (record { whole = whole; part = 0 }) []) (Fault BadDimension 0) (omega arith) tt
 whole_short some whole (t ∷ rest) =
-    within_if none (4 * length (t ∷ rest)) (is_point (character_code t.kind)) (with_decimals whole (decimals rest)) (if some then Got (record { whole = whole; part = 0 }) (t ∷ rest) else Fault 9 (length rest + 1))
+    within_if none (4 * length (t ∷ rest)) (is_point (character_code t.kind)) (with_decimals whole (decimals rest)) (if some then Got (record { whole = whole; part = 0 }) (t ∷ rest) else Fault BadDimension (length rest + 1))
     (omega (arith, decimals_short rest))
-    (within_if none (4 * length (t ∷ rest)) some (Got (record { whole = whole; part = 0 }) (t ∷ rest)) (Fault 9 (length rest + 1)) (omega arith) tt)
+    (within_if none (4 * length (t ∷ rest)) some (Got (record { whole = whole; part = 0 }) (t ∷ rest)) (Fault BadDimension (length rest + 1)) (omega arith) tt)
 
 pub factor_short : (ts : List Token) → Shortens ts (factor ts)
 factor_short ts = within_more none (4 * length (digits 10 0 ts).rest) (4 * length ts) (after_whole (nat_lt (length (digits 10 0 ts).rest) (length ts)) (digits 10 0 ts).value (digits 10 0 ts).rest) (omega (arith, digits_short 10 0 ts)) (whole_short (nat_lt (length (digits 10 0 ts).rest) (length ts)) (digits 10 0 ts).value (digits 10 0 ts).rest)
@@ -199,21 +201,21 @@ by_code_short (Some code) rest b h = omega (arith, h)
 
 module _ (tables : CodeTables) where
   pub delimiter_at_short : (t : Token) (rest : List Token) (s : Role) → Within none (4 * length rest + 4) (delimiter_at tables t rest s)
-  delimiter_at_short t rest DelimiterWord = within_next none none (4 * length rest) (4 * length rest + 4) (delimiter_number rest) (λ (code : ℕ) (after : List Token). Got (delim_of code) after) (number_to_short 134217727 rest) (λ code after w. omega (arith, w))
+  delimiter_at_short t rest DelimiterWord = within_next none none (4 * length rest) (4 * length rest + 4) (delimiter_number rest) (λ (code : ℕ) (after : List Token). Got (delim_of code) after) (number_to_short max_delimiter rest) (λ code after w. omega (arith, w))
   delimiter_at_short t rest _ = by_code_short (code_of_kind tables t.kind) rest (4 * length rest + 4) (omega arith)
 
   pub delimiter_here_short : (ts : List Token) → Shortens ts (delimiter_here tables ts)
   delimiter_here_short [] = tt
   delimiter_here_short (t ∷ rest) = within_more none (4 * length rest + 4) (4 * length (t ∷ rest)) (delimiter_at tables t rest (role_of tables t)) (omega arith) (delimiter_at_short t rest (role_of tables t))
 
-  pub delimiter_short : (ts : List Token) → Shortens ts (delimiter tables ts)
-  delimiter_short ts = within_more none (4 * length (after_blanks tables ts)) (4 * length ts) (delimiter tables ts) (omega (arith, blanks_short tables ts)) (delimiter_here_short (after_blanks tables ts))
+  pub delimiter_short : (ts : List Token) → Shortens ts (scan_delimiter tables ts)
+  delimiter_short ts = within_more none (4 * length (after_blanks tables ts)) (4 * length ts) (scan_delimiter tables ts) (omega (arith, blanks_short tables ts)) (delimiter_here_short (after_blanks tables ts))
 
-  pub opening_takes : (opens : Role → Bool) (depth : ℕ) (ts : List Token) → Within (λ (here : ⊤). 4) (4 * length ts) (opening tables opens depth ts)
-  opening_takes opens depth [] = tt
-  opening_takes opens depth (t ∷ rest) =
-      within_if (λ (here : ⊤). 4) (4 * length (t ∷ rest)) (opens (role_of tables t)) (if nat_lt depth 150 then Got tt rest else Fault 11 (length rest + 1)) (Fault 7 (length rest + 1))
-      (within_if (λ (here : ⊤). 4) (4 * length (t ∷ rest)) (nat_lt depth 150) (Got tt rest) (Fault 11 (length rest + 1)) (omega arith) tt) tt
+  pub opening_takes : (opens : Role → Bool) (level : ℕ) (ts : List Token) → Within (λ (here : ⊤). 4) (4 * length ts) (opening tables opens level ts)
+  opening_takes opens level [] = tt
+  opening_takes opens level (t ∷ rest) =
+      within_if (λ (here : ⊤). 4) (4 * length (t ∷ rest)) (opens (role_of tables t)) (if nat_lt level max_groups then Got tt rest else Fault TooDeep (length rest + 1)) (Fault MissingField (length rest + 1))
+      (within_if (λ (here : ⊤). 4) (4 * length (t ∷ rest)) (nat_lt level max_groups) (Got tt rest) (Fault TooDeep (length rest + 1)) (omega arith) tt) tt
 
   module _ (units : Units) where
     pub bar_short : (bar : Bar) (ts : List Token) → Shortens ts (bar_thickness units bar ts)
@@ -227,10 +229,10 @@ module _ (tables : CodeTables) where
     pub fraction_head_short : (delims : Bool) (bar : Bar) (ts : List Token) → Shortens ts (fraction_head tables units delims bar ts)
     fraction_head_short false bar ts = with_bar_short bar null_delim null_delim ts
     fraction_head_short true bar ts =
-        within_next none none (4 * length ts) (4 * length ts) (delimiter tables ts)
-        (λ (left : Delim) (after : List Token). then_read (delimiter tables after) (λ (right : Delim) (rest : List Token). with_bar units bar left right rest))
+        within_next none none (4 * length ts) (4 * length ts) (scan_delimiter tables ts)
+        (λ (left : Delim) (after : List Token). then_read (scan_delimiter tables after) (λ (right : Delim) (rest : List Token). with_bar units bar left right rest))
         (delimiter_short ts)
-        (λ left after w. within_next none none (4 * length after) (4 * length ts) (delimiter tables after)
+        (λ left after w. within_next none none (4 * length after) (4 * length ts) (scan_delimiter tables after)
         (λ (right : Delim) (rest : List Token). with_bar units bar left right rest)
         (delimiter_short after)
         (λ right rest v. within_more none (4 * length rest) (4 * length ts) (with_bar units bar left right rest) (omega (arith, v, w)) (with_bar_short bar left right rest)))

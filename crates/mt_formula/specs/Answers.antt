@@ -1,23 +1,17 @@
 -- What the reading of a formula answers: exactly `reading`, or want of memory (`ReadsAs`).
-use Rattle.std.specs.Prelude.{◌≡◌, Result, Ok, Err, ⊤}
+use Rattle.std.specs.Prelude.{◌≡◌, Option, Some, None, Result, Ok, Err, ⊤}
 use Rattle.mt_formula.specs.declared.read_error.ReadError.{ReadError}
-use Rattle.mt_formula.specs.declared.read_error.ReadError.TheVariants.{UnknownName, DoubleScript, TwoFractions, BadDelimiter, Unbalanced, MisplacedLimits, MissingField, BadNumber, BadDimension, MisplacedNumber, TooDeep, OutOfMemory}
+use Rattle.mt_formula.specs.Errors.{PlacedCause, read_error_fault}
 use Rattle.mt_formula.specs.Formulas.{FormulaParts, Reading, Reads, ReadFault}
 
--- a fault of this cause, counted from 1, at this place
+-- this cause at this place, if there is one
+abbrev pub IsFaultOf : Option PlacedCause → Reading → Type 0
+IsFaultOf (Some fault) read = read ≡ ReadFault fault.0 fault.1
+IsFaultOf None read = ⊤
+
+-- the fault of this error; want of memory says nothing
 abbrev pub IsFault : ReadError → Reading → Type 0
-IsFault (UnknownName place) read = read ≡ ReadFault 1 place
-IsFault (DoubleScript place) read = read ≡ ReadFault 2 place
-IsFault (TwoFractions place) read = read ≡ ReadFault 3 place
-IsFault (BadDelimiter place) read = read ≡ ReadFault 4 place
-IsFault (Unbalanced place) read = read ≡ ReadFault 5 place
-IsFault (MisplacedLimits place) read = read ≡ ReadFault 6 place
-IsFault (MissingField place) read = read ≡ ReadFault 7 place
-IsFault (BadNumber place) read = read ≡ ReadFault 8 place
-IsFault (BadDimension place) read = read ≡ ReadFault 9 place
-IsFault (MisplacedNumber place) read = read ≡ ReadFault 10 place
-IsFault (TooDeep place) read = read ≡ ReadFault 11 place
-IsFault OutOfMemory read = ⊤
+IsFault error read = IsFaultOf (read_error_fault error) read
 
 -- the result is what is read, or memory ran out
 abbrev pub ReadsAs : Result FormulaParts ReadError → Reading → Type 0

@@ -22,10 +22,10 @@ pub record AtomValue : Type 0 where
 abbrev pub element_of_atom : AtomValue → Element
 element_of_atom a = AtomElement a.kind a.limits a.nucleus a.sup a.sub
 
--- the atom at hand, where the last item is one, as a list
-abbrev pub hand_items : Option AtomValue → Sequence
-hand_items None = End
-hand_items (Some a) = More (element_of_atom a) End
+-- the last atom, where the last item is one, as a list
+abbrev pub last_atom_items : Option AtomValue → Sequence
+last_atom_items None = End
+last_atom_items (Some a) = More (element_of_atom a) End
 
 abbrev pub append : Sequence → Sequence → Sequence
 append End more = more
@@ -44,15 +44,15 @@ abbrev pub scripted_atom : Option AtomValue → AtomValue
 scripted_atom None = plain_atom (Plain Ord) EmptyPart
 scripted_atom (Some a) = a
 
-abbrev pub holds_nothing : Part → Bool
-holds_nothing EmptyPart = true
-holds_nothing _ = false
+abbrev pub is_empty : Part → Bool
+is_empty EmptyPart = true
+is_empty _ = false
 
 -- no superscript, or no subscript, is there yet
 abbrev pub is_free : Side → Option AtomValue → Bool
 is_free side None = true
-is_free Up (Some a) = holds_nothing a.sup
-is_free Down (Some a) = holds_nothing a.sub
+is_free Up (Some a) = is_empty a.sup
+is_free Down (Some a) = is_empty a.sub
 
 abbrev pub is_op_kind : Kind → Bool
 is_op_kind (Plain Op) = true
@@ -78,7 +78,7 @@ only_atom (More (AtomElement kind limits nucleus sup sub) End) =
 only_atom _ = None
 
 abbrev pub is_bare_ord : AtomValue → Bool
-is_bare_ord a = is_ord_kind a.kind && (holds_nothing a.sup && holds_nothing a.sub)
+is_bare_ord a = is_ord_kind a.kind && (is_empty a.sup && is_empty a.sub)
 
 abbrev pub nucleus_of_atom : Option AtomValue → Sequence → Part
 nucleus_of_atom None list = ListPart list
@@ -105,8 +105,8 @@ nucleus_atom (Plain Ord) (InGroup list) = group_atom list
 nucleus_atom kind filling = plain_atom kind (filling_part filling)
 
 abbrev pub with_script : Side → Part → Option AtomValue → AtomValue
-with_script Up part hand = record (scripted_atom hand) { sup = part }
-with_script Down part hand = record (scripted_atom hand) { sub = part }
+with_script Up part last = record (scripted_atom last) { sup = part }
+with_script Down part last = record (scripted_atom last) { sub = part }
 
 abbrev pub is_op : Option AtomValue → Bool
 is_op None = false

@@ -5,14 +5,16 @@ use Rattle.mt_scaled.specs.declared.unit.Units.{Units}
 use Rattle.mt_rules.specs.Sequence.{Sequence}
 use Rattle.mt_rules.specs.declared.document.Tag.{Tag}
 use Rattle.mt_plain.specs.CodeTables.{CodeTables}
+use Rattle.mt_scan.specs.declared.fault.ReadCause.{ReadCause}
+use Rattle.mt_scan.specs.declared.fault.ReadCause.TheVariants.{Unbalanced}
 use Rattle.mt_scan.specs.declared.role.Role.{Role}
 use Rattle.mt_scan.specs.declared.role.Role.TheVariants.{NumberWord}
 use Rattle.mt_scan.specs.Role.{role_of}
 use Rattle.mt_scan.specs.Parts.{Read, Got, Fault, then_read}
 use Rattle.mt_formula.specs.Atoms.{AtomValue}
-use Rattle.mt_formula.specs.declared.open.ending.Ending.{Ending}
-use Rattle.mt_formula.specs.declared.open.ending.Ending.TheVariants.{AtEnd, AtNumber}
-use Rattle.mt_formula.specs.Lists.{StretchReader, list}
+use Rattle.mt_formula.specs.declared.open.open_list.Ending.{Ending}
+use Rattle.mt_formula.specs.declared.open.open_list.Ending.TheVariants.{AtEnd, AtNumber}
+use Rattle.mt_formula.specs.Lists.{ItemRunReader, list}
 use Rattle.mt_formula.specs.Items.{turn}
 
 -- the body of a formula, and what is set at its side as the number of a display
@@ -22,7 +24,7 @@ FormulaParts = Sequence × Option Tag
 -- a formula as it is read, or the cause and the place of its fault, counted from 0
 pub data Reading : Type 0 where
   Reads : (body : Sequence) (tag : Option Tag) → Reading
-  ReadFault : (cause : ℕ) (place : ℕ) → Reading
+  ReadFault : (cause : ReadCause) (place : ℕ) → Reading
 
 abbrev pub reading_of : ℕ → Read FormulaParts → Reading
 reading_of count (Got formula rest) = Reads formula.0 formula.1
@@ -38,12 +40,12 @@ body_ending true = AtNumber
 body_ending false = AtEnd
 
 module _ (tables : CodeTables) (units : Units) where
-  -- a stretch, by at most so many turns
-  unfoldable pub stretch : ℕ → StretchReader
-  stretch zero = λ (depth : ℕ) (family : Option ℕ) (hand : Option AtomValue) (tokens : List Token). Fault 0 0
-  stretch (suc n) = turn tables units (stretch n)
+  -- a run of items, by at most so many turns; the fault without any never comes
+  unfoldable pub item_run : ℕ → ItemRunReader
+  item_run zero = λ (level : ℕ) (family : Option ℕ) (last : Option AtomValue) (tokens : List Token). Fault Unbalanced 0
+  item_run (suc n) = turn tables units (item_run n)
 
-  module _ (again : StretchReader) where
+  module _ (again : ItemRunReader) where
     -- after \eqno or \leqno, the rest is the number
     abbrev pub with_tag : Sequence → List Token → Read FormulaParts
     with_tag body [] = Got (body, None) []
@@ -56,4 +58,4 @@ module _ (tables : CodeTables) (units : Units) where
 
   -- each turn takes a token or ends a list, so this many are enough
   abbrev pub reading : Bool → List Token → Reading
-  reading display tokens = reading_of (length tokens) (formula (stretch (length tokens + 1)) display tokens)
+  reading display tokens = reading_of (length tokens) (formula (item_run (length tokens + 1)) display tokens)

@@ -14,6 +14,8 @@ pub mod Rows
 pub mod Items
 -- the reading of a formula
 pub mod Formulas
+-- the numbers and places of errors
+pub mod Errors
 -- what the reading of a formula answers
 pub mod Answers
 -- how many items a list has

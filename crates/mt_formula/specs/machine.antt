@@ -6,9 +6,7 @@ pub mod OpenLists
 pub mod Frames
 -- how far a formula is read
 pub mod Stands
--- words that are treated together
-pub mod Words
--- what a token does in a list
+-- what the reading of an action answers
 pub mod Actions
 -- actions that read no list
 pub mod PutsAction

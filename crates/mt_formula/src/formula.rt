@@ -4,13 +4,11 @@ ghost use Rattle.mt_scaled.specs.Number.{Within};
 ghost use Rattle.mt_scan.specs.Parts.{Read};
 ghost use Rattle.mt_formula.specs.Answers.{IsFault, ReadsAs};
 ghost use Rattle.mt_formula.specs.Counts.{formula_items, IsModestFormula};
-ghost use Rattle.mt_scan.specs.Meets.{cause_number};
 ghost use Rattle.mt_formula.specs.Formulas.{FormulaParts, ReadFault, reading_of, is_at_left, body_ending};
-ghost use Rattle.mt_formula.specs.Formulas.{stretch, formula, reading};
+ghost use Rattle.mt_formula.specs.Formulas.{item_run, formula, reading};
 ghost use Rattle.mt_formula.specs.machine.Reads.{HasFault, ReadsFormula};
 
-use crate::open::ending::Ending;
-use crate::open::turned::Stop;
+use crate::open::open_list::{Ending, Stop};
 use crate::read_error::ReadError;
 use crate::step::reading::read_list;
 use mt_plain::Codes;
@@ -51,7 +49,7 @@ fn formula_parts(
     requires em { Within (2 ^ 31) units.em }
     requires ex { Within (2 ^ 31) units.ex }
     ensures { ReadsFormula result
-        (formula codes.now units (stretch codes.now units (length tokens.now + 1)) display tokens.now) }
+        (formula codes.now units (item_run codes.now units (length tokens.now + 1)) display tokens.now) }
 {
     match read_list(alloc, codes, units, body_ending(display), tokens) {
         Ok(body) => match body.rest {
@@ -75,7 +73,7 @@ fn formula_parts(
 }
 
 fn error_at(cause: ReadCause, place: u32) -> ReadError
-    ensures { IsFault result (ReadFault (cause_number cause) place) }
+    ensures { IsFault result (ReadFault cause place) }
 {
     match cause {
         ReadCause::UnknownName => ReadError::UnknownName(place),

@@ -1,10 +1,7 @@
 //! Lists that are open, what holds of them, and how they are changed.
 
-pub mod ending;
-pub mod frame;
-pub mod hands;
+pub mod groups;
 pub mod items;
+pub mod last_atom;
 pub mod lists;
 pub mod open_list;
-pub mod room;
-pub mod turned;

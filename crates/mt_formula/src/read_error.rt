@@ -1,5 +1,6 @@
 //! Why a formula is not read.
 ghost use Rattle.std.specs.Prelude.{◌≡◌};
+ghost use Rattle.mt_formula.specs.Errors.{read_error_number, read_error_place};
 ghost use Rattle.mt_formula.specs.declared.read_error.ReadError.TheVariants.{OutOfMemory};
 
 use std::alloc::AllocError;
@@ -45,6 +46,48 @@ pub enum ReadError {
     /// Memory ran out.
     #[error("out of memory")]
     OutOfMemory,
+}
+
+impl ReadError {
+    /// Its number, from 1 in the order of the variants.
+    pub fn number(self) -> u8
+        ensures { result ≡ read_error_number self }
+    {
+        match self {
+            ReadError::UnknownName(_) => 1,
+            ReadError::DoubleScript(_) => 2,
+            ReadError::TwoFractions(_) => 3,
+            ReadError::BadDelimiter(_) => 4,
+            ReadError::Unbalanced(_) => 5,
+            ReadError::MisplacedLimits(_) => 6,
+            ReadError::MissingField(_) => 7,
+            ReadError::BadNumber(_) => 8,
+            ReadError::BadDimension(_) => 9,
+            ReadError::MisplacedNumber(_) => 10,
+            ReadError::TooDeep(_) => 11,
+            ReadError::OutOfMemory => 12,
+        }
+    }
+
+    /// The index of its token; `None` where memory ran out.
+    pub fn place(self) -> Option<u32>
+        ensures { result ≡ read_error_place self }
+    {
+        match self {
+            ReadError::UnknownName(place)
+            | ReadError::DoubleScript(place)
+            | ReadError::TwoFractions(place)
+            | ReadError::BadDelimiter(place)
+            | ReadError::Unbalanced(place)
+            | ReadError::MisplacedLimits(place)
+            | ReadError::MissingField(place)
+            | ReadError::BadNumber(place)
+            | ReadError::BadDimension(place)
+            | ReadError::MisplacedNumber(place)
+            | ReadError::TooDeep(place) => Some(place),
+            ReadError::OutOfMemory => None,
+        }
+    }
 }
 
 impl From<AllocError> for ReadError {

@@ -6,4 +6,6 @@ pub mod openings;
 pub mod perform;
 pub mod reading;
 pub mod stops;
+pub mod table;
 pub mod turn;
+pub mod words;

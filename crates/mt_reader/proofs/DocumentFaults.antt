@@ -3,6 +3,7 @@ use Rattle.std.proofs.Common.{◌≡◌, refl, [], ◌∷◌}
 use Rattle.std.specs.Prelude.{codes, Err}
 use Rattle.mt_macro.specs.Expansion.{run, OverBudget, NoArgument}
 use Rattle.mt_formula.proofs.Writing.{times, sym, ord}
+use Rattle.mt_scan.specs.declared.fault.ReadCause.TheVariants.{UnknownName, DoubleScript, TwoFractions, BadDelimiter, Unbalanced, MissingField, MisplacedNumber, TooDeep}
 use Rattle.mt_reader.specs.documents.Documents.{pages_from, Outside, NotExpanded, NotRead, TooManyTokens, TooManyPages}
 use Rattle.mt_reader.proofs.DocumentWriting.{read, after_pages, after_tokens, after_definitions, entry}
 use Rattle.mt_plain.specs.CodeTables.{plain_codes}
@@ -205,7 +206,7 @@ unfolding stretch run pages_from control plain_codes plain_table macro_texts acc
 case_47 = refl
 
 -- of formulas
-case_48 : read (codes "$\\x$") ≡ Err (NotRead 1 1 0)
+case_48 : read (codes "$\\x$") ≡ Err (NotRead 1 UnknownName 0)
 unfolding stretch run pages_from control plain_codes plain_table macro_texts accent_macros delimiter_macros other_macros family_macros function_macros limit_macros plain_body
 case_48 = refl
 
@@ -217,60 +218,60 @@ case_50 : read (codes "\\def\\x#1{a}$a{b\\x}$") ≡ Err (NotExpanded 1 (NoArgume
 unfolding stretch run pages_from control plain_codes plain_table macro_texts accent_macros delimiter_macros other_macros family_macros function_macros limit_macros plain_body
 case_50 = refl
 
-case_51 : read (codes "\\mathcode`a=32768 $a$") ≡ Err (NotRead 1 1 0)
+case_51 : read (codes "\\mathcode`a=32768 $a$") ≡ Err (NotRead 1 UnknownName 0)
 unfolding stretch run pages_from control plain_codes plain_table macro_texts accent_macros delimiter_macros other_macros family_macros function_macros limit_macros plain_body
 case_51 = refl
 
-case_52 : read (codes "\\delcode`(=-1 $\\left($") ≡ Err (NotRead 1 4 1)
+case_52 : read (codes "\\delcode`(=-1 $\\left($") ≡ Err (NotRead 1 BadDelimiter 1)
 unfolding stretch run pages_from control plain_codes plain_table macro_texts accent_macros delimiter_macros other_macros family_macros function_macros limit_macros plain_body
 case_52 = refl
 
-case_53 : read (codes "$a^b^c$") ≡ Err (NotRead 1 2 3)
+case_53 : read (codes "$a^b^c$") ≡ Err (NotRead 1 DoubleScript 3)
 unfolding stretch run pages_from control plain_codes plain_table macro_texts accent_macros delimiter_macros other_macros family_macros function_macros limit_macros plain_body
 case_53 = refl
 
-case_54 : read (codes "$a$ $\\left a$") ≡ Err (NotRead 2 4 1)
+case_54 : read (codes "$a$ $\\left a$") ≡ Err (NotRead 2 BadDelimiter 1)
 unfolding stretch run pages_from control plain_codes plain_table macro_texts accent_macros delimiter_macros other_macros family_macros function_macros limit_macros plain_body
 case_54 = refl
 
-case_55 : read (codes "$\\hat a^b^c$") ≡ Err (NotRead 1 2 10)
+case_55 : read (codes "$\\hat a^b^c$") ≡ Err (NotRead 1 DoubleScript 10)
 unfolding stretch run pages_from control plain_codes plain_table macro_texts accent_macros delimiter_macros other_macros family_macros function_macros limit_macros plain_body
 case_55 = refl
 
-case_56 : read (codes "$$a$b$$") ≡ Err (NotRead 1 5 1)
+case_56 : read (codes "$$a$b$$") ≡ Err (NotRead 1 Unbalanced 1)
 unfolding stretch run pages_from control plain_codes plain_table macro_texts accent_macros delimiter_macros other_macros family_macros function_macros limit_macros plain_body
 case_56 = refl
 
-case_57 : read (codes "$a\\over b\\over c$") ≡ Err (NotRead 1 3 3)
+case_57 : read (codes "$a\\over b\\over c$") ≡ Err (NotRead 1 TwoFractions 3)
 unfolding stretch run pages_from control plain_codes plain_table macro_texts accent_macros delimiter_macros other_macros family_macros function_macros limit_macros plain_body
 case_57 = refl
 
-case_58 : read (codes "$a$\\eject $a\\eqno b$") ≡ Err (NotRead 2 10 1)
+case_58 : read (codes "$a$\\eject $a\\eqno b$") ≡ Err (NotRead 2 MisplacedNumber 1)
 unfolding stretch run pages_from control plain_codes plain_table macro_texts accent_macros delimiter_macros other_macros family_macros function_macros limit_macros plain_body
 case_58 = refl
 
-case_59 : read (times 1 (codes "$") (times 151 (codes "{") (times 1 (codes "a") (times 151 (codes "}") (times 1 (codes "$") []))))) ≡ Err (NotRead 1 11 150)
+case_59 : read (times 1 (codes "$") (times 151 (codes "{") (times 1 (codes "a") (times 151 (codes "}") (times 1 (codes "$") []))))) ≡ Err (NotRead 1 TooDeep 150)
 unfolding stretch run pages_from control plain_codes plain_table macro_texts accent_macros delimiter_macros other_macros family_macros function_macros limit_macros plain_body
 case_59 = refl
 
-case_60 : read (codes "\\mathcode`a=32768 $b$ $\\def a$") ≡ Err (NotRead 2 1 0)
+case_60 : read (codes "\\mathcode`a=32768 $b$ $\\def a$") ≡ Err (NotRead 2 UnknownName 0)
 unfolding stretch run pages_from control plain_codes plain_table macro_texts accent_macros delimiter_macros other_macros family_macros function_macros limit_macros plain_body
 case_60 = refl
 
-case_61 : read (codes "$a$ $\\sqrt$ \\foo") ≡ Err (NotRead 2 7 9)
+case_61 : read (codes "$a$ $\\sqrt$ \\foo") ≡ Err (NotRead 2 MissingField 9)
 unfolding stretch run pages_from control plain_codes plain_table macro_texts accent_macros delimiter_macros other_macros family_macros function_macros limit_macros plain_body
 case_61 = refl
 
 -- a Space that expansion puts where none is passed over
-case_62 : read (codes "\\def\\x#1{\\mathchoice#1{a}{b}{c}{d}}$\\x{ }$") ≡ Err (NotRead 1 7 1)
+case_62 : read (codes "\\def\\x#1{\\mathchoice#1{a}{b}{c}{d}}$\\x{ }$") ≡ Err (NotRead 1 MissingField 1)
 unfolding stretch run pages_from control plain_codes plain_table macro_texts accent_macros delimiter_macros other_macros family_macros function_macros limit_macros plain_body
 case_62 = refl
 
-case_63 : read (codes "\\def\\x#1{\\vcenter#1{}}$\\x{ }$") ≡ Err (NotRead 1 7 1)
+case_63 : read (codes "\\def\\x#1{\\vcenter#1{}}$\\x{ }$") ≡ Err (NotRead 1 MissingField 1)
 unfolding stretch run pages_from control plain_codes plain_table macro_texts accent_macros delimiter_macros other_macros family_macros function_macros limit_macros plain_body
 case_63 = refl
 
-case_64 : read (codes "\\def\\x#1{\\vcenter{\\hbox#1{$a$}}}$\\x{ }$") ≡ Err (NotRead 1 7 3)
+case_64 : read (codes "\\def\\x#1{\\vcenter{\\hbox#1{$a$}}}$\\x{ }$") ≡ Err (NotRead 1 MissingField 3)
 unfolding stretch run pages_from control plain_codes plain_table macro_texts accent_macros delimiter_macros other_macros family_macros function_macros limit_macros plain_body
 case_64 = refl
 

@@ -13,10 +13,11 @@ use Rattle.mt_plain.specs.CodeTables.{CodeTables}
 use Rattle.mt_rules.specs.Sequence.{Sequence}
 use Rattle.mt_rules.specs.declared.document.Formula.{Formula}
 use Rattle.mt_rules.specs.declared.document.Tag.{Tag}
+use Rattle.mt_reader.specs.declared.outside_cause.OutsideCause.{OutsideCause}
 use Rattle.mt_reader.specs.declared.outside_role.OutsideRole.{OutsideRole}
 use Rattle.mt_reader.specs.declared.outside_role.OutsideRole.TheVariants.{Passed, Defines, SetsMathCode, SetsDelimiterCode, BeginsFormula, EndsPage, EndsDocument, Misplaced}
 use Rattle.mt_reader.specs.declared.document_error.DocError.{DocError}
-use Rattle.mt_scan.specs.Parts.{Read, Got, Fault}
+use Rattle.mt_scan.specs.Parts.{Read, ReadOr, Got, Fault}
 use Rattle.mt_formula.specs.Formulas.{Reading, Reads, ReadFault, reading}
 use Rattle.mt_reader.specs.documents.Definitions.{MacroDefinition, macro_definition}
 use Rattle.mt_reader.specs.documents.Assignments.{math_code_assignment, delcode_assignment}
@@ -57,7 +58,7 @@ module _ (P : Formula → Type 0) (units : Units) where
   defined s left rest (Ok macros) h = record { pages = h.pages; page = h.page }
   defined s left rest (Err e) h = tt
 
-  definition_read : (s : DocumentState) (left : ℕ) (r : Read MacroDefinition) → OfState s → OfTurn (after_definition s left r)
+  definition_read : (s : DocumentState) (left : ℕ) (r : ReadOr OutsideCause MacroDefinition) → OfState s → OfTurn (after_definition s left r)
   definition_read s left (Got d rest) h = defined s left rest (define s.macros d.name d.params d.body) h
   definition_read s left (Fault cause at) h = tt
 

@@ -8,12 +8,11 @@ use Rattle.mt_plain.specs.PlainMacros.{plain_table}
 use Rattle.mt_reader.specs.declared.document_state.DocumentState.{DocumentState as StateFields}
 use Rattle.mt_macro.specs.declared.expansion.ExpandError.{ExpandError}
 use Rattle.mt_macro.specs.declared.expansion.ExpandError.TheVariants.{Budget, MissingArgument, Unbalanced as UnbalancedList, TooLong, OutOfMemory as NoMemoryToExpand}
-use Rattle.mt_formula.specs.declared.read_error.ReadError.{ReadError}
-use Rattle.mt_formula.specs.declared.read_error.ReadError.TheVariants.{UnknownName, DoubleScript, TwoFractions, BadDelimiter, Unbalanced, MisplacedLimits, MissingField, BadNumber, BadDimension, MisplacedNumber, TooDeep, OutOfMemory as NoMemoryToRead}
+use Rattle.mt_formula.specs.Errors.{PlacedCause, read_error_fault}
 use Rattle.mt_reader.specs.declared.document_error.DocError.{DocError}
 use Rattle.mt_reader.specs.declared.document_error.DocError.TheVariants.{Source, Outside, Expand, Read, Total, Pages, OutOfMemory}
 use Rattle.mt_reader.specs.documents.Documents.{DocumentState, DocumentFault, DocumentAnswer, Turn, Goes, Ends, Stops, StopsOutside, state_pages, turn_by, outside_role, turn_answer, pages_from, document}
-use Rattle.mt_reader.specs.documents.Refusals.{IsExpandRefusal, IsReadRefusal, IsRefusal}
+use Rattle.mt_reader.specs.documents.Refusals.{IsExpandRefusal, IsNotRead, IsRefusal}
 use Rattle.mt_reader.specs.documents.Turns.{state_of, turn_refusal, IsSpent, state_weight}
 
 -- these tokens are left of a document's
@@ -81,25 +80,15 @@ module _ (units : Units) (tokens rest after : List Token) (state : StateFields) 
   refused_expand again turn n TooLong e = same_refusal again turn _ e
   refused_expand again turn n NoMemoryToExpand e = e
 
-  refused_read : (again : DocumentState → List Token → DocumentAnswer) (turn : Turn) (n : ℕ) (cause : ReadError) → IsReadRefusal n cause (turn_refusal (length tokens) turn) → IsReadRefusal n cause (turn_answer units (length tokens) again turn)
-  refused_read again turn n (UnknownName place) e = same_refusal again turn _ e
-  refused_read again turn n (DoubleScript place) e = same_refusal again turn _ e
-  refused_read again turn n (TwoFractions place) e = same_refusal again turn _ e
-  refused_read again turn n (BadDelimiter place) e = same_refusal again turn _ e
-  refused_read again turn n (Unbalanced place) e = same_refusal again turn _ e
-  refused_read again turn n (MisplacedLimits place) e = same_refusal again turn _ e
-  refused_read again turn n (MissingField place) e = same_refusal again turn _ e
-  refused_read again turn n (BadNumber place) e = same_refusal again turn _ e
-  refused_read again turn n (BadDimension place) e = same_refusal again turn _ e
-  refused_read again turn n (MisplacedNumber place) e = same_refusal again turn _ e
-  refused_read again turn n (TooDeep place) e = same_refusal again turn _ e
-  refused_read again turn n NoMemoryToRead e = e
+  refused_read_of : (again : DocumentState → List Token → DocumentAnswer) (turn : Turn) (n : ℕ) (fault : Option PlacedCause) → IsNotRead n fault (turn_refusal (length tokens) turn) → IsNotRead n fault (turn_answer units (length tokens) again turn)
+  refused_read_of again turn n (Some fault) e = same_refusal again turn _ e
+  refused_read_of again turn n None e = e
 
   refused : (again : DocumentState → List Token → DocumentAnswer) (turn : Turn) (error : DocError) → IsRefusal error (turn_refusal (length tokens) turn) → IsRefusal error (turn_answer units (length tokens) again turn)
   refused again turn (Source cause) e = same_refusal again turn _ e
   refused again turn (Outside n place cause) e = same_refusal again turn _ e
   refused again turn (Expand n cause) e = refused_expand again turn n cause e
-  refused again turn (Read n cause) e = refused_read again turn n cause e
+  refused again turn (Read n cause) e = refused_read_of again turn n (read_error_fault cause) e
   refused again turn (Total n count) e = same_refusal again turn _ e
   refused again turn (Pages count) e = same_refusal again turn _ e
   refused again turn OutOfMemory e = tt

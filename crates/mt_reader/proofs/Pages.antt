@@ -10,10 +10,11 @@ use Rattle.mt_macro.specs.Definition.{define}
 use Rattle.mt_macro.specs.Expansion.{Expansion, Expanded, OverBudget, NoArgument, NoPartner, ListTooLong, expansion}
 use Rattle.mt_rules.specs.declared.document.Formula.{Formula}
 use Rattle.mt_plain.specs.CodeTables.{CodeTables}
+use Rattle.mt_reader.specs.declared.outside_cause.OutsideCause.{OutsideCause}
 use Rattle.mt_reader.specs.declared.document_error.DocError.{DocError}
 use Rattle.mt_reader.specs.declared.outside_role.OutsideRole.{OutsideRole}
 use Rattle.mt_reader.specs.declared.outside_role.OutsideRole.TheVariants.{Passed, Defines, SetsMathCode, SetsDelimiterCode, BeginsFormula, EndsPage, EndsDocument, Misplaced}
-use Rattle.mt_scan.specs.Parts.{Read, Got, Fault}
+use Rattle.mt_scan.specs.Parts.{Read, ReadOr, Got, Fault}
 use Rattle.mt_formula.specs.Formulas.{Reading, Reads, ReadFault, reading}
 use Rattle.mt_reader.specs.documents.Definitions.{MacroDefinition, macro_definition}
 use Rattle.mt_reader.specs.documents.Assignments.{math_code_assignment, delcode_assignment}
@@ -45,7 +46,7 @@ with_table_fits : (s : DocumentState) (left : ℕ) (rest : List Token) (made : R
 with_table_fits s left rest (Ok macros) f = f
 with_table_fits s left rest (Err e) f = tt
 
-definition_fits : (s : DocumentState) (left : ℕ) (d : Read MacroDefinition) → FewPages s → TurnFits (after_definition s left d)
+definition_fits : (s : DocumentState) (left : ℕ) (d : ReadOr OutsideCause MacroDefinition) → FewPages s → TurnFits (after_definition s left d)
 definition_fits s left (Fault cause at) f = tt
 definition_fits s left (Got d rest) f = with_table_fits s left rest (define s.macros d.name d.params d.body) f
 

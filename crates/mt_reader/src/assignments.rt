@@ -7,7 +7,7 @@ ghost use Rattle.mt_reader.specs.documents.Lent.{Assigns};
 ghost use Rattle.mt_scan.specs.Meets.{Meets};
 
 use mt_plain::Codes;
-use mt_scan::{Fault, Part, ReadCause, after_spaces, number_to, whole_number};
+use mt_scan::{Fault, ReadCause, Scanned, after_spaces, number_to, whole_number};
 use mt_token::{Token, character_code};
 
 /// The greatest character.
@@ -31,16 +31,20 @@ fn after_equals<'a>(tokens: &'a [Token]) -> &'a [Token]
 }
 
 // A code of delimiters, which stands where so many tokens are left; a negative number means that there is none.
-fn code_or_none<'a>(first: usize, n: i64, rest: &'a [Token]) -> Result<Part<'a, Option<u32>>, Fault>
+fn code_or_none<'a>(
+    first: usize,
+    n: i64,
+    rest: &'a [Token],
+) -> Result<Scanned<'a, Option<u32>>, Fault>
     ensures is { Meets result (code_or_none first n rest.now) }
     ensures falls { IfOk result (λ part. length part.rest.now ≤ length rest.now) }
     ensures code { IfOk result (λ part. is_delcode part.value ≡ true) }
 {
     if n < 0 {
-        return Ok(Part { value: None, rest });
+        return Ok(Scanned { value: None, rest });
     }
     if n <= MAX_DELCODE {
-        return Ok(Part {
+        return Ok(Scanned {
             value: Some(n as u32),
             rest,
         });
@@ -51,7 +55,7 @@ fn code_or_none<'a>(first: usize, n: i64, rest: &'a [Token]) -> Result<Part<'a, 
     })
 }
 
-fn delimiter_value<'a>(tokens: &'a [Token]) -> Result<Part<'a, Option<u32>>, Fault>
+fn delimiter_value<'a>(tokens: &'a [Token]) -> Result<Scanned<'a, Option<u32>>, Fault>
     ensures is { Meets result (delimiter_value tokens.now) }
     ensures falls { IfOk result (λ part. length part.rest.now ≤ length tokens.now) }
     ensures code { IfOk result (λ part. is_delcode part.value ≡ true) }

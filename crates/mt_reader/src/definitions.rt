@@ -12,7 +12,7 @@ use crate::outside_cause::OutsideCause;
 use crate::taken::{Taken, between_braces};
 use mt_macro::{first_bad_parameter, is_open};
 use mt_scaled::Name;
-use mt_scan::Part;
+use mt_scan::Scanned;
 use mt_token::{Token, TokenKind, character_code};
 
 /// A cause, and how many tokens are left from its place on.
@@ -60,13 +60,13 @@ fn is_next_digit(count: u8, token: &Token) -> bool
 }
 
 // A `{` must follow the parameters; it is left.
-fn after_parameters<'a>(count: u8, tokens: &'a [Token]) -> Result<Part<'a, u8>, OutsideFault>
+fn after_parameters<'a>(count: u8, tokens: &'a [Token]) -> Result<Scanned<'a, u8>, OutsideFault>
     ensures is { MeetsOutside result (after_parameters count tokens.now) }
     ensures falls { IfOk result (λ part. length part.rest.now ≤ length tokens.now) }
     ensures same { IfOk result (λ part. part.value ≡ count) }
 {
     match tokens {
-        [token, ..] if is_open(token) => Ok(Part {
+        [token, ..] if is_open(token) => Ok(Scanned {
             value: count,
             rest: tokens,
         }),
@@ -75,7 +75,7 @@ fn after_parameters<'a>(count: u8, tokens: &'a [Token]) -> Result<Part<'a, u8>, 
 }
 
 // `#1#2` and so on in order, up to `#9`.
-fn parameters<'a>(tokens: &'a [Token]) -> Result<Part<'a, u8>, OutsideFault>
+fn parameters<'a>(tokens: &'a [Token]) -> Result<Scanned<'a, u8>, OutsideFault>
     ensures is { MeetsOutside result (parameters 0 tokens.now) }
     ensures falls { IfOk result (λ part. length part.rest.now ≤ length tokens.now) }
     ensures few { IfOk result (λ part. part.value ≤ 9) }
@@ -103,7 +103,7 @@ fn checked_body<'a>(
     params: u8,
     left: usize,
     taken: Taken<'a>,
-) -> Result<Part<'a, MacroDefinition<'a>>, OutsideFault>
+) -> Result<Scanned<'a, MacroDefinition<'a>>, OutsideFault>
     requires { length taken.argument.now ≤ left }
     ensures is { MeetsDefinition result (checked_body name.now params left (taken_tokens taken.entry)
         (first_bad_parameter params taken.entry.argument.now)) }
@@ -111,7 +111,7 @@ fn checked_body<'a>(
     ensures short { IfOk result (λ part. part.value.body.now ≡ taken.entry.argument.now) }
 {
     match first_bad_parameter(params, taken.argument) {
-        None => Ok(Part {
+        None => Ok(Scanned {
             value: MacroDefinition {
                 name,
                 params,
@@ -128,7 +128,7 @@ fn definition_body<'a>(
     name: &'a Name,
     params: u8,
     tokens: &'a [Token],
-) -> Result<Part<'a, MacroDefinition<'a>>, OutsideFault>
+) -> Result<Scanned<'a, MacroDefinition<'a>>, OutsideFault>
     ensures is { MeetsDefinition result (definition_body name.now params tokens.now) }
     ensures falls { IfOk result (λ part. length part.rest.now ≤ length tokens.now) }
     ensures short { IfOk result (λ part. length part.value.body.now ≤ length tokens.now) }
@@ -149,7 +149,7 @@ fn definition_body<'a>(
 fn definition_of_name<'a>(
     name: &'a Name,
     tokens: &'a [Token],
-) -> Result<Part<'a, MacroDefinition<'a>>, OutsideFault>
+) -> Result<Scanned<'a, MacroDefinition<'a>>, OutsideFault>
     ensures is { MeetsDefinition result (definition_of_name name.now tokens.now) }
     ensures falls { IfOk result (λ part. length part.rest.now ≤ length tokens.now) }
     ensures short { IfOk result (λ part. length part.value.body.now ≤ length tokens.now) }
@@ -163,7 +163,7 @@ fn definition_of_name<'a>(
 /// What follows `\def`: a control sequence, parameters, and a body between braces.
 pub fn macro_definition<'a>(
     tokens: &'a [Token],
-) -> Result<Part<'a, MacroDefinition<'a>>, OutsideFault>
+) -> Result<Scanned<'a, MacroDefinition<'a>>, OutsideFault>
     ensures is { MeetsDefinition result (macro_definition tokens.now) }
     ensures falls { IfOk result (λ part. length part.rest.now ≤ length tokens.now) }
     ensures short { IfOk result (λ part. length part.value.body.now ≤ length tokens.now) }

@@ -1,7 +1,7 @@
 //! Numbers, dimensions and roles of tokens.
 use crate::units::UNITS;
 use mt_plain::Codes;
-use mt_scan::{ReadCause, Role, Side, delimiter, dimension, glue, role_of, whole_number};
+use mt_scan::{ReadCause, Role, Side, dimension, glue, role_of, scan_delimiter, whole_number};
 use mt_token::tokens;
 use std::alloc::Global;
 use std::test::Fail;
@@ -60,7 +60,7 @@ fn knows_roles(rt: HostRuntime) -> Result<(), Fail> {
     );
     assert_eq!(rt; list.get(2).map(|t| role_of(&codes, t)), Some(Role::Prime));
     assert!(rt;
-        delimiter(&codes, list.as_slice()).is_err_and(|fault| fault.cause
+        scan_delimiter(&codes, list.as_slice()).is_err_and(|fault| fault.cause
             == ReadCause::BadDelimiter)
     );
     let glued = tokens(alloc, b"1pt plus 2pt MINUS .5pt")?;

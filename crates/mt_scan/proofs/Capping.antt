@@ -5,6 +5,7 @@ use Rattle.std.proofs.Math.Nat.{min-eq_left, min-eq_right, le-mul_of_pos_right}
 use Rattle.std.proofs.lemmas.Bool.{cases_lt}
 use Rattle.std.proofs.lemmas.Bool.Decides.{nat_tests}
 use Rattle.mt_token.specs.declared.token.Token.{Token}
+use Rattle.mt_scan.specs.declared.fault.ReadCause.TheVariants.{BadNumber, BadDimension}
 use Rattle.mt_scan.specs.Parts.{Read, Got, Fault, then_read, after_spaces}
 use Rattle.mt_scan.specs.Numbers.{Whole, digit_of, at_digit, digits, signs, unsigned_number, in_bound, whole_number}
 use Rattle.mt_scan.specs.declared.decimals.Decimal.{Decimal}
@@ -48,7 +49,7 @@ in_bound_capped first minus value rest = elim (cases_lt value 2147483648) [
   | inr over ↦ ap (λ v. in_bound first minus v rest) (min-eq_right over) ∙ sym (out_of_bound over)
 ]
   where
-    out_of_bound : 2147483648 ≤ value → in_bound first minus value rest ≡ Fault 8 first
+    out_of_bound : 2147483648 ≤ value → in_bound first minus value rest ≡ Fault BadNumber first
     out_of_bound over = grind (arith, nat_tests, over)
 
 by_size : (first : ℕ) (minus : Bool) (r : Read ℕ) → then_read (capped r) (in_bound first minus) ≡ then_read r (in_bound first minus)
@@ -84,7 +85,7 @@ module _ (units : Units) (negative : Bool) (first : ℕ) (minus : Bool) where
     | inr over ↦ ap (λ w. dimension_of units negative first minus (record { whole = w; part = f.part }) m rest) (min-eq_right over) ∙ sym (too_great over)
   ]
     where
-      too_great : 2147483648 ≤ f.whole → dimension_of units negative first minus f m rest ≡ Fault 9 first
+      too_great : 2147483648 ≤ f.whole → dimension_of units negative first minus f m rest ≡ Fault BadDimension first
       too_great over = grind (arith, nat_tests, over)
 
   in_measure : (f : Decimal) (r : Read Measure) → then_read r (dimension_of units negative first minus (record { whole = min f.whole 2147483648; part = f.part })) ≡ then_read r (dimension_of units negative first minus f)

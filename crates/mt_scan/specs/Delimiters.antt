@@ -5,6 +5,7 @@ use Rattle.mt_token.specs.declared.token.TokenKind.{TokenKind}
 use Rattle.mt_token.specs.declared.token.TokenKind.TheVariants.{Control, Char, Space}
 use Rattle.mt_rules.specs.declared.symbol.Delim.{Delim}
 use Rattle.mt_plain.specs.CodeTables.{CodeTables, delcode_of}
+use Rattle.mt_scan.specs.declared.fault.ReadCause.TheVariants.{BadDelimiter}
 use Rattle.mt_scan.specs.declared.role.Role.{Role}
 use Rattle.mt_scan.specs.declared.role.Role.TheVariants.{DelimiterWord}
 use Rattle.mt_scan.specs.Role.{role_of}
@@ -13,7 +14,7 @@ use Rattle.mt_scan.specs.Numbers.{delimiter_number}
 use Rattle.mt_scan.specs.Symbols.{delim_of}
 
 abbrev pub delimiter_by_code : Option ℕ → List Token → Read Delim
-delimiter_by_code None rest = Fault 4 (length rest + 1)
+delimiter_by_code None rest = Fault BadDelimiter (length rest + 1)
 delimiter_by_code (Some code) rest = Got (delim_of code) rest
 
 module _ (tables : CodeTables) where
@@ -29,9 +30,9 @@ module _ (tables : CodeTables) where
   delimiter_at t rest _ = delimiter_by_code (code_of_kind t.kind) rest
 
   abbrev pub delimiter_here : List Token → Read Delim
-  delimiter_here [] = Fault 4 0
+  delimiter_here [] = Fault BadDelimiter 0
   delimiter_here (t ∷ rest) = delimiter_at t rest (role_of tables t)
 
   -- Spaces and \relax, and then a character with a delimiter code, or \delimiter and a number
-  abbrev pub delimiter : List Token → Read Delim
-  delimiter tokens = delimiter_here (after_blanks tables tokens)
+  abbrev pub scan_delimiter : List Token → Read Delim
+  scan_delimiter tokens = delimiter_here (after_blanks tables tokens)

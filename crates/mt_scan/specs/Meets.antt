@@ -2,31 +2,15 @@
 use Rattle.std.specs.Prelude.{◌≡◌, ℕ, min, List, [], ◌∷◌, Option, Some, None, Result, Ok, Err}
 use Rattle.std.specs.Borrow.{Bor}
 use Rattle.mt_token.specs.declared.token.Token.{Token}
-use Rattle.mt_scan.specs.declared.part.ReadCause.{ReadCause}
-use Rattle.mt_scan.specs.declared.part.ReadCause.TheVariants.{UnknownName, DoubleScript, TwoFractions, BadDelimiter, Unbalanced, MisplacedLimits, MissingField, BadNumber, BadDimension, MisplacedNumber, TooDeep}
-use Rattle.mt_scan.specs.declared.part.Fault.{Fault as FaultFields}
-use Rattle.mt_scan.specs.declared.part.Part.{Part}
+use Rattle.mt_scan.specs.declared.fault.Fault.{Fault as FaultFields}
+use Rattle.mt_scan.specs.declared.scanned.Scanned.{Scanned}
 use Rattle.mt_scan.specs.Parts.{Read, Got, Fault}
 use Rattle.mt_scan.specs.Numbers.{Whole, digit_of, at_digit}
 
--- the number of a cause
-abbrev pub cause_number : ReadCause → ℕ
-cause_number UnknownName = 1
-cause_number DoubleScript = 2
-cause_number TwoFractions = 3
-cause_number BadDelimiter = 4
-cause_number Unbalanced = 5
-cause_number MisplacedLimits = 6
-cause_number MissingField = 7
-cause_number BadNumber = 8
-cause_number BadDimension = 9
-cause_number MisplacedNumber = 10
-cause_number TooDeep = 11
-
 -- the result is what is read
-abbrev pub Meets : {A : Type 0} → Result (Part A) FaultFields → Read A → Type 0
+abbrev pub Meets : {A : Type 0} → Result (Scanned A) FaultFields → Read A → Type 0
 Meets (Ok part) read = read ≡ Got part.value part.rest.now
-Meets (Err fault) read = read ≡ Fault (cause_number fault.cause) fault.left
+Meets (Err fault) read = read ≡ Fault fault.cause fault.left
 
 -- the same, where all values above 2^31 - 1 count as 2^31
 abbrev pub capped : Read ℕ → Read ℕ

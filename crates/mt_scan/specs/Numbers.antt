@@ -4,6 +4,8 @@ use Rattle.mt_token.specs.declared.token.Token.{Token}
 use Rattle.mt_token.specs.declared.token.TokenKind.{TokenKind}
 use Rattle.mt_token.specs.declared.token.TokenKind.TheVariants.{Control, Char, Space}
 use Rattle.mt_token.specs.Character.{character_code}
+use Rattle.mt_scan.specs.declared.fault.ReadCause.TheVariants.{BadNumber}
+use Rattle.mt_scan.specs.Limits.{max_math_char, max_delimiter}
 use Rattle.mt_scan.specs.Parts.{Read, Got, Fault, then_read, after_one_space}
 
 -- a Space or + leaves the sign, - turns it; nothing else is a sign
@@ -59,12 +61,12 @@ digits base value [] = record { value = value; rest = [] }
 digits base value (t ∷ rest) = at_digit (digit_of base t) base value (t ∷ rest) (λ (v : ℕ). digits base v rest)
 
 abbrev pub first_digit : Option ℕ → ℕ → List Token → List Token → Read ℕ
-first_digit None base tokens rest = Fault 8 (length tokens)
+first_digit None base tokens rest = Fault BadNumber (length tokens)
 first_digit (Some digit) base tokens rest = let all = digits base digit rest in Got all.value all.rest
 
 -- at least one digit
 abbrev pub digits_in : ℕ → List Token → Read ℕ
-digits_in base [] = Fault 8 0
+digits_in base [] = Fault BadNumber 0
 digits_in base (t ∷ rest) = first_digit (digit_of base t) base (t ∷ rest) rest
 
 -- after a backquote, a character or a control symbol; a control word of one letter counts as one
@@ -75,11 +77,11 @@ quoted_kind (Control name) = None
 quoted_kind Space = None
 
 abbrev pub quoted_value : Option ℕ → List Token → Read ℕ
-quoted_value None rest = Fault 8 (length rest + 1)
+quoted_value None rest = Fault BadNumber (length rest + 1)
 quoted_value (Some c) rest = Got c rest
 
 abbrev pub quoted_code : List Token → Read ℕ
-quoted_code [] = Fault 8 0
+quoted_code [] = Fault BadNumber 0
 quoted_code (t ∷ rest) = quoted_value (quoted_kind t.kind) rest
 
 -- a number without its sign: 34 is ", 39 ' and 96 the backquote
@@ -91,12 +93,12 @@ unsigned_number_by c tokens rest =
     else digits_in 10 tokens
 
 abbrev pub unsigned_number : List Token → Read ℕ
-unsigned_number [] = Fault 8 0
+unsigned_number [] = Fault BadNumber 0
 unsigned_number (t ∷ rest) = unsigned_number_by (character_code t.kind) (t ∷ rest) rest
 
 abbrev pub in_bound : ℕ → Bool → ℕ → List Token → Read ℤ
 in_bound first minus value rest =
-    if nat_le value 2147483647 then Got (with_sign minus (pos value)) (after_one_space rest) else Fault 8 first
+    if nat_le value 2147483647 then Got (with_sign minus (pos value)) (after_one_space rest) else Fault BadNumber first
 
 -- a number; where its value is out of range, the fault stands at its first token
 abbrev pub whole_number : List Token → Read ℤ
@@ -105,18 +107,18 @@ whole_number tokens =
     then_read (unsigned_number signed.rest) (λ (value : ℕ) (rest : List Token). in_bound (length tokens) signed.minus value rest)
 
 abbrev pub at_most : ℕ → ℕ → ℤ → List Token → Read ℕ
-at_most most first (pos n) rest = if nat_le n most then Got n rest else Fault 8 first
-at_most most first (negsuc n) rest = Fault 8 first
+at_most most first (pos n) rest = if nat_le n most then Got n rest else Fault BadNumber first
+at_most most first (negsuc n) rest = Fault BadNumber first
 
 -- a number from 0 to a greatest
 abbrev pub number_to : ℕ → List Token → Read ℕ
 number_to most tokens =
     then_read (whole_number tokens) (λ (n : ℤ) (rest : List Token). at_most most (length tokens) n rest)
 
--- what follows \mathchar and \mathaccent, 0 to 2^15 - 1
+-- what follows \mathchar and \mathaccent
 abbrev pub math_code : List Token → Read ℕ
-math_code tokens = number_to 32767 tokens
+math_code tokens = number_to max_math_char tokens
 
--- what follows \delimiter and \radical, 0 to 2^27 - 1
+-- what follows \delimiter and \radical
 abbrev pub delimiter_number : List Token → Read ℕ
-delimiter_number tokens = number_to 134217727 tokens
+delimiter_number tokens = number_to max_delimiter tokens

@@ -3,16 +3,23 @@ use Rattle.std.specs.Prelude.{ℕ, ◌+◌, nat_lt, Bool, true, false, List, [],
 use Rattle.mt_token.specs.declared.token.Token.{Token}
 use Rattle.mt_token.specs.Spaces.{is_space}
 use Rattle.mt_plain.specs.CodeTables.{CodeTables}
+use Rattle.mt_scan.specs.declared.fault.ReadCause.{ReadCause}
+use Rattle.mt_scan.specs.declared.fault.ReadCause.TheVariants.{MissingField, TooDeep}
 use Rattle.mt_scan.specs.declared.role.Role.{Role}
+use Rattle.mt_scan.specs.Limits.{max_groups}
 use Rattle.mt_scan.specs.Role.{role_of, means_nothing}
 
 -- a part and the tokens after it, or the cause of a fault and how many tokens are left from its place on
-pub data Read (A : Type 0) : Type 0 where
-  Got : (part : A) (rest : List Token) → Read A
-  Fault : (cause : ℕ) (left : ℕ) → Read A
+pub data ReadOr (Cause A : Type 0) : Type 0 where
+  Got : (part : A) (rest : List Token) → ReadOr Cause A
+  Fault : (cause : Cause) (left : ℕ) → ReadOr Cause A
+
+-- a part of a formula
+abbrev pub Read : Type 0 → Type 0
+Read A = ReadOr ReadCause A
 
 -- one part and then another
-abbrev pub then_read : {A B : Type 0} → Read A → (A → List Token → Read B) → Read B
+abbrev pub then_read : {C A B : Type 0} → ReadOr C A → (A → List Token → ReadOr C B) → ReadOr C B
 then_read (Got part rest) more = more part rest
 then_read (Fault cause left) more = Fault cause left
 
@@ -32,9 +39,9 @@ module _ (tables : CodeTables) where
   after_blanks [] = []
   after_blanks (t ∷ rest) = elim (means_nothing (role_of tables t)) [ true ↦ after_blanks rest | false ↦ t ∷ rest ]
 
-  -- a token that must stand here and opens a group, where so many are open: at most 150 may be
+  -- a token that must stand here and opens a group, where so many are open
   abbrev pub opening : (Role → Bool) → ℕ → List Token → Read ⊤
-  opening opens depth [] = Fault 7 0
-  opening opens depth (t ∷ rest) =
-      if opens (role_of tables t) then (if nat_lt depth 150 then Got tt rest else Fault 11 (length rest + 1))
-      else Fault 7 (length rest + 1)
+  opening opens level [] = Fault MissingField 0
+  opening opens level (t ∷ rest) =
+      if opens (role_of tables t) then (if nat_lt level max_groups then Got tt rest else Fault TooDeep (length rest + 1))
+      else Fault MissingField (length rest + 1)

@@ -14,16 +14,17 @@ use Rattle.mt_plain.specs.declared.meaning.Command.TheVariants.{Relax, MathChar,
 use Rattle.mt_plain.specs.declared.meaning.Meaning.{Meaning}
 use Rattle.mt_plain.specs.declared.meaning.Meaning.TheVariants.{MathChar as CodeMeaning, Command as CommandMeaning}
 use Rattle.mt_plain.specs.CodeTables.{CodeTables, math_code_of}
+use Rattle.mt_plain.specs.Limits.{max_math_code}
 use Rattle.mt_plain.specs.Names.{control}
 use Rattle.mt_scan.specs.declared.role.Side.TheVariants.{Up, Down}
 use Rattle.mt_scan.specs.declared.role.Bar.TheVariants.{Own as OwnBar, None as NoBar, Given as GivenBar}
 use Rattle.mt_scan.specs.declared.role.Amount.TheVariants.{MuSkip, MuKern as AmountMuKern, Skip, Kern as AmountKern}
-use Rattle.mt_scan.specs.declared.role.NucleusKind.{NucleusKind}
-use Rattle.mt_scan.specs.declared.role.NucleusKind.TheVariants.{Class, Radical as RadicalNucleus, Accent as AccentNucleus, Over as OverNucleus, Under as UnderNucleus}
+use Rattle.mt_scan.specs.declared.role.FieldKind.{FieldKind}
+use Rattle.mt_scan.specs.declared.role.FieldKind.TheVariants.{Class, Radical as RadicalNucleus, Accent as AccentNucleus, Over as OverNucleus, Under as UnderNucleus}
 use Rattle.mt_scan.specs.declared.role.Simple.{Simple}
 use Rattle.mt_scan.specs.declared.role.Simple.TheVariants.{Style, MuSpace, Space, MuKern, Kern, Nonscript}
 use Rattle.mt_scan.specs.declared.role.Role.{Role}
-use Rattle.mt_scan.specs.declared.role.Role.TheVariants.{Blank, MathCode, CharWord, DelimiterWord, Prime, Script, OpenBrace, CloseBrace, Dollar, Stray, Nucleus, RadicalWord, AccentWord, VcenterWord, HboxWord, LeftWord, RightWord, LimitsWord, FractionWord, ChoiceWord, AmountWord, ItemWord, FamilyWord, NumberWord, Unknown}
+use Rattle.mt_scan.specs.declared.role.Role.TheVariants.{Blank, MathCode, CharWord, DelimiterWord, Prime, Script, OpenBrace, CloseBrace, Dollar, Misplaced, Nucleus, RadicalWord, AccentWord, VcenterWord, HboxWord, LeftWord, RightWord, LimitsWord, FractionWord, ChoiceWord, AmountWord, ItemWord, FamilyWord, NumberWord, Unknown}
 
 -- the item
 abbrev pub simple_element : Simple → Element
@@ -35,7 +36,7 @@ simple_element (Kern amount) = KernElement amount
 simple_element Nonscript = NonscriptElement
 
 -- the kind of an atom with such a nucleus
-abbrev pub nucleus_kind : NucleusKind → Kind
+abbrev pub nucleus_kind : FieldKind → Kind
 nucleus_kind (Class class) = Plain class
 nucleus_kind (RadicalNucleus delim) = RadicalKind delim
 nucleus_kind (AccentNucleus symbol) = AccentKind symbol
@@ -98,9 +99,9 @@ meaning_role None = Unknown
 meaning_role (Some (CodeMeaning code)) = MathCode code
 meaning_role (Some (CommandMeaning command)) = command_role command
 
--- a character by its math code, 32768 where it is active; 39 is '
+-- a character by its math code, the greatest where it is active; 39 is '
 abbrev pub code_role : ℕ → ℕ → Role
-code_role c code = if code == 32768 then (if c == 39 then Prime else Unknown) else MathCode code
+code_role c code = if code == max_math_code then (if c == 39 then Prime else Unknown) else MathCode code
 
 -- { } ^ _ $ & # are what they are, whatever their math codes
 abbrev pub character_role : CodeTables → ℕ → Role
@@ -110,7 +111,7 @@ character_role tables c =
     else if c == 94 then Script Up
     else if c == 95 then Script Down
     else if c == 36 then Dollar
-    else if (c == 38) || (c == 35) then Stray
+    else if (c == 38) || (c == 35) then Misplaced
     else code_role c (math_code_of tables c)
 
 abbrev pub kind_role : CodeTables → TokenKind → Role

@@ -1,13 +1,14 @@
 //! Decimal numbers.
 ghost use Rattle.std.specs.Prelude.{◌≡◌, ◌≤◌, ◌+◌, ◌*◌, ◌/◌, length, take, IfOk};
 ghost use Rattle.mt_scaled.specs.Number.{decimals_of, decimal_fraction};
-ghost use Rattle.mt_scan.specs.declared.part.ReadCause.TheVariants.{BadDimension};
+ghost use Rattle.mt_scan.specs.declared.fault.ReadCause.TheVariants.{BadDimension};
 ghost use Rattle.mt_scan.specs.Dimensions.{decimals, is_point, after_whole, factor};
 ghost use Rattle.mt_scan.specs.Meets.{Meets};
 ghost use Rattle.mt_scan.specs.CappedDecimals.{capped_decimal};
 
+use crate::fault::{Fault, ReadCause};
 use crate::numbers::{digit_of, digits};
-use crate::part::{Fault, Part, ReadCause};
+use crate::scanned::Scanned;
 use mt_token::{Token, character_code};
 
 /// A decimal number.
@@ -76,7 +77,11 @@ fn is_point(c: u8) -> bool
 }
 
 // What follows the digits of a whole part, if there were any.
-fn after_whole<'a>(some: bool, whole: u64, tokens: &'a [Token]) -> Result<Part<'a, Decimal>, Fault>
+fn after_whole<'a>(
+    some: bool,
+    whole: u64,
+    tokens: &'a [Token],
+) -> Result<Scanned<'a, Decimal>, Fault>
     requires { whole ≤ 2147483648 }
     ensures is { Meets result (after_whole some whole tokens.now) }
     ensures falls { IfOk result (λ read. length read.rest.now ≤ length tokens.now) }
@@ -84,7 +89,7 @@ fn after_whole<'a>(some: bool, whole: u64, tokens: &'a [Token]) -> Result<Part<'
     ensures part { IfOk result (λ read. read.value.part ≤ 65536) }
 {
     match tokens {
-        [token, after @ ..] if is_point(character_code(token)) => Ok(Part {
+        [token, after @ ..] if is_point(character_code(token)) => Ok(Scanned {
             value: Decimal {
                 whole,
                 part: rounded_fraction(after),
@@ -93,7 +98,7 @@ fn after_whole<'a>(some: bool, whole: u64, tokens: &'a [Token]) -> Result<Part<'
         }),
         _ => {
             if some {
-                Ok(Part {
+                Ok(Scanned {
                     value: Decimal { whole, part: 0 },
                     rest: tokens,
                 })
@@ -105,7 +110,7 @@ fn after_whole<'a>(some: bool, whole: u64, tokens: &'a [Token]) -> Result<Part<'
 }
 
 /// Digits with at most one point, and at least one of them. A whole part above 2^31 - 1 counts as 2^31.
-pub fn factor<'a>(tokens: &'a [Token]) -> Result<Part<'a, Decimal>, Fault>
+pub fn factor<'a>(tokens: &'a [Token]) -> Result<Scanned<'a, Decimal>, Fault>
     ensures is { Meets result (capped_decimal (factor tokens.now)) }
     ensures falls { IfOk result (λ read. length read.rest.now ≤ length tokens.now) }
     ensures whole { IfOk result (λ read. read.value.whole ≤ 2147483648) }

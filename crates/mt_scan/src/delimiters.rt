@@ -1,11 +1,12 @@
 //! Delimiters.
 ghost use Rattle.std.specs.Prelude.{◌≡◌, ◌≤◌, length, IfOk};
-ghost use Rattle.mt_scan.specs.Delimiters.{code_of_kind, delimiter_by_code, delimiter_here, delimiter};
+ghost use Rattle.mt_scan.specs.Delimiters.{code_of_kind, delimiter_by_code, delimiter_here, scan_delimiter};
 ghost use Rattle.mt_scan.specs.Meets.{Meets};
 
+use crate::fault::{Fault, ReadCause};
 use crate::numbers::number_to;
-use crate::part::{Fault, Part, ReadCause};
 use crate::role::{Role, role_of};
+use crate::scanned::Scanned;
 use crate::spaces::after_blanks;
 use crate::symbols::delim_of;
 use mt_plain::Codes;
@@ -25,12 +26,12 @@ fn code_of_kind(codes: &Codes, token: &Token) -> Option<u32>
     }
 }
 
-fn delimiter_by_code<'a>(code: Option<u32>, rest: &'a [Token]) -> Result<Part<'a, Delim>, Fault>
+fn delimiter_by_code<'a>(code: Option<u32>, rest: &'a [Token]) -> Result<Scanned<'a, Delim>, Fault>
     ensures is { Meets result (delimiter_by_code code rest.now) }
     ensures falls { IfOk result (λ part. length part.rest.now ≤ length rest.now) }
 {
     match code {
-        Some(code) => Ok(Part {
+        Some(code) => Ok(Scanned {
             value: delim_of(code),
             rest,
         }),
@@ -41,19 +42,19 @@ fn delimiter_by_code<'a>(code: Option<u32>, rest: &'a [Token]) -> Result<Part<'a
     }
 }
 
-fn delimiter_here<'a>(codes: &Codes, tokens: &'a [Token]) -> Result<Part<'a, Delim>, Fault>
+fn delimiter_here<'a>(codes: &Codes, tokens: &'a [Token]) -> Result<Scanned<'a, Delim>, Fault>
     ensures is { Meets result (delimiter_here codes.now tokens.now) }
     ensures falls { IfOk result (λ part. length part.rest.now ≤ length tokens.now) }
 {
     match tokens {
         [token, after @ ..] => match role_of(codes, token) {
-            Role::DelimiterWord => match number_to(MAX_DELIMITER, after) {
-                Ok(code) => Ok(Part {
+            Role::DelimiterWord => {
+                let code = number_to(MAX_DELIMITER, after)?;
+                Ok(Scanned {
                     value: delim_of(code.value),
                     rest: code.rest,
-                }),
-                Err(fault) => Err(fault),
-            },
+                })
+            }
             _ => delimiter_by_code(code_of_kind(codes, token), after),
         },
         [] => Err(Fault {
@@ -64,8 +65,8 @@ fn delimiter_here<'a>(codes: &Codes, tokens: &'a [Token]) -> Result<Part<'a, Del
 }
 
 /// Spaces and `\relax`, and then a character with a delimiter code, or `\delimiter` and a number.
-pub fn delimiter<'a>(codes: &Codes, tokens: &'a [Token]) -> Result<Part<'a, Delim>, Fault>
-    ensures is { Meets result (delimiter codes.now tokens.now) }
+pub fn scan_delimiter<'a>(codes: &Codes, tokens: &'a [Token]) -> Result<Scanned<'a, Delim>, Fault>
+    ensures is { Meets result (scan_delimiter codes.now tokens.now) }
     ensures falls { IfOk result (λ part. length part.rest.now ≤ length tokens.now) }
 {
     delimiter_here(codes, after_blanks(codes, tokens))

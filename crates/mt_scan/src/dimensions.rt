@@ -7,8 +7,9 @@ ghost use Rattle.mt_scan.specs.Dimensions.{after_letters, amount, glue};
 ghost use Rattle.mt_scan.specs.Meets.{Meets, IsAfter};
 
 use crate::decimals::{Decimal, bad_dimension, factor};
+use crate::fault::Fault;
 use crate::numbers::signs;
-use crate::part::{Fault, Part};
+use crate::scanned::Scanned;
 use crate::spaces::after_spaces;
 use crate::units::{length_of, letter, measure};
 use mt_rules::Glue;
@@ -44,7 +45,7 @@ fn dimension_of<'a>(
     f: Decimal,
     unit: Unit,
     rest: &'a [Token],
-) -> Result<Part<'a, i64>, Fault>
+) -> Result<Scanned<'a, i64>, Fault>
     requires part { f.part ≤ 65536 }
     requires em { Within (2 ^ 31) units.em }
     requires ex { Within (2 ^ 31) units.ex }
@@ -56,7 +57,7 @@ fn dimension_of<'a>(
     }
     let value = signed_length(minus, length_of(units, unit, f));
     if is_dimension(negative, value) {
-        Ok(Part { value, rest })
+        Ok(Scanned { value, rest })
     } else {
         Err(bad_dimension(first))
     }
@@ -68,7 +69,7 @@ pub fn dimension_from<'a>(
     mu: bool,
     negative: bool,
     tokens: &'a [Token],
-) -> Result<Part<'a, i64>, Fault>
+) -> Result<Scanned<'a, i64>, Fault>
     requires em { Within (2 ^ 31) units.em }
     requires ex { Within (2 ^ 31) units.ex }
     ensures is { Meets result (dimension_from units mu negative tokens.now) }
@@ -93,7 +94,7 @@ pub fn dimension_from<'a>(
 }
 
 /// A dimension, in math units where these are asked for.
-pub fn dimension<'a>(units: Units, mu: bool, tokens: &'a [Token]) -> Result<Part<'a, i64>, Fault>
+pub fn dimension<'a>(units: Units, mu: bool, tokens: &'a [Token]) -> Result<Scanned<'a, i64>, Fault>
     requires em { Within (2 ^ 31) units.em }
     requires ex { Within (2 ^ 31) units.ex }
     ensures is { Meets result (dimension units mu tokens.now) }
@@ -127,14 +128,14 @@ fn amount<'a>(
     word: &[u8],
     mu: bool,
     tokens: &'a [Token],
-) -> Result<Part<'a, i64>, Fault>
+) -> Result<Scanned<'a, i64>, Fault>
     requires em { Within (2 ^ 31) units.em }
     requires ex { Within (2 ^ 31) units.ex }
     ensures is { Meets result (amount units word.now mu tokens.now) }
     ensures falls { IfOk result (λ part. length part.rest.now ≤ length tokens.now) }
 {
     match after_letters(word, after_spaces(tokens)) {
-        None => Ok(Part {
+        None => Ok(Scanned {
             value: 0,
             rest: tokens,
         }),
@@ -143,26 +144,20 @@ fn amount<'a>(
 }
 
 /// Glue, in math units where these are asked for. What it can stretch has no effect.
-pub fn glue<'a>(units: Units, mu: bool, tokens: &'a [Token]) -> Result<Part<'a, Glue>, Fault>
+pub fn glue<'a>(units: Units, mu: bool, tokens: &'a [Token]) -> Result<Scanned<'a, Glue>, Fault>
     requires em { Within (2 ^ 31) units.em }
     requires ex { Within (2 ^ 31) units.ex }
     ensures is { Meets result (glue units mu tokens.now) }
     ensures falls { IfOk result (λ part. length part.rest.now ≤ length tokens.now) }
 {
-    match dimension(units, mu, tokens) {
-        Ok(width) => match amount(units, b"plus", mu, width.rest) {
-            Ok(stretch) => match amount(units, b"minus", mu, stretch.rest) {
-                Ok(shrink) => Ok(Part {
-                    value: Glue {
-                        width: width.value,
-                        shrink: shrink.value,
-                    },
-                    rest: shrink.rest,
-                }),
-                Err(fault) => Err(fault),
-            },
-            Err(fault) => Err(fault),
+    let width = dimension(units, mu, tokens)?;
+    let stretch = amount(units, b"plus", mu, width.rest)?;
+    let shrink = amount(units, b"minus", mu, stretch.rest)?;
+    Ok(Scanned {
+        value: Glue {
+            width: width.value,
+            shrink: shrink.value,
         },
-        Err(fault) => Err(fault),
-    }
+        rest: shrink.rest,
+    })
 }

@@ -5,17 +5,19 @@
 mod decimals;
 mod delimiters;
 mod dimensions;
+mod fault;
 mod numbers;
-mod part;
 mod role;
+mod scanned;
 mod spaces;
 mod symbols;
 mod units;
 
-pub use delimiters::{MAX_DELIMITER, delimiter};
+pub use delimiters::{MAX_DELIMITER, scan_delimiter};
 pub use dimensions::{dimension, glue};
-pub use numbers::{number_to, whole_number};
-pub use part::{Fault, Part, ReadCause};
-pub use role::{Amount, Bar, NucleusKind, Role, Side, Simple, role_of};
+pub use fault::{Fault, ReadCause};
+pub use numbers::{MAX_MATH_CHAR, number_to, whole_number};
+pub use role::{Amount, Bar, FieldKind, Role, Side, Simple, role_of};
+pub use scanned::Scanned;
 pub use spaces::{after_blanks, after_spaces};
 pub use symbols::{class_of, code_symbol, current_family, delim_of, null_delim};

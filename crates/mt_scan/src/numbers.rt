@@ -3,12 +3,16 @@ ghost use Rattle.std.specs.Prelude.{◌≡◌, ◌≤◌, ◌<◌, ◌*◌, ◌+
 ghost use Rattle.mt_scan.specs.Numbers.{turns_sign, sign_after, signs, with_sign, digit_value, digit_of};
 ghost use Rattle.mt_scan.specs.Numbers.{digits, digits_in, quoted_kind, quoted_code, unsigned_number};
 ghost use Rattle.mt_scan.specs.Numbers.{in_bound, whole_number, number_to};
-ghost use Rattle.mt_scan.specs.declared.part.ReadCause.TheVariants.{BadNumber};
+ghost use Rattle.mt_scan.specs.declared.fault.ReadCause.TheVariants.{BadNumber};
 ghost use Rattle.mt_scan.specs.Meets.{Meets, capped, capped_digits};
 
-use crate::part::{Fault, Part, ReadCause};
+use crate::fault::{Fault, ReadCause};
+use crate::scanned::Scanned;
 use crate::spaces::after_one_space;
 use mt_token::{Token, TokenKind, character_code};
+
+/// The greatest number that `\mathchar` and `\mathaccent` take.
+pub const MAX_MATH_CHAR: u32 = 32_767;
 
 /// All sizes above 2^31 - 1 count as this.
 const SIZE_CAP: u64 = 2_147_483_648;
@@ -41,7 +45,7 @@ fn sign_after(turn: bool, minus: bool) -> bool
 }
 
 /// Whether there is a minus in front, by the signs and Spaces there.
-pub fn signs<'a>(tokens: &'a [Token]) -> Part<'a, bool>
+pub fn signs<'a>(tokens: &'a [Token]) -> Scanned<'a, bool>
     ensures minus { result.value ≡ (signs false tokens.now).minus }
     ensures rest { result.rest.now ≡ (signs false tokens.now).rest }
     ensures falls { length result.rest.now ≤ length tokens.now }
@@ -54,10 +58,10 @@ pub fn signs<'a>(tokens: &'a [Token]) -> Part<'a, bool>
                 minus = sign_after(turn, minus);
                 rest = after;
             }
-            None => return Part { value: minus, rest },
+            None => return Scanned { value: minus, rest },
         }
     }
-    Part { value: minus, rest }
+    Scanned { value: minus, rest }
 }
 
 /// A size with a sign.
@@ -101,7 +105,7 @@ fn with_digit(base: u64, size: u64, digit: u64) -> u64
 }
 
 // The same as `digits`, a digit at a time.
-fn capped_digits<'a>(base: u64, first: u64, tokens: &'a [Token]) -> Part<'a, u64>
+fn capped_digits<'a>(base: u64, first: u64, tokens: &'a [Token]) -> Scanned<'a, u64>
     requires base { base ≤ 16 }
     requires first { first ≤ 2147483648 }
     ensures value { result.value ≡ (capped_digits base first tokens.now).value }
@@ -117,14 +121,14 @@ fn capped_digits<'a>(base: u64, first: u64, tokens: &'a [Token]) -> Part<'a, u64
                 size = with_digit(base, size, digit);
                 rest = after;
             }
-            None => return Part { value: size, rest },
+            None => return Scanned { value: size, rest },
         }
     }
-    Part { value: size, rest }
+    Scanned { value: size, rest }
 }
 
 /// The size that the digits in front make, after digits of another size.
-pub fn digits<'a>(base: u64, first: u64, tokens: &'a [Token]) -> Part<'a, u64>
+pub fn digits<'a>(base: u64, first: u64, tokens: &'a [Token]) -> Scanned<'a, u64>
     requires least { 1 ≤ base }
     requires base { base ≤ 16 }
     requires first { first ≤ 2147483647 }
@@ -137,7 +141,7 @@ pub fn digits<'a>(base: u64, first: u64, tokens: &'a [Token]) -> Part<'a, u64>
 }
 
 // At least one digit.
-fn digits_in<'a>(base: u64, tokens: &'a [Token]) -> Result<Part<'a, u64>, Fault>
+fn digits_in<'a>(base: u64, tokens: &'a [Token]) -> Result<Scanned<'a, u64>, Fault>
     requires least { 1 ≤ base }
     requires base { base ≤ 16 }
     ensures is { Meets result (capped (digits_in base tokens.now)) }
@@ -167,14 +171,14 @@ fn quoted_kind(kind: &TokenKind) -> Option<u8>
 }
 
 // A character, or a control sequence of one character.
-fn quoted_code<'a>(tokens: &'a [Token]) -> Result<Part<'a, u64>, Fault>
+fn quoted_code<'a>(tokens: &'a [Token]) -> Result<Scanned<'a, u64>, Fault>
     ensures is { Meets result (capped (quoted_code tokens.now)) }
     ensures falls { IfOk result (λ part. length part.rest.now ≤ length tokens.now) }
     ensures bound { IfOk result (λ part. part.value ≤ 2147483648) }
 {
     match tokens {
         [token, after @ ..] => match quoted_kind(&token.kind) {
-            Some(c) => Ok(Part {
+            Some(c) => Ok(Scanned {
                 value: u64::from(c),
                 rest: after,
             }),
@@ -184,7 +188,7 @@ fn quoted_code<'a>(tokens: &'a [Token]) -> Result<Part<'a, u64>, Fault>
     }
 }
 
-fn unsigned_number<'a>(tokens: &'a [Token]) -> Result<Part<'a, u64>, Fault>
+fn unsigned_number<'a>(tokens: &'a [Token]) -> Result<Scanned<'a, u64>, Fault>
     ensures is { Meets result (capped (unsigned_number tokens.now)) }
     ensures falls { IfOk result (λ part. length part.rest.now ≤ length tokens.now) }
     ensures bound { IfOk result (λ part. part.value ≤ 2147483648) }
@@ -206,12 +210,12 @@ fn in_bound<'a>(
     minus: bool,
     size: u64,
     rest: &'a [Token],
-) -> Result<Part<'a, i64>, Fault>
+) -> Result<Scanned<'a, i64>, Fault>
     ensures is { Meets result (in_bound first minus size rest.now) }
     ensures falls { IfOk result (λ part. length part.rest.now ≤ length rest.now) }
 {
     if size < SIZE_CAP {
-        Ok(Part {
+        Ok(Scanned {
             value: with_sign(minus, size),
             rest: after_one_space(rest),
         })
@@ -221,7 +225,7 @@ fn in_bound<'a>(
 }
 
 /// A number: signs and Spaces, then digits to the base 10, 16 or 8 or a character, then one Space.
-pub fn whole_number<'a>(tokens: &'a [Token]) -> Result<Part<'a, i64>, Fault>
+pub fn whole_number<'a>(tokens: &'a [Token]) -> Result<Scanned<'a, i64>, Fault>
     ensures is { Meets result (whole_number tokens.now) }
     ensures falls { IfOk result (λ part. length part.rest.now ≤ length tokens.now) }
 {
@@ -233,22 +237,18 @@ pub fn whole_number<'a>(tokens: &'a [Token]) -> Result<Part<'a, i64>, Fault>
 }
 
 /// A number from 0 to a greatest.
-pub fn number_to<'a>(most: u32, tokens: &'a [Token]) -> Result<Part<'a, u32>, Fault>
+pub fn number_to<'a>(most: u32, tokens: &'a [Token]) -> Result<Scanned<'a, u32>, Fault>
     ensures is { Meets result (number_to most tokens.now) }
     ensures falls { IfOk result (λ part. length part.rest.now ≤ length tokens.now) }
     ensures bound { IfOk result (λ part. part.value ≤ most) }
 {
-    match whole_number(tokens) {
-        Ok(part) => {
-            if 0 <= part.value && part.value <= i64::from(most) {
-                Ok(Part {
-                    value: part.value as u32,
-                    rest: part.rest,
-                })
-            } else {
-                Err(bad_number(tokens.len()))
-            }
-        }
-        Err(fault) => Err(fault),
+    let number = whole_number(tokens)?;
+    if 0 <= number.value && number.value <= i64::from(most) {
+        Ok(Scanned {
+            value: number.value as u32,
+            rest: number.rest,
+        })
+    } else {
+        Err(bad_number(tokens.len()))
     }
 }

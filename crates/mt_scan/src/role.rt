@@ -2,7 +2,7 @@
 ghost use Rattle.std.specs.Prelude.{◌≡◌, ◌<◌};
 ghost use Rattle.mt_scan.specs.Role.{role_of, command_role, meaning_role, code_role, character_role, mu_space};
 
-use mt_plain::{Codes, Command, Meaning};
+use mt_plain::{Codes, Command, MAX_MATH_CODE, Meaning};
 use mt_rules::{Class, Delim, Glue, Limits, Style, Symbol};
 use mt_token::{Token, TokenKind};
 
@@ -58,7 +58,7 @@ pub enum Simple {
 
 /// The kind of an atom that takes a field as its nucleus.
 #[derive(Clone, Copy, Debug, PartialEq, Eq)]
-pub enum NucleusKind {
+pub enum FieldKind {
     /// The nucleus alone, as an atom of this class.
     Class(Class),
     /// Under a radical sign.
@@ -93,9 +93,9 @@ pub enum Role {
     /// `$`
     Dollar,
     /// `&` or `#`.
-    Stray,
+    Misplaced,
     /// A word that takes a field as the nucleus of an atom of this kind.
-    Nucleus(NucleusKind),
+    Nucleus(FieldKind),
     /// `\radical`
     RadicalWord,
     /// `\mathaccent`
@@ -139,16 +139,16 @@ fn command_role(command: Command) -> Role
         Command::Relax => Role::Blank,
         Command::MathChar => Role::CharWord,
         Command::Delimiter => Role::DelimiterWord,
-        Command::MathOrd => Role::Nucleus(NucleusKind::Class(Class::Ord)),
-        Command::MathOp => Role::Nucleus(NucleusKind::Class(Class::Op)),
-        Command::MathBin => Role::Nucleus(NucleusKind::Class(Class::Bin)),
-        Command::MathRel => Role::Nucleus(NucleusKind::Class(Class::Rel)),
-        Command::MathOpen => Role::Nucleus(NucleusKind::Class(Class::Open)),
-        Command::MathClose => Role::Nucleus(NucleusKind::Class(Class::Close)),
-        Command::MathPunct => Role::Nucleus(NucleusKind::Class(Class::Punct)),
-        Command::MathInner => Role::Nucleus(NucleusKind::Class(Class::Inner)),
-        Command::Overline => Role::Nucleus(NucleusKind::Over),
-        Command::Underline => Role::Nucleus(NucleusKind::Under),
+        Command::MathOrd => Role::Nucleus(FieldKind::Class(Class::Ord)),
+        Command::MathOp => Role::Nucleus(FieldKind::Class(Class::Op)),
+        Command::MathBin => Role::Nucleus(FieldKind::Class(Class::Bin)),
+        Command::MathRel => Role::Nucleus(FieldKind::Class(Class::Rel)),
+        Command::MathOpen => Role::Nucleus(FieldKind::Class(Class::Open)),
+        Command::MathClose => Role::Nucleus(FieldKind::Class(Class::Close)),
+        Command::MathPunct => Role::Nucleus(FieldKind::Class(Class::Punct)),
+        Command::MathInner => Role::Nucleus(FieldKind::Class(Class::Inner)),
+        Command::Overline => Role::Nucleus(FieldKind::Over),
+        Command::Underline => Role::Nucleus(FieldKind::Under),
         Command::Radical => Role::RadicalWord,
         Command::MathAccent => Role::AccentWord,
         Command::Vcenter => Role::VcenterWord,
@@ -198,7 +198,7 @@ fn meaning_role(meaning: Option<Meaning>) -> Role
 fn code_role(c: u8, code: u16) -> Role
     ensures { result ≡ code_role c code }
 {
-    if code != 32768 {
+    if code != MAX_MATH_CODE {
         return Role::MathCode(code);
     }
     if c == b'\'' {
@@ -218,7 +218,7 @@ fn character_role(codes: &Codes, c: u8) -> Role
         b'^' => Role::Script(Side::Up),
         b'_' => Role::Script(Side::Down),
         b'$' => Role::Dollar,
-        b'&' | b'#' => Role::Stray,
+        b'&' | b'#' => Role::Misplaced,
         _ => code_role(c, codes.math_code(c)),
     }
 }

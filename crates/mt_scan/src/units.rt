@@ -7,7 +7,8 @@ ghost use Rattle.mt_scan.specs.Dimensions.{second_letter, after_first_letter, me
 ghost use Rattle.mt_scan.specs.Meets.{Meets};
 
 use crate::decimals::{Decimal, bad_dimension};
-use crate::part::{Fault, Part};
+use crate::fault::Fault;
+use crate::scanned::Scanned;
 use crate::spaces::after_one_space;
 use mt_scaled::{Unit, Units, xn_over_d};
 use mt_token::{Token, character_code};
@@ -64,13 +65,13 @@ fn measure_of(mu: bool, a: u8, b: u8) -> Option<Unit>
     }
 }
 
-fn after_first_letter<'a>(mu: bool, a: u8, tokens: &'a [Token]) -> Result<Part<'a, Unit>, Fault>
+fn after_first_letter<'a>(mu: bool, a: u8, tokens: &'a [Token]) -> Result<Scanned<'a, Unit>, Fault>
     ensures is { Meets result (after_first_letter mu a tokens.now) }
     ensures falls { IfOk result (λ part. length part.rest.now ≤ length tokens.now) }
 {
     match tokens {
         [token, after @ ..] => match measure_of(mu, a, letter(token)) {
-            Some(unit) => Ok(Part {
+            Some(unit) => Ok(Scanned {
                 value: unit,
                 rest: after_one_space(after),
             }),
@@ -81,7 +82,7 @@ fn after_first_letter<'a>(mu: bool, a: u8, tokens: &'a [Token]) -> Result<Part<'
 }
 
 /// A unit of two letters: `mu` where math units are asked for, and elsewhere another.
-pub fn measure<'a>(mu: bool, tokens: &'a [Token]) -> Result<Part<'a, Unit>, Fault>
+pub fn measure<'a>(mu: bool, tokens: &'a [Token]) -> Result<Scanned<'a, Unit>, Fault>
     ensures is { Meets result (measure mu tokens.now) }
     ensures falls { IfOk result (λ part. length part.rest.now ≤ length tokens.now) }
 {

@@ -5,22 +5,23 @@ use Rattle.mt_scaled.specs.declared.unit.Units.{Units}
 use Rattle.mt_rules.specs.declared.class.Class.TheVariants.{Inner}
 use Rattle.mt_rules.specs.declared.kind.Kind.TheVariants.{Plain, Vcenter}
 use Rattle.mt_rules.specs.declared.symbol.Delim.{Delim}
-use Rattle.mt_rules.specs.Sequence.{Sequence, Rows, ListPart, RowsPart, ChoiceElement, NoRows, MoreRows}
+use Rattle.mt_rules.specs.Sequence.{Sequence, Rows, ListPart, RowsPart, NoRows, MoreRows}
 use Rattle.mt_rules.specs.Rows.{rows_of}
 use Rattle.mt_plain.specs.CodeTables.{CodeTables}
+use Rattle.mt_scan.specs.declared.fault.ReadCause.TheVariants.{Unbalanced}
 use Rattle.mt_scan.specs.declared.role.Side.TheVariants.{Up}
-use Rattle.mt_formula.specs.declared.open.frame.ChoiceLists.{ChoiceLists}
-use Rattle.mt_formula.specs.declared.open.frame.ChoiceLists.TheVariants.{Zero, One, Two, Three}
-use Rattle.mt_formula.specs.declared.open.frame.Owner.{Owner}
-use Rattle.mt_formula.specs.declared.open.frame.Owner.TheVariants.{Nucleus, Script, Fence, Choice, Row, Argument, OpenArgument}
+use Rattle.mt_formula.specs.declared.open.open_list.ChoiceLists.{ChoiceLists}
+use Rattle.mt_formula.specs.declared.open.open_list.ChoiceLists.TheVariants.{Zero, One, Two, Three}
+use Rattle.mt_formula.specs.declared.open.open_list.Owner.{Owner}
+use Rattle.mt_formula.specs.declared.open.open_list.Owner.TheVariants.{Nucleus, Script, LeftRight, Choice, Row, Argument, OpenArgument}
 use Rattle.mt_scan.specs.Role.{nucleus_kind}
-use Rattle.mt_scan.specs.Parts.{Read, Got, Fault, then_read, after_spaces}
-use Rattle.mt_scan.specs.Delimiters.{delimiter}
+use Rattle.mt_scan.specs.Parts.{Read, Got, Fault, then_read}
+use Rattle.mt_scan.specs.Delimiters.{scan_delimiter}
 use Rattle.mt_formula.specs.Atoms.{AtomValue, InGroup, nucleus_of, nucleus_atom, plain_atom}
-use Rattle.mt_formula.specs.Lists.{StretchReader, Stretch}
-use Rattle.mt_formula.specs.Groups.{between_boundaries, brace_group}
+use Rattle.mt_formula.specs.Lists.{ItemRunReader, ItemRun}
+use Rattle.mt_formula.specs.Groups.{between_boundaries}
 use Rattle.mt_formula.specs.Rows.{closing, later_rows, rows_from}
-use Rattle.mt_formula.specs.Items.{put_atom, put_item, put_script}
+use Rattle.mt_formula.specs.Items.{put_atom, put_script, choice_with_none, choice_with_one, choice_with_two, choice_with_three}
 use Rattle.mt_formula.specs.machine.OpenLists.{inner_sequence}
 
 -- rows, and then others
@@ -28,49 +29,37 @@ abbrev pub append_rows : Rows → Rows → Rows
 append_rows NoRows more = more
 append_rows (MoreRows first rest) more = MoreRows first (append_rows rest more)
 
-module _ (tables : CodeTables) (units : Units) (again : StretchReader) (depth : ℕ) (family : Option ℕ) (hand : Option AtomValue) where
-  -- after a list of a choice, the lists that are still to come
-  abbrev pub choice_with_three : Sequence → Sequence → Sequence → Sequence → List Token → Read Stretch
-  choice_with_three display text script small rest = put_item tables units again depth family hand (ChoiceElement display text script small) rest
-
-  abbrev pub choice_with_two : Sequence → Sequence → Sequence → List Token → Read Stretch
-  choice_with_two display text script rest = then_read (brace_group tables units again depth family (after_spaces rest)) (choice_with_three display text script)
-
-  abbrev pub choice_with_one : Sequence → Sequence → List Token → Read Stretch
-  choice_with_one display text rest = then_read (brace_group tables units again depth family (after_spaces rest)) (choice_with_two display text)
-
-  abbrev pub choice_with_none : Sequence → List Token → Read Stretch
-  choice_with_none display rest = then_read (brace_group tables units again depth family (after_spaces rest)) (choice_with_one display)
-
-  abbrev pub choice_with : ChoiceLists → Sequence → List Token → Read Stretch
-  choice_with Zero = choice_with_none
-  choice_with (One display) = choice_with_one (inner_sequence display)
-  choice_with (Two display text) = choice_with_two (inner_sequence display) (inner_sequence text)
-  choice_with (Three display text script) = choice_with_three (inner_sequence display) (inner_sequence text) (inner_sequence script)
+module _ (tables : CodeTables) (units : Units) (again : ItemRunReader) (level : ℕ) (family : Option ℕ) (last : Option AtomValue) where
+  -- after a list of a choice that has these, the lists that are still to come
+  abbrev pub choice_with : ChoiceLists → Sequence → List Token → Read ItemRun
+  choice_with Zero = choice_with_none tables units again level family last
+  choice_with (One display) = choice_with_one tables units again level family last (inner_sequence display)
+  choice_with (Two display text) = choice_with_two tables units again level family last (inner_sequence display) (inner_sequence text)
+  choice_with (Three display text script) = choice_with_three tables units again level family last (inner_sequence display) (inner_sequence text) (inner_sequence script)
 
   -- after these rows, by at most so many more
-  abbrev pub rows_then : ℕ → Rows → List Token → Read Stretch
+  abbrev pub rows_then : ℕ → Rows → List Token → Read ItemRun
   rows_then k done rest =
-      then_read (later_rows tables units again (rows_from tables units again k (depth + 1)) rest)
-      (λ (others : Rows) (after : List Token). put_atom tables units again depth family hand (plain_atom Vcenter (RowsPart (append_rows done others))) after)
+      then_read (later_rows tables units again (rows_from tables units again k (level + 1)) rest)
+      (λ (others : Rows) (after : List Token). put_atom tables units again level family last (plain_atom Vcenter (RowsPart (append_rows done others))) after)
 
-  -- what follows a list that is read for this, where its atom at hand, its family and its number of open groups are these
-  abbrev pub owned : ℕ → Owner → Sequence → List Token → Read Stretch
-  owned k (Nucleus kind) inner end = put_atom tables units again depth family hand (nucleus_atom (nucleus_kind kind) (InGroup inner)) (drop 1 end)
-  owned k (Script side) inner end = put_script tables units again depth family hand side (nucleus_of inner) (drop 1 end)
-  owned k (Fence left) inner end =
-      then_read (delimiter tables (drop 1 end))
-      (λ (right : Delim) (rest : List Token). put_atom tables units again depth family hand (plain_atom (Plain Inner) (ListPart (between_boundaries left inner right))) rest)
+  -- what follows a list that is read for this, where its last atom, its family and its number of open groups are these
+  abbrev pub owned : ℕ → Owner → Sequence → List Token → Read ItemRun
+  owned k (Nucleus kind) inner end = put_atom tables units again level family last (nucleus_atom (nucleus_kind kind) (InGroup inner)) (drop 1 end)
+  owned k (Script side) inner end = put_script tables units again level family last side (nucleus_of inner) (drop 1 end)
+  owned k (LeftRight left) inner end =
+      then_read (scan_delimiter tables (drop 1 end))
+      (λ (right : Delim) (rest : List Token). put_atom tables units again level family last (plain_atom (Plain Inner) (ListPart (between_boundaries left inner right))) rest)
   owned k (Choice lists) inner end = choice_with lists inner (drop 1 end)
   owned k (Row done) inner end =
       then_read (closing tables units again (drop 1 end)) (λ (closed : ⊤) (rest : List Token). rows_then k (append_rows (rows_of done.items) (MoreRows inner NoRows)) rest)
-  owned k (Argument after count) inner end = put_script tables units again depth family hand Up (ListPart inner) after.now
-  owned k OpenArgument inner end = Fault 5 0
+  owned k (Argument after count) inner end = put_script tables units again level family last Up (ListPart inner) after.now
+  owned k OpenArgument inner end = Fault Unbalanced 0
 
--- how many tokens stand behind what is left, after the argument that is read
-abbrev pub behind_owner : Owner → ℕ
-behind_owner (Argument after count) = count
-behind_owner _ = 0
+-- how many tokens stand after what is left, after the argument that is read
+abbrev pub tokens_after : Owner → ℕ
+tokens_after (Argument after count) = count
+tokens_after _ = 0
 
 -- how many tokens are left for the outer list
 abbrev pub left_after : Owner → ℕ → ℕ

@@ -4,32 +4,31 @@ use Rattle.mt_token.specs.declared.token.Token.{Token}
 use Rattle.mt_scaled.specs.declared.unit.Units.{Units}
 use Rattle.mt_rules.specs.Sequence.{Sequence}
 use Rattle.mt_plain.specs.CodeTables.{CodeTables}
-use Rattle.mt_formula.specs.declared.open.frame.Frame.{Frame}
+use Rattle.mt_formula.specs.declared.open.open_list.Frame.{Frame}
 use Rattle.mt_formula.specs.declared.open.open_list.OpenList.{OpenList}
 use Rattle.mt_formula.specs.declared.step.turn.Progress.{Progress}
 use Rattle.mt_formula.specs.declared.step.turn.Progress.TheVariants.{Open, Whole}
 use Rattle.mt_scan.specs.declared.role.Bar.{Bar}
-use Rattle.mt_formula.specs.declared.open.turned.Stop.{Stop}
-use Rattle.mt_formula.specs.declared.open.turned.Stop.TheVariants.{Fault as AtFault, OutOfMemory}
-use Rattle.mt_formula.specs.declared.open.turned.Turned.{Turned}
+use Rattle.mt_formula.specs.declared.open.open_list.Stop.{Stop}
+use Rattle.mt_formula.specs.declared.open.open_list.Stop.TheVariants.{Fault as AtFault, OutOfMemory}
+use Rattle.mt_formula.specs.declared.open.open_list.Turned.{Turned}
 use Rattle.mt_scan.specs.Parts.{Read, Got, Fault, then_read}
-use Rattle.mt_formula.specs.Atoms.{append, hand_items}
-use Rattle.mt_formula.specs.Lists.{StretchReader, fraction_head, denominator}
-use Rattle.mt_formula.specs.Formulas.{stretch}
-use Rattle.mt_scan.specs.Meets.{cause_number}
-use Rattle.mt_formula.specs.machine.OpenLists.{items_of, hand_of, inner_sequence, all_items}
-use Rattle.mt_formula.specs.machine.Stands.{list_with, Unwinds, Stands, behind}
+use Rattle.mt_formula.specs.Atoms.{append, last_atom_items}
+use Rattle.mt_formula.specs.Lists.{ItemRunReader, fraction_head, denominator}
+use Rattle.mt_formula.specs.Formulas.{item_run}
+use Rattle.mt_formula.specs.machine.OpenLists.{items_of, last_atom_of, inner_sequence, all_items}
+use Rattle.mt_formula.specs.machine.Stands.{list_with, Unwinds, Stands, tokens_after_all}
 
 module _ (tables : CodeTables) (units : Units) where
   -- no item stands at these tokens in this list
   pub record Finishing (whole : Read Sequence) (frames : List Frame) (l : OpenList) (ts : List Token) : Type 0 where
     pub m : ℕ
     pub enough : length ts < m
-    pub is : Unwinds tables units frames (length ts) (list_with tables units (stretch tables units m) l (record { items = hand_items (hand_of l.hand); family = l.family }) ts) whole
+    pub is : Unwinds tables units frames (length ts) (list_with tables units (item_run tables units m) l (record { items = last_atom_items (last_atom_of l.last); family = l.family }) ts) whole
 
   -- what a list gives there
-  abbrev pub Finishes : OpenList → List Token → (StretchReader → Read Sequence) → Type 0
-  Finishes l ts r = (again : StretchReader) → list_with tables units again l (record { items = hand_items (hand_of l.hand); family = l.family }) ts ≡ r again
+  abbrev pub Finishes : OpenList → List Token → (ItemRunReader → Read Sequence) → Type 0
+  Finishes l ts r = (again : ItemRunReader) → list_with tables units again l (record { items = last_atom_items (last_atom_of l.last); family = l.family }) ts ≡ r again
 
   -- the list ends there
   pub record Ended (whole : Read Sequence) (frames : List Frame) (l : OpenList) (ts : List Token) : Type 0 where
@@ -41,13 +40,13 @@ module _ (tables : CodeTables) (units : Units) where
     pub finishing : Finishing whole frames l ts
     pub less : length rest < length ts
     pub is : Finishes l ts (λ again. then_read (fraction_head tables units delims bar rest)
-        (denominator tables units again l.ending l.depth (record { items = append (items_of l) (hand_items (hand_of l.hand)); family = l.family })))
+        (denominator tables units again l.ending l.level (record { items = append (items_of l) (last_atom_items (last_atom_of l.last)); family = l.family })))
 
   -- from what holds before of the whole reading: these frames, the list and the tokens left give it, or it is this, or its fault is this
   abbrev pub Progressed : (Read Sequence → Type 0) → Result Progress Stop → List Frame → Type 0
   Progressed before (Ok (Open turned)) frames = (whole : Read Sequence) → before whole → Stands tables units whole frames turned.list turned.rest.now
   Progressed before (Ok (Whole part)) frames = (whole : Read Sequence) → before whole → whole ≡ Got (inner_sequence part.value) part.rest.now
-  Progressed before (Err (AtFault fault)) frames = (whole : Read Sequence) → before whole → whole ≡ Fault (cause_number fault.cause) (fault.left + behind frames)
+  Progressed before (Err (AtFault fault)) frames = (whole : Read Sequence) → before whole → whole ≡ Fault fault.cause (fault.left + tokens_after_all frames)
   Progressed before (Err OutOfMemory) frames = ⊤
 
 -- where a list is still open

@@ -8,9 +8,9 @@ use Rattle.mt_formula.specs.declared.step.action.Action.{Action}
 use Rattle.mt_formula.specs.declared.step.action.Action.TheVariants.{Skip, Atom, Script, Item, Family, Limits}
 use Rattle.mt_formula.specs.declared.open.open_list.OpenList.{OpenList}
 use Rattle.mt_formula.specs.Atoms.{AtomValue}
-use Rattle.mt_formula.specs.Lists.{StretchReader, items_before}
-use Rattle.mt_formula.specs.machine.OpenLists.{hand_of, Becomes}
-use Rattle.mt_formula.specs.machine.Actions.{performed}
+use Rattle.mt_formula.specs.Lists.{ItemRunReader, items_before}
+use Rattle.mt_formula.specs.machine.OpenLists.{last_atom_of, Becomes}
+use Rattle.mt_formula.specs.Items.{follows}
 
 abbrev pub is_plain_action : Action → Bool
 is_plain_action Skip = true
@@ -24,7 +24,7 @@ is_plain_action _ = false
 -- the new list is the old one after this action
 pub record PutsAction (action : Action) (l new : OpenList) : Type 0 where
   pub items : Sequence
-  pub hand : Option AtomValue
+  pub last : Option AtomValue
   pub family : Option ℕ
-  pub becomes : Becomes items hand family l new
-  pub is : (tables : CodeTables) (units : Units) (again : StretchReader) (rest : List Token) → performed tables units again l.depth l.family (hand_of l.hand) action rest ≡ items_before items (again l.depth family hand rest)
+  pub becomes : Becomes items last family l new
+  pub is : (tables : CodeTables) (units : Units) (again : ItemRunReader) (rest : List Token) → follows tables units again l.level l.family (last_atom_of l.last) action rest ≡ items_before items (again l.level family last rest)

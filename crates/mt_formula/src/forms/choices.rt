@@ -1,18 +1,18 @@
 //! The lists of a choice.
 ghost use Rattle.std.specs.Prelude.{◌≡◌, ◌≤◌, ◌+◌, List, length, reverse, IfOk};
 ghost use Rattle.mt_scaled.specs.declared.unit.Units.{Units};
-ghost use Rattle.mt_formula.specs.declared.open.frame.Owner.TheVariants.{Choice};
+ghost use Rattle.mt_formula.specs.declared.open.open_list.Owner.TheVariants.{Choice};
 ghost use Rattle.mt_formula.specs.machine.OpenLists.{inner_sequence};
 ghost use Rattle.mt_formula.specs.machine.Continues.{Continues, list_of_choice};
 ghost use Rattle.mt_formula.specs.machine.Remaining.{remaining};
 ghost use Rattle.mt_formula.specs.machine.Turned.{Resumes};
 
 use crate::forms::resume::{after_first, resume_choice};
-use crate::open::ending::Ending;
-use crate::open::frame::{ChoiceLists, Frame, Owner, open_group};
-use crate::open::open_list::{InnerItems, OpenList};
-use crate::open::room::open_brace;
-use crate::open::turned::{Stop, Turned};
+use crate::open::groups::open_brace;
+use crate::open::lists::open_group;
+use crate::open::open_list::{
+    ChoiceLists, Ending, Frame, InnerItems, OpenList, Owner, Stop, Turned,
+};
 use mt_plain::Codes;
 use mt_scan::after_spaces;
 use mt_token::Token;
@@ -34,7 +34,7 @@ fn open_next<'a>(
     ensures falls { IfOk result (λ turned. remaining (reverse frames.new.items) (length turned.rest.now)
         ≤ remaining (reverse frames.old.items) (length tokens.now)) }
 {
-    match open_brace(codes, list.depth, after_spaces(tokens)) {
+    match open_brace(codes, list.level, after_spaces(tokens)) {
         Ok(inside) => {
             let inner = open_group(alloc, frames, list, Owner::Choice(lists), Ending::AtBrace)?;
             Ok(Turned {

@@ -8,35 +8,35 @@ use crate::open::open_list::FractionHead;
 use mt_plain::Codes;
 use mt_rules::Delim;
 use mt_scaled::Units;
-use mt_scan::{Bar, Fault, Part, delimiter, dimension, null_delim};
+use mt_scan::{Bar, Fault, Scanned, dimension, null_delim, scan_delimiter};
 use mt_token::Token;
 
 fn bar_thickness<'a>(
     units: Units,
     bar: Bar,
     tokens: &'a [Token],
-) -> Result<Part<'a, Option<i64>>, Fault>
+) -> Result<Scanned<'a, Option<i64>>, Fault>
     requires em { Within (2 ^ 31) units.em }
     requires ex { Within (2 ^ 31) units.ex }
     ensures is { Meets result (bar_thickness units bar tokens.now) }
     ensures falls { IfOk result (λ part. length part.rest.now ≤ length tokens.now) }
 {
     match bar {
-        Bar::Own => Ok(Part {
+        Bar::Own => Ok(Scanned {
             value: None,
             rest: tokens,
         }),
-        Bar::None => Ok(Part {
+        Bar::None => Ok(Scanned {
             value: Some(0),
             rest: tokens,
         }),
-        Bar::Given => match dimension(units, false, tokens) {
-            Ok(amount) => Ok(Part {
+        Bar::Given => {
+            let amount = dimension(units, false, tokens)?;
+            Ok(Scanned {
                 value: Some(amount.value),
                 rest: amount.rest,
-            }),
-            Err(fault) => Err(fault),
-        },
+            })
+        }
     }
 }
 
@@ -46,23 +46,21 @@ fn with_bar<'a>(
     left: Delim,
     right: Delim,
     tokens: &'a [Token],
-) -> Result<Part<'a, FractionHead>, Fault>
+) -> Result<Scanned<'a, FractionHead>, Fault>
     requires em { Within (2 ^ 31) units.em }
     requires ex { Within (2 ^ 31) units.ex }
     ensures is { Meets result (with_bar units bar left right tokens.now) }
     ensures falls { IfOk result (λ part. length part.rest.now ≤ length tokens.now) }
 {
-    match bar_thickness(units, bar, tokens) {
-        Ok(thickness) => Ok(Part {
-            value: FractionHead {
-                thickness: thickness.value,
-                left,
-                right,
-            },
-            rest: thickness.rest,
-        }),
-        Err(fault) => Err(fault),
-    }
+    let thickness = bar_thickness(units, bar, tokens)?;
+    Ok(Scanned {
+        value: FractionHead {
+            thickness: thickness.value,
+            left,
+            right,
+        },
+        rest: thickness.rest,
+    })
 }
 
 /// What follows a fraction word: two delimiters, a thickness, both or neither.
@@ -72,7 +70,7 @@ pub fn fraction_head<'a>(
     delims: bool,
     bar: Bar,
     tokens: &'a [Token],
-) -> Result<Part<'a, FractionHead>, Fault>
+) -> Result<Scanned<'a, FractionHead>, Fault>
     requires em { Within (2 ^ 31) units.em }
     requires ex { Within (2 ^ 31) units.ex }
     ensures is { Meets result (fraction_head codes.now units delims bar tokens.now) }
@@ -81,11 +79,7 @@ pub fn fraction_head<'a>(
     if !delims {
         return with_bar(units, bar, null_delim(), null_delim(), tokens);
     }
-    match delimiter(codes, tokens) {
-        Ok(left) => match delimiter(codes, left.rest) {
-            Ok(right) => with_bar(units, bar, left.value, right.value, right.rest),
-            Err(fault) => Err(fault),
-        },
-        Err(fault) => Err(fault),
-    }
+    let left = scan_delimiter(codes, tokens)?;
+    let right = scan_delimiter(codes, left.rest)?;
+    with_bar(units, bar, left.value, right.value, right.rest)
 }

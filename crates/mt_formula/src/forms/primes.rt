@@ -1,5 +1,5 @@
-//! Primes.
-ghost use Rattle.std.specs.Prelude.{◌≡◌, ◌≤◌, ◌<◌, ◌+◌, ◌∷◌, length, reverse, IfOk, IfSome, OnOk, None, Some};
+//! Primes, and the argument after `^`.
+ghost use Rattle.std.specs.Prelude.{◌≡◌, ◌≤◌, ◌<◌, ◌+◌, ◌∷◌, length, take, drop, reverse, IfOk, IfSome, OnOk, None, Some};
 ghost use Rattle.mt_rules.specs.Sequence.{ListPart};
 ghost use Rattle.mt_rules.specs.View.{part_of_field};
 ghost use Rattle.mt_scaled.specs.declared.unit.Units.{Units};
@@ -7,28 +7,39 @@ ghost use Rattle.mt_formula.specs.Atoms.{prime_atom, prime_items};
 ghost use Rattle.mt_formula.specs.Primes.{primes};
 ghost use Rattle.mt_scan.specs.Meets.{IsAfter};
 ghost use Rattle.mt_formula.specs.declared.step.action.Action.TheVariants.{Prime};
-ghost use Rattle.mt_formula.specs.declared.open.ending.Ending.TheVariants.{AtEnd};
-ghost use Rattle.mt_formula.specs.machine.Arguments.{after_superscript};
-ghost use Rattle.mt_formula.specs.machine.OpenLists.{hand_value, Begins};
+ghost use Rattle.mt_formula.specs.declared.open.open_list.Ending.TheVariants.{AtEnd};
+ghost use Rattle.mt_formula.specs.machine.Arguments.{after_superscript, GivesArgument, GivesBraced};
+ghost use Rattle.mt_formula.specs.machine.Frames.{left_after};
+ghost use Rattle.mt_formula.specs.machine.OpenLists.{last_atom_value, Begins};
 ghost use Rattle.mt_formula.specs.machine.Remaining.{remaining};
 ghost use Rattle.mt_formula.specs.machine.Turned.{Performs};
+ghost use Rattle.mt_scan.specs.Limits.{max_groups};
 
-use crate::forms::argument::{Argument, argument_here};
-use crate::open::ending::Ending;
-use crate::open::frame::{Frame, push_frame};
-use crate::open::hands::plain_hand;
+use crate::open::groups::{check_level, missing_field};
 use crate::open::items::into_list;
-use crate::open::lists::{finish_items, new_list, put_hand, put_script};
-use crate::open::open_list::{Hand, OpenList};
-use crate::open::turned::{Stop, Turned};
+use crate::open::last_atom::plain_last_atom;
+use crate::open::lists::{finish_items, new_list, push_frame, put_last_atom, put_script};
+use crate::open::open_list::{Ending, Frame, LastAtom, OpenList, Owner, Stop, Turned};
+use mt_macro::closing_brace;
 use mt_plain::Codes;
 use mt_rules::{Class, Field, Symbol};
-use mt_scan::{NucleusKind, Part, Role, Side, after_spaces, role_of};
+use mt_scan::{Fault, FieldKind, Role, Scanned, Side, after_spaces, role_of};
 use mt_token::Token;
 use std::alloc::{AllocError, Global};
 
+/// The argument of a superscript that primes begin, which is read as a list to the end of its tokens.
+#[derive(Drop)]
+pub struct ScriptArgument<'a> {
+    /// What the list is read for.
+    pub owner: Owner<'a>,
+    /// How many groups are open in it.
+    pub level: usize,
+    /// Its tokens.
+    pub inside: &'a [Token],
+}
+
 // How many primes stand in front, and the tokens after them.
-fn primes<'a>(codes: &Codes, tokens: &'a [Token]) -> Part<'a, usize>
+fn primes<'a>(codes: &Codes, tokens: &'a [Token]) -> Scanned<'a, usize>
     ensures count { result.value ≡ (primes codes.now 0 tokens.now).count }
     ensures rest { result.rest.now ≡ (primes codes.now 0 tokens.now).rest }
     ensures falls { result.value + length result.rest.now ≤ length tokens.now }
@@ -41,10 +52,10 @@ fn primes<'a>(codes: &Codes, tokens: &'a [Token]) -> Part<'a, usize>
                 count += 1;
                 rest = after;
             }
-            _ => return Part { value: count, rest },
+            _ => return Scanned { value: count, rest },
         }
     }
-    Part { value: count, rest }
+    Scanned { value: count, rest }
 }
 
 // The tokens after `^` and Spaces, if a `^` stands in front.
@@ -62,28 +73,28 @@ fn after_superscript<'a>(codes: &Codes, tokens: &'a [Token]) -> Option<&'a [Toke
 }
 
 // The atom of a prime.
-fn prime_hand(alloc: Global) -> Result<Hand, AllocError>
-    ensures { IfOk result (λ hand. hand_value hand ≡ prime_atom) }
+fn prime_last_atom(alloc: Global) -> Result<LastAtom, AllocError>
+    ensures { IfOk result (λ last. last_atom_value last ≡ prime_atom) }
 {
     let prime = Symbol { fam: 2, code: 48 };
-    plain_hand(alloc, NucleusKind::Class(Class::Ord), Field::Sym(prime))
+    plain_last_atom(alloc, FieldKind::Class(Class::Ord), Field::Sym(prime))
 }
 
 // A list that begins with so many primes and one more, which is at hand.
 fn prime_list(
     alloc: Global,
-    depth: usize,
+    level: usize,
     family: Option<u8>,
     count: usize,
 ) -> Result<OpenList, AllocError>
-    requires { depth ≤ 150 }
+    requires { level ≤ max_groups }
     ensures { IfOk result (λ new.
-        Begins (prime_items count) (Some prime_atom) depth family AtEnd new) }
+        Begins (prime_items count) (Some prime_atom) level family AtEnd new) }
 {
-    let empty = new_list(alloc, depth, family, Ending::AtEnd);
-    let mut list = put_hand(empty, prime_hand(alloc)?)?;
+    let empty = new_list(alloc, level, family, Ending::AtEnd);
+    let mut list = put_last_atom(empty, prime_last_atom(alloc)?)?;
     for _put in 0..count {
-        list = put_hand(list, prime_hand(alloc)?)?;
+        list = put_last_atom(list, prime_last_atom(alloc)?)?;
     }
     Ok(list)
 }
@@ -96,27 +107,96 @@ fn prime_field(alloc: Global, count: usize) -> Result<Field, AllocError>
     Ok(Field::List(into_list(finish_items(alloc, list)?)))
 }
 
+fn first_tokens<'a>(tokens: &'a [Token], count: usize) -> &'a [Token]
+    requires { count ≤ length tokens.now }
+    ensures { result.now ≡ take count tokens.now }
+{
+    &tokens[..count]
+}
+
+fn tokens_from<'a>(tokens: &'a [Token], start: usize) -> &'a [Token]
+    requires { start ≤ length tokens.now }
+    ensures { result.now ≡ drop start tokens.now }
+{
+    &tokens[start..]
+}
+
+// The argument of which the `{` stands before the tokens.
+fn braced_argument<'a>(level: usize, tokens: &'a [Token]) -> ScriptArgument<'a>
+    ensures is { GivesBraced result level tokens.now }
+    ensures level { result.level ≡ level }
+    ensures falls { length result.inside.now + left_after result.owner 0 ≤ length tokens.now }
+{
+    match closing_brace(tokens) {
+        Some(index) => {
+            let after = tokens_from(tokens, index + 1);
+            ScriptArgument {
+                owner: Owner::Argument(after, after.len() + 1),
+                level,
+                inside: first_tokens(tokens, index),
+            }
+        }
+        None => ScriptArgument {
+            owner: Owner::OpenArgument,
+            level,
+            inside: tokens,
+        },
+    }
+}
+
+// The argument in front, taken as for macros: one token, or what stands between braces.
+fn argument_here<'a>(
+    codes: &Codes,
+    level: usize,
+    tokens: &'a [Token],
+) -> Result<ScriptArgument<'a>, Fault>
+    requires { level ≤ max_groups }
+    ensures is { GivesArgument result codes.now level tokens.now }
+    ensures few { IfOk result (λ argument. argument.level ≤ max_groups) }
+    ensures falls { IfOk result (λ argument.
+        length argument.inside.now + left_after argument.owner 0 ≤ length tokens.now) }
+{
+    match tokens {
+        [token, after @ ..] => match role_of(codes, token) {
+            Role::CloseBrace => Err(missing_field(tokens.len())),
+            Role::OpenBrace => match check_level(level, tokens.len()) {
+                Ok(()) => Ok(braced_argument(level + 1, after)),
+                Err(fault) => Err(fault),
+            },
+            _ => {
+                let rest = tokens_from(tokens, 1);
+                Ok(ScriptArgument {
+                    owner: Owner::Argument(rest, rest.len()),
+                    level,
+                    inside: first_tokens(tokens, 1),
+                })
+            }
+        },
+        [] => Err(missing_field(0)),
+    }
+}
+
 // The list of a superscript, with so many primes and one more, and an argument to be read in it.
 fn open_argument<'a>(
     alloc: Global,
     frames: &mut Vec<Frame<'a>>,
     list: OpenList,
     count: usize,
-    argument: Argument<'a>,
+    argument: ScriptArgument<'a>,
 ) -> Result<Turned<'a>, AllocError>
-    requires { argument.depth ≤ 150 }
+    requires { argument.level ≤ max_groups }
     ensures begins { IfOk result (λ turned.
-        Begins (prime_items count) (Some prime_atom) argument.entry.depth list.family AtEnd turned.list) }
+        Begins (prime_items count) (Some prime_atom) argument.entry.level list.family AtEnd turned.list) }
     ensures inside { IfOk result (λ turned. turned.rest.now ≡ argument.entry.inside.now) }
     ensures pushed { OnOk result (reverse frames.new.items
         ≡ record { owner = argument.entry.owner; list = list } ∷ reverse frames.old.items) }
 {
-    let Argument {
+    let ScriptArgument {
         owner,
-        depth,
+        level,
         inside,
     } = argument;
-    let inner = prime_list(alloc, depth, list.family, count)?;
+    let inner = prime_list(alloc, level, list.family, count)?;
     push_frame(frames, Frame { owner, list })?;
     Ok(Turned {
         list: inner,
@@ -143,7 +223,7 @@ pub fn put_primes<'a>(
 {
     let more = primes(codes, tokens);
     match after_superscript(codes, more.rest) {
-        Some(after) => match argument_here(codes, list.depth, after) {
+        Some(after) => match argument_here(codes, list.level, after) {
             Ok(argument) => Ok(open_argument(alloc, frames, list, more.value, argument)?),
             Err(fault) => Err(Stop::Fault(fault)),
         },

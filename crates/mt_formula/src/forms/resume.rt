@@ -1,17 +1,19 @@
-//! What a list that is read makes of the list in which it stands.
-ghost use Rattle.std.specs.Prelude.{◌≡◌, ◌≤◌, true, drop, length, IfOk};
-ghost use Rattle.mt_formula.specs.machine.OpenLists.{inner_sequence};
+//! What a group stands for, and what it makes of the list in which it stands.
+ghost use Rattle.std.specs.Prelude.{◌≡◌, ◌≤◌, true, false, drop, length, is_some, Some, IfOk};
 ghost use Rattle.mt_rules.specs.Sequence.{ChoiceElement};
-ghost use Rattle.mt_rules.specs.View.{element_of};
-ghost use Rattle.mt_formula.specs.machine.Facts.{no_boundary, stands_inside};
+ghost use Rattle.mt_rules.specs.View.{element_of, part_of_field};
+ghost use Rattle.mt_scan.specs.Role.{nucleus_kind};
+ghost use Rattle.mt_formula.specs.Atoms.{only_atom, nucleus_of, group_atom, nucleus_atom, InGroup};
+ghost use Rattle.mt_formula.specs.machine.Facts.{holds_rows, no_boundary, stands_inside};
+ghost use Rattle.mt_formula.specs.machine.OpenLists.{inner_sequence, last_atom_value, is_only_bare};
 ghost use Rattle.mt_formula.specs.machine.Resumes.{ResumesNucleus, ResumesScript, ResumesChoice};
 
-use crate::forms::nuclei::{nucleus_hand, nucleus_of};
-use crate::open::items::into_list;
-use crate::open::lists::{put_hand, put_item, put_script};
-use crate::open::open_list::{InnerItems, OpenList};
-use mt_rules::{Choice, Item, MathList};
-use mt_scan::{NucleusKind, Side};
+use crate::open::items::{into_list, is_only_accent, is_only_bare, take_only};
+use crate::open::last_atom::plain_last_atom;
+use crate::open::lists::{put_item, put_last_atom, put_script};
+use crate::open::open_list::{InnerItems, LastAtom, OpenList};
+use mt_rules::{Choice, Class, Field, Item, MathList};
+use mt_scan::{FieldKind, Side};
 use mt_token::Token;
 use std::alloc::{AllocError, Global};
 
@@ -26,16 +28,61 @@ pub fn after_first<'a>(tokens: &'a [Token]) -> &'a [Token]
     }
 }
 
+fn bare_nucleus(items: InnerItems) -> Field
+    requires { is_only_bare (inner_sequence items) ≡ true }
+    ensures is { part_of_field result ≡ nucleus_of (inner_sequence items) }
+    ensures no_rows { holds_rows (part_of_field result) ≡ false }
+{
+    Box::into_inner(take_only(items).atom).nucleus
+}
+
+// The nucleus that a group makes: that of its one Ord atom without scripts, or else its list.
+fn nucleus_of(items: InnerItems) -> Field
+    ensures is { part_of_field result ≡ nucleus_of (inner_sequence items) }
+    ensures no_rows { holds_rows (part_of_field result) ≡ false }
+{
+    if is_only_bare(&items) {
+        bare_nucleus(items)
+    } else {
+        Field::List(into_list(items))
+    }
+}
+
+fn group_last_atom(alloc: Global, items: InnerItems) -> Result<LastAtom, AllocError>
+    ensures { IfOk result (λ last. last_atom_value last ≡ group_atom (inner_sequence items)) }
+{
+    if is_only_accent(&items) {
+        Ok(take_only(items))
+    } else {
+        plain_last_atom(alloc, FieldKind::Class(Class::Ord), nucleus_of(items))
+    }
+}
+
+// The atom of this kind that a group makes.
+fn nucleus_last_atom(
+    alloc: Global,
+    kind: FieldKind,
+    items: InnerItems,
+) -> Result<LastAtom, AllocError>
+    ensures { IfOk result (λ last. last_atom_value last
+        ≡ nucleus_atom (nucleus_kind kind) (InGroup (inner_sequence items))) }
+{
+    match kind {
+        FieldKind::Class(Class::Ord) => group_last_atom(alloc, items),
+        other => plain_last_atom(alloc, other, nucleus_of(items)),
+    }
+}
+
 /// A list with a group as the nucleus of a new atom.
 pub fn resume_nucleus(
     alloc: Global,
     list: OpenList,
-    kind: NucleusKind,
+    kind: FieldKind,
     all: InnerItems,
 ) -> Result<OpenList, AllocError>
     ensures { IfOk result (λ new. ResumesNucleus kind (inner_sequence all) list new) }
 {
-    put_hand(list, nucleus_hand(alloc, kind, all)?)
+    put_last_atom(list, nucleus_last_atom(alloc, kind, all)?)
 }
 
 /// A list with a group as a script.

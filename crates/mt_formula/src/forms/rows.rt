@@ -7,43 +7,41 @@ ghost use Rattle.mt_scan.specs.Parts.{opening};
 ghost use Rattle.mt_scan.specs.Role.{is_math_shift};
 ghost use Rattle.mt_scan.specs.Meets.{Meets};
 ghost use Rattle.mt_formula.specs.declared.step.action.Action.TheVariants.{Rows};
-ghost use Rattle.mt_formula.specs.declared.open.frame.Owner.TheVariants.{Row};
+ghost use Rattle.mt_formula.specs.declared.open.open_list.Owner.TheVariants.{Row};
 ghost use Rattle.mt_formula.specs.machine.Actions.{Opens};
 ghost use Rattle.mt_formula.specs.machine.Frames.{append_rows};
 ghost use Rattle.mt_formula.specs.machine.OpenLists.{inner_sequence};
 ghost use Rattle.mt_formula.specs.machine.Continues.{next_row_begins, first_row_begins, later_row_begins};
-ghost use Rattle.mt_formula.specs.machine.Continues.{brace_closes, row_ends, row_opens, TurnsRows};
+ghost use Rattle.mt_formula.specs.machine.Continues.{brace_closes, row_ends, row_opens, LeavesRows};
 ghost use Rattle.mt_formula.specs.machine.Resumes.{ResumesRows};
 ghost use Rattle.mt_formula.specs.machine.Remaining.{remaining};
 ghost use Rattle.mt_formula.specs.machine.Turned.{Performs, Resumes};
+ghost use Rattle.mt_scan.specs.Limits.{max_groups};
 
 use crate::forms::resume::after_first;
-use crate::open::ending::Ending;
-use crate::open::frame::{Frame, Owner, push_frame};
-use crate::open::hands::vcenter_hand;
+use crate::open::groups::{check_level, missing_field, open_brace};
 use crate::open::items::into_list;
-use crate::open::lists::{new_list, put_hand};
-use crate::open::open_list::{InnerItems, OpenList};
-use crate::open::room::{missing_field, open_brace, room};
-use crate::open::turned::{Stop, Turned};
+use crate::open::last_atom::vcenter_last_atom;
+use crate::open::lists::{new_list, push_frame, put_last_atom};
+use crate::open::open_list::{Ending, Frame, InnerItems, OpenList, Owner, Stop, Turned};
 use mt_plain::Codes;
 use mt_rules::{MathList, RowList};
-use mt_scan::{Fault, Part, Role, after_spaces, role_of};
+use mt_scan::{Fault, Role, Scanned, after_spaces, role_of};
 use mt_token::Token;
 use std::alloc::{AllocError, Global};
 
 // The tokens after a `$` that must stand here and opens a group.
-fn open_dollar<'a>(codes: &Codes, depth: usize, tokens: &'a [Token]) -> Result<&'a [Token], Fault>
-    ensures is { Opens result (opening codes.now is_math_shift depth tokens.now) }
+fn open_dollar<'a>(codes: &Codes, level: usize, tokens: &'a [Token]) -> Result<&'a [Token], Fault>
+    ensures is { Opens result (opening codes.now is_math_shift level tokens.now) }
     ensures falls { IfOk result (λ inside. length inside.now < length tokens.now) }
-    ensures room { IfOk result (λ inside. depth < 150) }
+    ensures level { IfOk result (λ inside. level < max_groups) }
 {
     match tokens {
         [token, inside @ ..] => match role_of(codes, token) {
-            Role::Dollar => match room(depth, tokens.len()) {
-                Ok(()) => Ok(inside),
-                Err(fault) => Err(fault),
-            },
+            Role::Dollar => {
+                check_level(level, tokens.len())?;
+                Ok(inside)
+            }
             _ => Err(missing_field(tokens.len())),
         },
         [] => Err(missing_field(0)),
@@ -51,18 +49,13 @@ fn open_dollar<'a>(codes: &Codes, depth: usize, tokens: &'a [Token]) -> Result<&
 }
 
 // The tokens after the `{$` of a row.
-fn open_row_list<'a>(codes: &Codes, depth: usize, tokens: &'a [Token]) -> Result<&'a [Token], Fault>
-    ensures is { Opens result (row_opens codes.now depth tokens.now) }
+fn open_row_list<'a>(codes: &Codes, level: usize, tokens: &'a [Token]) -> Result<&'a [Token], Fault>
+    ensures is { Opens result (row_opens codes.now level tokens.now) }
     ensures falls { IfOk result (λ inside. length inside.now < length tokens.now) }
-    ensures room { IfOk result (λ inside. depth + 1 < 150) }
+    ensures level { IfOk result (λ inside. level + 1 < max_groups) }
 {
-    match open_brace(codes, depth, tokens) {
-        Ok(after) => match open_dollar(codes, depth + 1, after) {
-            Ok(inside) => Ok(inside),
-            Err(fault) => Err(fault),
-        },
-        Err(fault) => Err(fault),
-    }
+    let after = open_brace(codes, level, tokens)?;
+    open_dollar(codes, level + 1, after)
 }
 
 // The tokens after a `}` that must stand here.
@@ -80,13 +73,13 @@ fn close_brace<'a>(codes: &Codes, tokens: &'a [Token]) -> Result<&'a [Token], Fa
 }
 
 // A row must begin here.
-fn next_row_begins<'a>(codes: &Codes, tokens: &'a [Token]) -> Result<Part<'a, bool>, Fault>
+fn next_row_begins<'a>(codes: &Codes, tokens: &'a [Token]) -> Result<Scanned<'a, bool>, Fault>
     ensures is { Meets result (next_row_begins codes.now tokens.now) }
     ensures falls { IfOk result (λ part. length part.rest.now < length tokens.now) }
 {
     match tokens {
         [token, rest @ ..] => match role_of(codes, token) {
-            Role::HboxWord => Ok(Part { value: true, rest }),
+            Role::HboxWord => Ok(Scanned { value: true, rest }),
             _ => Err(missing_field(tokens.len())),
         },
         [] => Err(missing_field(0)),
@@ -94,14 +87,14 @@ fn next_row_begins<'a>(codes: &Codes, tokens: &'a [Token]) -> Result<Part<'a, bo
 }
 
 // Whether the first row begins here, or there is none.
-fn first_row_begins<'a>(codes: &Codes, tokens: &'a [Token]) -> Result<Part<'a, bool>, Fault>
+fn first_row_begins<'a>(codes: &Codes, tokens: &'a [Token]) -> Result<Scanned<'a, bool>, Fault>
     ensures is { Meets result (first_row_begins codes.now tokens.now) }
     ensures falls { IfOk result (λ part. length part.rest.now < length tokens.now) }
 {
     match tokens {
         [token, rest @ ..] => match role_of(codes, token) {
-            Role::CloseBrace => Ok(Part { value: false, rest }),
-            Role::HboxWord => Ok(Part { value: true, rest }),
+            Role::CloseBrace => Ok(Scanned { value: false, rest }),
+            Role::HboxWord => Ok(Scanned { value: true, rest }),
             _ => Err(missing_field(tokens.len())),
         },
         [] => Err(missing_field(0)),
@@ -109,14 +102,14 @@ fn first_row_begins<'a>(codes: &Codes, tokens: &'a [Token]) -> Result<Part<'a, b
 }
 
 // Whether another row begins here, or there are no more.
-fn later_row_begins<'a>(codes: &Codes, tokens: &'a [Token]) -> Result<Part<'a, bool>, Fault>
+fn later_row_begins<'a>(codes: &Codes, tokens: &'a [Token]) -> Result<Scanned<'a, bool>, Fault>
     ensures is { Meets result (later_row_begins codes.now tokens.now) }
     ensures falls { IfOk result (λ part. length part.rest.now < length tokens.now) }
 {
     match tokens {
         [token, rest @ ..] => match role_of(codes, token) {
-            Role::CloseBrace => Ok(Part { value: false, rest }),
-            Role::HboxWord => Ok(Part { value: true, rest }),
+            Role::CloseBrace => Ok(Scanned { value: false, rest }),
+            Role::HboxWord => Ok(Scanned { value: true, rest }),
             _ => next_row_begins(codes, after_spaces(tokens)),
         },
         [] => Err(missing_field(0)),
@@ -124,17 +117,11 @@ fn later_row_begins<'a>(codes: &Codes, tokens: &'a [Token]) -> Result<Part<'a, b
 }
 
 // The `}` of a row, and whether another one begins after it.
-fn row_ends<'a>(codes: &Codes, tokens: &'a [Token]) -> Result<Part<'a, bool>, Fault>
+fn row_ends<'a>(codes: &Codes, tokens: &'a [Token]) -> Result<Scanned<'a, bool>, Fault>
     ensures is { Meets result (row_ends codes.now tokens.now) }
     ensures falls { IfOk result (λ part. length part.rest.now < length tokens.now) }
 {
-    match close_brace(codes, tokens) {
-        Ok(rest) => match later_row_begins(codes, rest) {
-            Ok(part) => Ok(part),
-            Err(fault) => Err(fault),
-        },
-        Err(fault) => Err(fault),
-    }
+    later_row_begins(codes, close_brace(codes, tokens)?)
 }
 
 fn push_row(rows: &mut Vec<MathList>, row: MathList) -> Result<(), AllocError>
@@ -148,7 +135,7 @@ fn push_row(rows: &mut Vec<MathList>, row: MathList) -> Result<(), AllocError>
 fn put_rows(alloc: Global, list: OpenList, rows: Vec<MathList>) -> Result<OpenList, AllocError>
     ensures { IfOk result (λ new. ResumesRows (rows_of rows.items) list new) }
 {
-    put_hand(list, vcenter_hand(alloc, RowList::from_vec(rows))?)
+    put_last_atom(list, vcenter_last_atom(alloc, RowList::from_vec(rows))?)
 }
 
 // A row of the vcenter atom in this list, after these rows and a `\hbox`.
@@ -161,13 +148,13 @@ fn open_row<'a>(
     tokens: &'a [Token],
 ) -> Result<Turned<'a>, Stop>
     ensures is { (units : Units) →
-        TurnsRows codes.now units (reverse frames.old.items) list (rows_of done.items) true tokens.now
+        LeavesRows codes.now units (reverse frames.old.items) list (rows_of done.items) true tokens.now
         result (reverse frames.new.items) }
     ensures falls { IfOk result (λ turned. remaining (reverse frames.new.items) (length turned.rest.now)
         ≤ remaining (reverse frames.old.items) (length tokens.now)) }
 {
-    let depth = list.depth + 1;
-    match open_row_list(codes, depth, tokens) {
+    let level = list.level + 1;
+    match open_row_list(codes, level, tokens) {
         Ok(inside) => {
             push_frame(
                 frames,
@@ -177,7 +164,7 @@ fn open_row<'a>(
                 },
             )?;
             Ok(Turned {
-                list: new_list(alloc, depth + 2, None, Ending::AtDollar),
+                list: new_list(alloc, level + 2, None, Ending::AtDollar),
                 rest: inside,
             })
         }
@@ -196,7 +183,7 @@ fn next_row<'a>(
     tokens: &'a [Token],
 ) -> Result<Turned<'a>, Stop>
     ensures is { (units : Units) →
-        TurnsRows codes.now units (reverse frames.old.items) list (rows_of done.items) begins tokens.now
+        LeavesRows codes.now units (reverse frames.old.items) list (rows_of done.items) begins tokens.now
         result (reverse frames.new.items) }
     ensures falls { IfOk result (λ turned. remaining (reverse frames.new.items) (length turned.rest.now)
         ≤ remaining (reverse frames.old.items) (length tokens.now)) }

@@ -2,15 +2,15 @@
 ghost use Rattle.std.specs.Prelude.{◌≡◌, true, false, IfOk, OnOk, MatchOption, [], ◌∷◌, ◌++◌, is_some, Some, None};
 ghost use Rattle.mt_rules.specs.Sequence.{End, More};
 ghost use Rattle.mt_rules.specs.View.{element_of, sequence_of};
-ghost use Rattle.mt_formula.specs.Atoms.{append, hand_items, only_atom, is_bare_ord, is_accent_kind};
+ghost use Rattle.mt_formula.specs.Atoms.{append, last_atom_items, only_atom, is_bare_ord, is_accent_kind};
 ghost use Rattle.mt_formula.specs.Groups.{between_boundaries};
 ghost use Rattle.std.specs.Option.{option_map};
 ghost use Rattle.mt_formula.specs.machine.Facts.{stands_inside, is_inside};
-ghost use Rattle.mt_formula.specs.machine.OpenLists.{fits_option, inner_sequence, hand_value, hand_of};
+ghost use Rattle.mt_formula.specs.machine.OpenLists.{fits_option, inner_sequence, last_atom_value, last_atom_of};
 ghost use Rattle.mt_formula.specs.machine.OpenLists.{atom_value, is_only_bare, is_only_accent};
 
-use crate::open::hands::into_item;
-use crate::open::open_list::{Hand, InnerItems};
+use crate::open::last_atom::into_item;
+use crate::open::open_list::{InnerItems, LastAtom};
 use mt_rules::{Atom, Class, Delim, Field, Item, Kind, MathList};
 use std::alloc::{AllocError, Global};
 
@@ -43,13 +43,13 @@ pub fn with_item(items: InnerItems, item: Item) -> Result<InnerItems, AllocError
     Ok(InnerItems { items })
 }
 
-/// The items with the atom at hand at their end.
-pub fn with_hand(items: InnerItems, hand: Option<Hand>) -> Result<InnerItems, AllocError>
+/// The items with the last atom at their end.
+pub fn with_last_atom(items: InnerItems, last: Option<LastAtom>) -> Result<InnerItems, AllocError>
     ensures { IfOk result (λ new. inner_sequence new
-        ≡ append (inner_sequence items) (hand_items (hand_of hand))) }
+        ≡ append (inner_sequence items) (last_atom_items (last_atom_of last))) }
 {
-    match hand {
-        Some(hand) => with_item(items, into_item(hand)),
+    match last {
+        Some(last) => with_item(items, into_item(last)),
         None => Ok(items),
     }
 }
@@ -103,22 +103,22 @@ fn item_atom(item: Item) -> Option<Box<Atom>>
     }
 }
 
-fn hand_from(atom: Box<Atom>) -> Hand
+fn last_atom_from(atom: Box<Atom>) -> LastAtom
     requires { fits_option (Some (atom_value atom.value)) ≡ true }
-    ensures { hand_value result ≡ atom_value atom.value }
+    ensures { last_atom_value result ≡ atom_value atom.value }
 {
-    Hand { atom }
+    LastAtom { atom }
 }
 
 /// The atom that is the only item.
-pub fn take_only(items: InnerItems) -> Hand
+pub fn take_only(items: InnerItems) -> LastAtom
     requires { is_some (only_atom (inner_sequence items)) ≡ true }
-    ensures { only_atom (inner_sequence items) ≡ Some (hand_value result) }
+    ensures { only_atom (inner_sequence items) ≡ Some (last_atom_value result) }
 {
     let InnerItems { mut items } = items;
     match pop_item(&mut items) {
         Some(item) => match item_atom(item) {
-            Some(atom) => hand_from(atom),
+            Some(atom) => last_atom_from(atom),
             None => unreachable!(),
         },
         None => unreachable!(),

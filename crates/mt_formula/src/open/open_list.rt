@@ -1,10 +1,29 @@
-//! A list that is open: its items, the atom at hand, and the fraction that divides it.
+//! Lists that are open, and the lists in which they stand.
 ghost use Rattle.std.specs.Prelude.{◌≡◌, true, ◌≤◌};
 ghost use Rattle.mt_rules.specs.View.{sequence_of, part_of_field};
 ghost use Rattle.mt_formula.specs.machine.Facts.{is_inside, atom_fits};
+ghost use Rattle.mt_formula.specs.declared.open.open_list.Stop.TheVariants.{OutOfMemory};
+ghost use Rattle.mt_scan.specs.Limits.{max_groups};
 
-use crate::open::ending::Ending;
 use mt_rules::{Atom, Delim, Item, MathList};
+use mt_scan::{Fault, FieldKind, Side};
+use mt_token::Token;
+use std::alloc::AllocError;
+
+/// Where a list ends.
+#[derive(Clone, Copy, Debug, PartialEq, Eq)]
+pub enum Ending {
+    /// With the tokens.
+    AtEnd,
+    /// With the tokens, or at `\eqno` or `\leqno`.
+    AtNumber,
+    /// At `}`.
+    AtBrace,
+    /// At `\right`.
+    AtRight,
+    /// At `$`.
+    AtDollar,
+}
 
 /// Items between which no boundary stands.
 #[derive(Drop)]
@@ -16,7 +35,7 @@ pub struct InnerItems {
 
 /// An atom that may still get scripts.
 #[derive(Drop)]
-pub struct Hand {
+pub struct LastAtom {
     /// The atom.
     pub atom: Box<Atom>,
     ghost fits: { atom_fits atom.value.kind (part_of_field atom.value.nucleus)
@@ -49,14 +68,81 @@ pub struct OpenList {
     /// Its items, those of the denominator after a fraction word.
     pub items: InnerItems,
     /// The last item, where it is an atom that may still get scripts.
-    pub hand: Option<Hand>,
+    pub last: Option<LastAtom>,
     /// How many groups are open round it, at most 150.
-    pub depth: usize,
+    pub level: usize,
     /// The current family.
     pub family: Option<u8>,
     /// Where it ends.
     pub ending: Ending,
     /// The fraction that divides it.
     pub numerator: Option<Box<Numerator>>,
-    ghost few_groups: { depth ≤ 150 },
+    ghost few_groups: { level ≤ max_groups },
+}
+
+/// The lists of a choice that are read.
+#[derive(Drop)]
+pub enum ChoiceLists {
+    /// None.
+    Zero,
+    /// The list for display style.
+    One(InnerItems),
+    /// And that for text style.
+    Two(InnerItems, InnerItems),
+    /// And that for script style.
+    Three(InnerItems, InnerItems, InnerItems),
+}
+
+/// What a list is read for.
+#[derive(Drop)]
+pub enum Owner<'a> {
+    /// The nucleus of an atom of this kind.
+    Nucleus(FieldKind),
+    /// A script.
+    Script(Side),
+    /// A list between boundaries, of which this is the left one.
+    LeftRight(Delim),
+    /// The next list of a choice.
+    Choice(ChoiceLists),
+    /// A row of a vcenter atom, after these rows.
+    Row(Vec<MathList>),
+    /// The argument of a superscript that primes begin, with the tokens after it and their number, with the brace.
+    Argument(&'a [Token], usize),
+    /// Such an argument without its closing brace.
+    OpenArgument,
+}
+
+/// A list in which another one is open, and what that one is read for.
+#[derive(Drop)]
+pub struct Frame<'a> {
+    /// What the inner list is read for.
+    pub owner: Owner<'a>,
+    /// The outer list.
+    pub list: OpenList,
+}
+
+/// The innermost list that is open after a turn, and the tokens that are left.
+#[derive(Drop)]
+pub struct Turned<'a> {
+    /// The list.
+    pub list: OpenList,
+    /// The tokens that are left.
+    pub rest: &'a [Token],
+}
+
+/// Why a formula is not read on.
+#[derive(Clone, Copy, Debug, PartialEq, Eq)]
+pub enum Stop {
+    /// A token is at fault. Tokens after the argument of a prime that is read do not count as left.
+    Fault(Fault),
+    /// Memory ran out.
+    OutOfMemory,
+}
+
+impl From<AllocError> for Stop {
+    ghost from_gives = { λ _ e. e ≡ OutOfMemory };
+
+    fn from(_: AllocError) -> Self {
+        Stop::OutOfMemory
+    }
 }

@@ -2,8 +2,8 @@
 ghost use Rattle.std.specs.Prelude.{◌≡◌, ◌≤◌, List, length, reverse, IfOk};
 ghost use Rattle.mt_plain.specs.CodeTables.{CodeTables};
 ghost use Rattle.mt_scaled.specs.declared.unit.Units.{Units};
-ghost use Rattle.mt_formula.specs.declared.open.frame.Frame.{Frame};
-ghost use Rattle.mt_formula.specs.declared.open.frame.Owner.TheVariants.{Nucleus, Script};
+ghost use Rattle.mt_formula.specs.declared.open.open_list.Frame.{Frame};
+ghost use Rattle.mt_formula.specs.declared.open.open_list.Owner.TheVariants.{Nucleus, Script};
 ghost use Rattle.mt_formula.specs.machine.Frames.{left_after};
 ghost use Rattle.mt_formula.specs.machine.OpenLists.{inner_sequence};
 ghost use Rattle.mt_formula.specs.machine.Remaining.{remaining};
@@ -11,17 +11,15 @@ ghost use Rattle.mt_formula.specs.machine.Resumes.{ResumesArgument};
 ghost use Rattle.mt_formula.specs.machine.Turned.{Resumes};
 
 use crate::forms::choices::close_choice;
-use crate::forms::fences::close_fence;
+use crate::forms::left_right::close_left_right;
 use crate::forms::resume::{after_first, resume_nucleus, resume_script};
 use crate::forms::rows::close_row;
-use crate::open::frame::{Frame, Owner};
 use crate::open::items::into_list;
 use crate::open::lists::put_script;
-use crate::open::open_list::{InnerItems, OpenList};
-use crate::open::turned::{Stop, Turned};
+use crate::open::open_list::{Frame, InnerItems, OpenList, Owner, Stop, Turned};
 use mt_plain::Codes;
 use mt_rules::Field;
-use mt_scan::{Fault, NucleusKind, ReadCause, Side};
+use mt_scan::{Fault, FieldKind, ReadCause, Side};
 use mt_token::Token;
 use std::alloc::{AllocError, Global};
 
@@ -29,7 +27,7 @@ use std::alloc::{AllocError, Global};
 fn close_nucleus<'a>(
     alloc: Global,
     list: OpenList,
-    kind: NucleusKind,
+    kind: FieldKind,
     all: InnerItems,
     tokens: &'a [Token],
 ) -> Result<Turned<'a>, Stop>
@@ -63,7 +61,7 @@ fn close_script<'a>(
     })
 }
 
-// The argument ends of a superscript that primes begin, with these tokens behind it.
+// The argument ends of a superscript that primes begin, with these tokens after it.
 fn close_argument<'a>(
     alloc: Global,
     list: OpenList,
@@ -99,7 +97,7 @@ pub fn close_list<'a>(
     match owner {
         Owner::Nucleus(kind) => close_nucleus(alloc, list, kind, all, tokens),
         Owner::Script(side) => close_script(alloc, list, side, all, tokens),
-        Owner::Fence(left) => close_fence(alloc, codes, list, left, all, tokens),
+        Owner::LeftRight(left) => close_left_right(alloc, codes, list, left, all, tokens),
         Owner::Choice(lists) => close_choice(alloc, codes, frames, list, lists, all, tokens),
         Owner::Row(done) => close_row(alloc, codes, frames, list, done, all, tokens),
         Owner::Argument(after, _) => Ok(close_argument(alloc, list, all, after)?),

@@ -5,11 +5,10 @@ ghost use Rattle.mt_scaled.specs.declared.unit.Units.{Units};
 ghost use Rattle.mt_formula.specs.machine.Openings.{opens_list, opened_owner, opened_ending};
 ghost use Rattle.mt_formula.specs.machine.Remaining.{remaining};
 ghost use Rattle.mt_formula.specs.machine.Turned.{Performs};
+ghost use Rattle.mt_scan.specs.Limits.{max_groups};
 
-use crate::open::ending::Ending;
-use crate::open::frame::{ChoiceLists, Frame, Owner, open_group};
-use crate::open::open_list::OpenList;
-use crate::open::turned::{Stop, Turned};
+use crate::open::lists::open_group;
+use crate::open::open_list::{ChoiceLists, Ending, Frame, OpenList, Owner, Stop, Turned};
 use crate::step::action::Action;
 use mt_token::Token;
 use std::alloc::Global;
@@ -22,7 +21,7 @@ fn opened_owner<'a>(action: Action) -> Owner<'a>
     match action {
         Action::Group(kind) => Owner::Nucleus(kind),
         Action::ScriptGroup(side) => Owner::Script(side),
-        Action::Fence(left) => Owner::Fence(left),
+        Action::LeftRight(left) => Owner::LeftRight(left),
         Action::Choice => Owner::Choice(ChoiceLists::Zero),
         _ => unreachable!(),
     }
@@ -33,7 +32,7 @@ fn opened_ending(action: Action) -> Ending
     ensures { result ≡ opened_ending action }
 {
     match action {
-        Action::Fence(_) => Ending::AtRight,
+        Action::LeftRight(_) => Ending::AtRight,
         _ => Ending::AtBrace,
     }
 }
@@ -48,7 +47,7 @@ pub fn open_list<'a>(
     tokens: &'a [Token],
 ) -> Result<Turned<'a>, Stop>
     requires opens { opens_list action ≡ true }
-    requires room { list.depth < 150 }
+    requires level { list.level < max_groups }
     ensures is { (tables : CodeTables) (units : Units) →
         Performs tables units (reverse frames.old.items) list action tokens.now
         result (reverse frames.new.items) }

@@ -5,20 +5,19 @@ ghost use Rattle.mt_scaled.specs.declared.unit.Units.{Units as UnitsType};
 ghost use Rattle.mt_scan.specs.Role.{simple_element};
 ghost use Rattle.mt_rules.specs.View.{element_of};
 ghost use Rattle.mt_formula.specs.declared.step.action.Action.TheVariants.{Stop as StopAction};
-ghost use Rattle.mt_formula.specs.declared.open.frame.Frame.{Frame as FrameType};
+ghost use Rattle.mt_formula.specs.declared.open.open_list.Frame.{Frame as FrameType};
 ghost use Rattle.mt_formula.specs.machine.Openings.{opens_list};
 ghost use Rattle.mt_formula.specs.machine.PutsAction.{is_plain_action, PutsAction};
 ghost use Rattle.mt_formula.specs.machine.Remaining.{remaining};
 ghost use Rattle.mt_formula.specs.machine.Turned.{Performs};
 ghost use Rattle.mt_formula.specs.machine.Facts.{stands_inside};
+ghost use Rattle.mt_scan.specs.Limits.{max_groups};
 
 use crate::forms::primes::put_primes;
 use crate::forms::rows::open_rows;
-use crate::open::frame::Frame;
-use crate::open::hands::plain_hand;
-use crate::open::lists::{put_family, put_hand, put_item, put_limits, put_script};
-use crate::open::open_list::OpenList;
-use crate::open::turned::{Stop, Turned};
+use crate::open::last_atom::plain_last_atom;
+use crate::open::lists::{put_family, put_item, put_last_atom, put_limits, put_script};
+use crate::open::open_list::{Frame, OpenList, Stop, Turned};
 use crate::step::action::Action;
 use crate::step::openings::open_list;
 use mt_plain::Codes;
@@ -35,7 +34,7 @@ pub fn put_action(alloc: Global, list: OpenList, action: Action) -> Result<OpenL
     match action {
         Action::Skip => Ok(list),
         Action::Atom(kind, symbol) => {
-            put_hand(list, plain_hand(alloc, kind, Field::Sym(symbol))?)
+            put_last_atom(list, plain_last_atom(alloc, kind, Field::Sym(symbol))?)
         }
         Action::Script(side, symbol) => put_script(alloc, list, side, Field::Sym(symbol)),
         Action::Item(item) => put_item(list, simple_item(item)),
@@ -87,7 +86,7 @@ pub fn perform<'a>(
     tokens: &'a [Token],
 ) -> Result<Turned<'a>, Stop>
     requires not_stop { action ≢ StopAction }
-    requires room { opens_list action ≡ true → list.depth < 150 }
+    requires level { opens_list action ≡ true → list.level < max_groups }
     ensures is { (units : UnitsType) →
         Performs codes.now units (reverse frames.old.items) list action tokens.now
         result (reverse frames.new.items) }
@@ -98,7 +97,7 @@ pub fn perform<'a>(
     match action {
         Action::Prime => put_primes(alloc, codes, frames, list, tokens),
         Action::Rows => open_rows(alloc, codes, frames, list, tokens),
-        Action::Group(_) | Action::ScriptGroup(_) | Action::Fence(_) | Action::Choice => {
+        Action::Group(_) | Action::ScriptGroup(_) | Action::LeftRight(_) | Action::Choice => {
             open_list(alloc, frames, list, action, tokens)
         }
         Action::Skip

@@ -4,28 +4,25 @@ ghost use Rattle.mt_scaled.specs.Number.{Within};
 ghost use Rattle.mt_rules.specs.Sequence.{Sequence};
 ghost use Rattle.mt_scan.specs.Parts.{Read};
 ghost use Rattle.mt_formula.specs.Lists.{list};
-ghost use Rattle.mt_formula.specs.Formulas.{stretch};
-ghost use Rattle.mt_formula.specs.machine.Frames.{behind_owner};
-ghost use Rattle.mt_formula.specs.machine.Stands.{Stands, behind};
+ghost use Rattle.mt_formula.specs.Formulas.{item_run};
+ghost use Rattle.mt_formula.specs.machine.Frames.{tokens_after};
+ghost use Rattle.mt_formula.specs.machine.Stands.{Stands, tokens_after_all};
 ghost use Rattle.mt_formula.specs.machine.Reads.{fitting, ReadsPart, IsWholeStop};
 
-use crate::open::ending::Ending;
-use crate::open::frame::{Frame, Owner, pop_frame};
 use crate::open::items::into_list;
-use crate::open::lists::new_list;
-use crate::open::open_list::OpenList;
-use crate::open::turned::Stop;
+use crate::open::lists::{new_list, pop_frame};
+use crate::open::open_list::{Ending, Frame, OpenList, Owner, Stop};
 use crate::step::turn::{Progress, turn};
 use mt_plain::Codes;
 use mt_rules::MathList;
 use mt_scaled::Units;
-use mt_scan::{Fault, Part};
+use mt_scan::{Fault, Scanned};
 use mt_token::Token;
 use std::alloc::Global;
 
-// How many tokens stand behind the argument that is read for this.
-fn behind_owner(owner: &Owner) -> usize
-    ensures { result ≡ behind_owner owner.now }
+// How many tokens stand after the argument that is read for this.
+fn tokens_after(owner: &Owner) -> usize
+    ensures { result ≡ tokens_after owner.now }
 {
     match owner {
         Owner::Argument(_, count) => *count,
@@ -33,14 +30,14 @@ fn behind_owner(owner: &Owner) -> usize
     }
 }
 
-// So many tokens and those behind all arguments that are read, where sums past the last number are that.
+// So many tokens and those after all arguments that are read, where sums past the last number are that.
 fn left_in_all(frames: Vec<Frame>, left: usize) -> usize
-    ensures { result ≡ fitting (left + behind (reverse frames.entry.items)) }
+    ensures { result ≡ fitting (left + tokens_after_all (reverse frames.entry.items)) }
 {
     let mut frames = frames;
     let mut all = left;
     while let Some(frame) = pop_frame(&mut frames) {
-        all = all.saturating_add(behind_owner(&frame.owner));
+        all = all.saturating_add(tokens_after(&frame.owner));
     }
     all
 }
@@ -65,7 +62,7 @@ fn read_open<'a>(
     units: Units,
     list: OpenList,
     tokens: &'a [Token],
-) -> Result<Part<'a, MathList>, Stop>
+) -> Result<Scanned<'a, MathList>, Stop>
     requires em { Within (2 ^ 31) units.em }
     requires ex { Within (2 ^ 31) units.ex }
     ensures { (whole : Read Sequence) → Stands codes.now units whole [] list tokens.now → ReadsPart result whole }
@@ -81,7 +78,7 @@ fn read_open<'a>(
                     rest = turned.rest;
                 }
                 Progress::Whole(part) => {
-                    return Ok(Part {
+                    return Ok(Scanned {
                         value: into_list(part.value),
                         rest: part.rest,
                     });
@@ -99,11 +96,11 @@ pub fn read_list<'a>(
     units: Units,
     ending: Ending,
     tokens: &'a [Token],
-) -> Result<Part<'a, MathList>, Stop>
+) -> Result<Scanned<'a, MathList>, Stop>
     requires em { Within (2 ^ 31) units.em }
     requires ex { Within (2 ^ 31) units.ex }
     ensures { (n : ℕ) → length tokens.now < n → ReadsPart result
-        (list codes.now units (stretch codes.now units n) ending 0 None tokens.now) }
+        (list codes.now units (item_run codes.now units n) ending 0 None tokens.now) }
 {
     read_open(
         alloc,

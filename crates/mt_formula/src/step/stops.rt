@@ -1,8 +1,9 @@
 //! What becomes of a list where no item stands.
+ghost use Rattle.std.specs.Prelude.{◌≡◌};
+ghost use Rattle.mt_formula.specs.Lists.{ends_with_tokens, ends_at, misplaced_cause};
 ghost use Rattle.mt_formula.specs.machine.Stops.{AtRole, StopsAt};
 
-use crate::open::ending::{ends_at, ends_with_tokens, stray_cause};
-use crate::open::open_list::OpenList;
+use crate::open::open_list::{Ending, OpenList};
 use mt_plain::Codes;
 use mt_scan::{Bar, Fault, ReadCause, Role, role_of};
 use mt_token::Token;
@@ -14,6 +15,37 @@ pub enum ListStop {
     Ends,
     /// A fraction word divides it, with delimiters or without, and with this rule.
     Divides(bool, Bar),
+}
+
+// Whether a list ends with the tokens.
+fn ends_with_tokens(ending: Ending) -> bool
+    ensures { result ≡ ends_with_tokens ending }
+{
+    matches!(ending, Ending::AtEnd | Ending::AtNumber)
+}
+
+// Whether a list ends at a token of this role.
+fn ends_at(ending: Ending, role: Role) -> bool
+    ensures { result ≡ ends_at ending role }
+{
+    match ending {
+        Ending::AtEnd => false,
+        Ending::AtNumber => matches!(role, Role::NumberWord(_)),
+        Ending::AtBrace => matches!(role, Role::CloseBrace),
+        Ending::AtRight => matches!(role, Role::RightWord),
+        Ending::AtDollar => matches!(role, Role::Dollar),
+    }
+}
+
+// The cause of a fault at a token of this role, which is no item and does not end the list.
+fn misplaced_cause(role: Role) -> ReadCause
+    ensures { result ≡ misplaced_cause role }
+{
+    match role {
+        Role::FractionWord(_, _) => ReadCause::TwoFractions,
+        Role::NumberWord(_) => ReadCause::MisplacedNumber,
+        _ => ReadCause::Unbalanced,
+    }
 }
 
 fn at_token(list: &OpenList, role: Role, left: usize) -> Result<ListStop, Fault>
@@ -28,7 +60,7 @@ fn at_token(list: &OpenList, role: Role, left: usize) -> Result<ListStop, Fault>
         return Ok(ListStop::Ends);
     }
     Err(Fault {
-        cause: stray_cause(role),
+        cause: misplaced_cause(role),
         left,
     })
 }

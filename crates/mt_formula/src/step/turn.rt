@@ -3,24 +3,23 @@ ghost use Rattle.std.specs.Prelude.{◌≤◌, ◌<◌, ◌^◌, List, length, r
 ghost use Rattle.mt_scaled.specs.Number.{Within};
 ghost use Rattle.mt_scaled.specs.declared.unit.Units.{Units as UnitsType};
 ghost use Rattle.mt_token.specs.declared.token.Token.{Token as TokenType};
-ghost use Rattle.mt_formula.specs.declared.open.frame.Frame.{Frame as FrameType};
+ghost use Rattle.mt_formula.specs.declared.open.open_list.Frame.{Frame as FrameType};
 ghost use Rattle.mt_formula.specs.machine.Progressing.{Progressed, Finishing, Ended, Divided, IfOpen};
 ghost use Rattle.mt_formula.specs.machine.Remaining.{remaining};
 ghost use Rattle.mt_formula.specs.machine.Stands.{Stands};
 
 use crate::forms::fraction::fraction_head;
 use crate::forms::resume::after_first;
-use crate::open::frame::{Frame, pop_frame};
-use crate::open::lists::{divide, finish_items};
-use crate::open::open_list::{InnerItems, OpenList};
-use crate::open::turned::{Stop, Turned};
-use crate::step::action::{Action, action_here};
+use crate::open::lists::{divide, finish_items, pop_frame};
+use crate::open::open_list::{Frame, InnerItems, OpenList, Stop, Turned};
+use crate::step::action::Action;
 use crate::step::closings::close_list;
 use crate::step::perform::perform;
 use crate::step::stops::{ListStop, list_stop};
+use crate::step::table::action_here;
 use mt_plain::Codes;
 use mt_scaled::Units;
-use mt_scan::{Bar, Part};
+use mt_scan::{Bar, Scanned};
 use mt_token::Token;
 use std::alloc::Global;
 
@@ -30,7 +29,7 @@ pub enum Progress<'a> {
     /// A list is still open.
     Open(Turned<'a>),
     /// The whole is read.
-    Whole(Part<'a, InnerItems>),
+    Whole(Scanned<'a, InnerItems>),
 }
 
 // At the end of a list.
@@ -55,7 +54,7 @@ fn end_list<'a>(
             Ok(turned) => Ok(Progress::Open(turned)),
             Err(stop) => Err(stop),
         },
-        None => Ok(Progress::Whole(Part {
+        None => Ok(Progress::Whole(Scanned {
             value: all,
             rest: tokens,
         })),

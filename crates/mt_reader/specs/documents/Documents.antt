@@ -12,7 +12,10 @@ use Rattle.mt_macro.specs.Definition.{define}
 use Rattle.mt_macro.specs.Expansion.{Expansion, Expanded, OverBudget, NoArgument, NoPartner, ListTooLong, expansion}
 use Rattle.mt_scaled.specs.declared.unit.Units.{Units}
 use Rattle.mt_plain.specs.CodeTables.{CodeTables}
-use Rattle.mt_scan.specs.Parts.{Read, Got, Fault}
+use Rattle.mt_scan.specs.declared.fault.ReadCause.{ReadCause}
+use Rattle.mt_scan.specs.Parts.{Read, ReadOr, Got, Fault}
+use Rattle.mt_reader.specs.declared.outside_cause.OutsideCause.{OutsideCause}
+use Rattle.mt_reader.specs.documents.Causes.{outside_number}
 use Rattle.mt_reader.specs.declared.outside_role.OutsideRole.{OutsideRole}
 use Rattle.mt_reader.specs.declared.outside_role.OutsideRole.TheVariants.{Passed, Defines, SetsMathCode, SetsDelimiterCode, BeginsFormula, EndsPage, EndsDocument, Misplaced}
 use Rattle.mt_rules.specs.Sequence.{Sequence}
@@ -43,7 +46,7 @@ pub data DocumentFault : Type 0 where
   -- a token outside of formulas, by its place
   Outside : (n : ℕ) (cause : ℕ) (place : ℕ) → DocumentFault
   NotExpanded : (n : ℕ) (outcome : Expansion) → DocumentFault
-  NotRead : (n : ℕ) (cause : ℕ) (place : ℕ) → DocumentFault
+  NotRead : (n : ℕ) (cause : ReadCause) (place : ℕ) → DocumentFault
   TooManyTokens : (n : ℕ) (count : ℕ) → DocumentFault
   TooManyPages : (count : ℕ) → DocumentFault
 
@@ -94,8 +97,8 @@ with_table s left rest (Ok macros) = Goes (record s { macros = macros }) rest
 with_table s left rest (Err e) = outside_fault s 35 left
 
 -- a definition, and then whether there is room for it
-abbrev pub after_definition : DocumentState → ℕ → Read MacroDefinition → Turn
-after_definition s left (Fault cause at) = outside_fault s cause at
+abbrev pub after_definition : DocumentState → ℕ → ReadOr OutsideCause MacroDefinition → Turn
+after_definition s left (Fault cause at) = outside_fault s (outside_number cause) at
 after_definition s left (Got d rest) = with_table s left rest (define s.macros d.name d.params d.body)
 
 abbrev pub after_assignment : DocumentState → ℕ → Read CodeTables → Turn

@@ -1,11 +1,11 @@
 -- What a source is answered (`IsDocument`).
-use Rattle.std.specs.Prelude.{◌≡◌, ℕ, List, Result, Ok, Err, ⊤}
+use Rattle.std.specs.Prelude.{◌≡◌, ℕ, List, Option, Some, None, Result, Ok, Err, ⊤}
 use Rattle.mt_macro.specs.declared.expansion.ExpandError.{ExpandError}
 use Rattle.mt_macro.specs.declared.expansion.ExpandError.TheVariants.{Budget, MissingArgument, Unbalanced as UnbalancedList, TooLong, OutOfMemory as NoMemoryToExpand}
 use Rattle.mt_macro.specs.Expansion.{OverBudget, NoArgument, NoPartner, ListTooLong}
 use Rattle.mt_rules.specs.declared.document.Formula.{Formula}
 use Rattle.mt_formula.specs.declared.read_error.ReadError.{ReadError}
-use Rattle.mt_formula.specs.declared.read_error.ReadError.TheVariants.{UnknownName, DoubleScript, TwoFractions, BadDelimiter, Unbalanced, MisplacedLimits, MissingField, BadNumber, BadDimension, MisplacedNumber, TooDeep, OutOfMemory as NoMemoryToRead}
+use Rattle.mt_formula.specs.Errors.{PlacedCause, read_error_fault}
 use Rattle.mt_reader.specs.declared.document_error.DocError.{DocError}
 use Rattle.mt_reader.specs.declared.document_error.DocError.TheVariants.{Source, Outside, Expand, Read, Total, Pages, OutOfMemory}
 use Rattle.mt_reader.specs.documents.Causes.{outside_number}
@@ -19,20 +19,14 @@ IsExpandRefusal n (UnbalancedList place) answer = answer ≡ Err (NotExpanded n 
 IsExpandRefusal n TooLong answer = answer ≡ Err (NotExpanded n ListTooLong)
 IsExpandRefusal n NoMemoryToExpand answer = ⊥
 
--- formula n is not read, for this cause
+-- formula n is not read, for this cause at this place
+abbrev pub IsNotRead : ℕ → Option PlacedCause → DocumentAnswer → Type 0
+IsNotRead n (Some fault) answer = answer ≡ Err (NotRead n fault.0 fault.1)
+IsNotRead n None answer = ⊥
+
+-- formula n is not read, for this error
 abbrev pub IsReadRefusal : ℕ → ReadError → DocumentAnswer → Type 0
-IsReadRefusal n (UnknownName place) answer = answer ≡ Err (NotRead n 1 place)
-IsReadRefusal n (DoubleScript place) answer = answer ≡ Err (NotRead n 2 place)
-IsReadRefusal n (TwoFractions place) answer = answer ≡ Err (NotRead n 3 place)
-IsReadRefusal n (BadDelimiter place) answer = answer ≡ Err (NotRead n 4 place)
-IsReadRefusal n (Unbalanced place) answer = answer ≡ Err (NotRead n 5 place)
-IsReadRefusal n (MisplacedLimits place) answer = answer ≡ Err (NotRead n 6 place)
-IsReadRefusal n (MissingField place) answer = answer ≡ Err (NotRead n 7 place)
-IsReadRefusal n (BadNumber place) answer = answer ≡ Err (NotRead n 8 place)
-IsReadRefusal n (BadDimension place) answer = answer ≡ Err (NotRead n 9 place)
-IsReadRefusal n (MisplacedNumber place) answer = answer ≡ Err (NotRead n 10 place)
-IsReadRefusal n (TooDeep place) answer = answer ≡ Err (NotRead n 11 place)
-IsReadRefusal n NoMemoryToRead answer = ⊥
+IsReadRefusal n error answer = IsNotRead n (read_error_fault error) answer
 
 -- the answer is this refusal, or memory ran out
 abbrev pub IsRefusal : DocError → DocumentAnswer → Type 0

@@ -5,7 +5,7 @@ use Rattle.mt_token.specs.declared.token.Token.{Token}
 use Rattle.mt_macro.specs.Table.{Table}
 use Rattle.mt_plain.specs.CodeTables.{CodeTables}
 use Rattle.mt_scan.specs.Parts.{Read}
-use Rattle.mt_scan.specs.declared.part.Fault.{Fault as FaultFields}
+use Rattle.mt_scan.specs.declared.fault.Fault.{Fault as FaultFields}
 use Rattle.mt_macro.specs.declared.expansion.ExpandError.{ExpandError}
 use Rattle.mt_macro.specs.declared.expansion.ExpandError.TheVariants.{OutOfMemory as NoMemoryToExpand}
 use Rattle.mt_formula.specs.declared.read_error.ReadError.{ReadError}

@@ -3,13 +3,13 @@ use Rattle.mt_rules.specs.Rows.{rows_of}
 use Rattle.mt_formula.specs.declared.step.action.Action.TheVariants.{Rows}
 use Rattle.mt_formula.specs.machine.Continues.{NextRows}
 use Rattle.mt_formula.specs.machine.Turned.{Performing}
-use Rattle.mt_formula.proofs.Turning.{turns_from}
+use Rattle.mt_formula.proofs.Turning.{leaves_from}
 use Rattle.mt_formula.proofs.Rowing.{rows_begun, rows_fault}
 use Rattle.mt_formula.proofs.forms.rows.open_rows.Goals as goal
 
 pub returns-in-Ok-clause-is : goal.returns-in-Ok-clause-is
 returns-in-Ok-clause-is c = λ units ts less.
-    turns_from c.args.codes.now units
+    leaves_from c.args.codes.now units
     (λ whole. Performing c.args.codes.now units whole (reverse c.args.frames.now.items) c.args.list ts Rows c.args.tokens.now)
     (λ whole. NextRows c.args.codes.now units whole (reverse c.args.frames.now.items) c.args.list (rows_of c.new.result.items) c.in-Ok.row.value c.in-Ok.row.rest.now)
     c.next_row.result (reverse c.next_row.new.frames.items)

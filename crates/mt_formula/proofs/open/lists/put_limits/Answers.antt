@@ -5,8 +5,8 @@ use Rattle.mt_formula.proofs.open.lists.put_limits.Goals as goal
 pub returns : goal.returns
 returns c = record {
   is_items = sym (append_end _);
-  is_hand = c.with_limits.ensures;
-  is_depth = refl;
+  is_last_atom = c.with_limits.ensures;
+  is_level = refl;
   is_family = refl;
   is_ending = refl;
   is_numerator = refl;

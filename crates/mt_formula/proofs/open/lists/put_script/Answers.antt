@@ -5,8 +5,8 @@ use Rattle.mt_formula.proofs.open.lists.put_script.Goals as goal
 pub returns : goal.returns
 returns c = record {
   is_items = sym (append_end _);
-  is_hand = ap (λ a. Some a) c.in_ok-with_script.ensures;
-  is_depth = refl;
+  is_last_atom = ap (λ a. Some a) c.in_ok-with_script.ensures;
+  is_level = refl;
   is_family = refl;
   is_ending = refl;
   is_numerator = refl;

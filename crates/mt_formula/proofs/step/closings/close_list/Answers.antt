@@ -1,5 +1,5 @@
 use Rattle.std.proofs.Common.{Ok, length, refl, reverse}
-use Rattle.mt_formula.specs.declared.open.frame.Owner.TheVariants.{Nucleus, Script, Fence, Choice, Row, Argument}
+use Rattle.mt_formula.specs.declared.open.open_list.Owner.TheVariants.{Nucleus, Script, LeftRight, Choice, Row, Argument}
 use Rattle.mt_formula.specs.machine.OpenLists.{inner_sequence}
 use Rattle.mt_formula.proofs.Closing.{resumes_owner, argument_closed, argument_unclosed, falls_by, shortens_by, argument_falls}
 use Rattle.mt_formula.proofs.step.closings.close_list.Goals as goal
@@ -20,13 +20,13 @@ returns-in-Script-clause-is c = λ units.
 pub returns-in-Script-clause-falls : goal.returns-in-Script-clause-falls
 returns-in-Script-clause-falls c = shortens_by c.close_script.result (reverse c.args.frames.now.items) c.args.frame.owner (Script c.in-Script.side) (length c.args.tokens.now) c.in-Script.is refl c.close_script.ensures.falls
 
-pub returns-in-Fence-clause-is : goal.returns-in-Fence-clause-is
-returns-in-Fence-clause-is c = λ units.
-    resumes_owner c.args.codes.now units c.args.frame.owner (Fence c.in-Fence.left) c.args.frame.list (reverse c.args.frames.now.items) (inner_sequence c.args.all) c.args.tokens.now c.close_fence.result (reverse c.args.frames.now.items) c.in-Fence.is
-    (c.close_fence.ensures.is units (reverse c.args.frames.now.items))
+pub returns-in-LeftRight-clause-is : goal.returns-in-LeftRight-clause-is
+returns-in-LeftRight-clause-is c = λ units.
+    resumes_owner c.args.codes.now units c.args.frame.owner (LeftRight c.in-LeftRight.left) c.args.frame.list (reverse c.args.frames.now.items) (inner_sequence c.args.all) c.args.tokens.now c.close_left_right.result (reverse c.args.frames.now.items) c.in-LeftRight.is
+    (c.close_left_right.ensures.is units (reverse c.args.frames.now.items))
 
-pub returns-in-Fence-clause-falls : goal.returns-in-Fence-clause-falls
-returns-in-Fence-clause-falls c = shortens_by c.close_fence.result (reverse c.args.frames.now.items) c.args.frame.owner (Fence c.in-Fence.left) (length c.args.tokens.now) c.in-Fence.is refl c.close_fence.ensures.falls
+pub returns-in-LeftRight-clause-falls : goal.returns-in-LeftRight-clause-falls
+returns-in-LeftRight-clause-falls c = shortens_by c.close_left_right.result (reverse c.args.frames.now.items) c.args.frame.owner (LeftRight c.in-LeftRight.left) (length c.args.tokens.now) c.in-LeftRight.is refl c.close_left_right.ensures.falls
 
 pub returns-in-Choice-clause-is : goal.returns-in-Choice-clause-is
 returns-in-Choice-clause-is c = λ units.

@@ -1,7 +1,7 @@
 use Rattle.std.proofs.Common.{◌+◌, ◌∷◌, ◌∙◌, None, ap, length, reverse, subst}
 use Rattle.mt_rules.specs.Sequence.{End}
-use Rattle.mt_formula.specs.declared.open.ending.Ending.{Ending}
-use Rattle.mt_formula.specs.declared.open.frame.Owner.{Owner}
+use Rattle.mt_formula.specs.declared.open.open_list.Ending.{Ending}
+use Rattle.mt_formula.specs.declared.open.open_list.Owner.{Owner}
 use Rattle.mt_formula.specs.machine.OpenLists.{Begins}
 use Rattle.mt_formula.specs.machine.Openings.{opened_owner}
 use Rattle.mt_formula.proofs.Opening.{opened, opened_left}
@@ -11,7 +11,7 @@ use Rattle.mt_formula.proofs.step.openings.open_list.Goals as goal
 pub returns-clause-is : goal.returns-clause-is
 returns-clause-is c = λ tables units ts less whole p.
     opened tables units whole (reverse c.args.frames.now.items) (reverse c.open_group.new.frames.items) c.args.list c.in_ok-inner.inner ts c.args.action c.args.tokens.now p less c.requires.opens
-    (subst (λ (ending : Ending). Begins End None (c.args.list.depth + 1) c.args.list.family ending c.in_ok-inner.inner) c.opened_ending.ensures c.in_ok-inner.ensures.begins)
+    (subst (λ (ending : Ending). Begins End None (c.args.list.level + 1) c.args.list.family ending c.in_ok-inner.inner) c.opened_ending.ensures c.in_ok-inner.ensures.begins)
     (c.in_ok-inner.ensures.pushed ∙ ap (λ (owner : Owner). record { owner = owner; list = c.args.list } ∷ reverse c.args.frames.now.items) c.opened_owner-owner.ensures)
 
 pub returns-clause-falls : goal.returns-clause-falls

@@ -1,6 +1,5 @@
 use Rattle.std.proofs.Common.{length, subst}
 use Rattle.std.specs.Prelude.{reverse, Ok}
-use Rattle.mt_scan.specs.Meets.{cause_number}
 use Rattle.mt_formula.specs.machine.Progressing.{Finishing, Ended, Divided}
 use Rattle.mt_formula.specs.machine.Stops.{StopsAt}
 use Rattle.mt_formula.proofs.Standing.{finish_fault}
@@ -30,5 +29,5 @@ returns-in-Ok-clause-falls c =
 
 pub returns-clause-is : goal.returns-clause-is
 returns-clause-is c = λ whole g.
-    finish_fault c.args.codes.now c.args.units whole (reverse c.args.frames.now.items) c.args.list c.args.tokens.now (cause_number c.in-Err.fault.cause) c.in-Err.fault.left g
+    finish_fault c.args.codes.now c.args.units whole (reverse c.args.frames.now.items) c.args.list c.args.tokens.now c.in-Err.fault.cause c.in-Err.fault.left g
     (stops_fault c.args.codes.now c.args.units c.args.list c.args.tokens.now c.in-Err.fault c.in-Err.ensures)

@@ -4,8 +4,8 @@ use Rattle.mt_scan.specs.Parts.{Got}
 use Rattle.mt_formula.specs.machine.Progressing.{Finishing}
 use Rattle.mt_formula.specs.machine.Stands.{Stands}
 use Rattle.mt_formula.specs.machine.Turned.{Performing}
-use Rattle.mt_formula.specs.machine.OpenLists.{hand_of}
-use Rattle.mt_formula.proofs.Opening.{action_room}
+use Rattle.mt_formula.specs.machine.OpenLists.{last_atom_of}
+use Rattle.mt_formula.proofs.Opening.{action_level}
 use Rattle.mt_formula.proofs.Proceeding.{performing, action_fault, stop_finishes, progressed_from, progressed_stop, spent_one, open_lower}
 use Rattle.mt_formula.proofs.step.turn.turn.Goals as goal
 
@@ -43,6 +43,6 @@ pub returns-clause-is : goal.returns-clause-is
 returns-clause-is c = λ whole g.
     action_fault c.args.codes.now c.args.units whole (reverse c.args.frames.now.items) c.args.list c.args.tokens.now c.args.tokens.now g c.in-Err.fault c.in-Err.ensures.is
 
-pub perform-requires-clause-room : goal.perform-requires-clause-room
-perform-requires-clause-room c =
-    action_room c.args.list.depth c.args.codes.now c.args.units c.args.list.family (hand_of c.args.list.hand) c.args.tokens.now c.in-Ok.part.value c.in-Ok.part.rest.now c.in-Ok.ensures.is
+pub perform-requires-clause-level : goal.perform-requires-clause-level
+perform-requires-clause-level c =
+    action_level c.args.codes.now c.args.units c.args.list.level c.args.list.family (last_atom_of c.args.list.last) c.args.tokens.now c.in-Ok.part.value c.in-Ok.part.rest.now c.in-Ok.ensures.is

@@ -1,6 +1,6 @@
-//! What the reading of a part answers.
-
-use mt_token::Token;
+//! Why a part of a formula is not read, and where.
+ghost use Rattle.std.specs.Prelude.{◌≡◌};
+ghost use Rattle.mt_scan.specs.Errors.{cause_number};
 
 /// Why a part of a formula is not read.
 #[derive(Clone, Copy, Debug, PartialEq, Eq)]
@@ -29,6 +29,27 @@ pub enum ReadCause {
     TooDeep,
 }
 
+impl ReadCause {
+    /// Its number, from 1 in the order of the variants.
+    pub fn number(self) -> u8
+        ensures { result ≡ cause_number self }
+    {
+        match self {
+            ReadCause::UnknownName => 1,
+            ReadCause::DoubleScript => 2,
+            ReadCause::TwoFractions => 3,
+            ReadCause::BadDelimiter => 4,
+            ReadCause::Unbalanced => 5,
+            ReadCause::MisplacedLimits => 6,
+            ReadCause::MissingField => 7,
+            ReadCause::BadNumber => 8,
+            ReadCause::BadDimension => 9,
+            ReadCause::MisplacedNumber => 10,
+            ReadCause::TooDeep => 11,
+        }
+    }
+}
+
 /// A cause, and how many tokens are left from its place on.
 #[derive(Clone, Copy, Debug, PartialEq, Eq)]
 pub struct Fault {
@@ -36,13 +57,4 @@ pub struct Fault {
     pub cause: ReadCause,
     /// The tokens that are left.
     pub left: usize,
-}
-
-/// A part that was read, and the tokens after it.
-#[derive(Drop)]
-pub struct Part<'a, T> {
-    /// The part.
-    pub value: T,
-    /// The tokens after it.
-    pub rest: &'a [Token],
 }

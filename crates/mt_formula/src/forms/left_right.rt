@@ -3,20 +3,19 @@ ghost use Rattle.std.specs.Prelude.{◌≡◌, ◌≤◌, List, length, IfOk, On
 ghost use Rattle.mt_rules.specs.View.{sequence_of};
 ghost use Rattle.mt_scaled.specs.declared.unit.Units.{Units};
 ghost use Rattle.mt_formula.specs.Groups.{between_boundaries};
-ghost use Rattle.mt_formula.specs.declared.open.frame.Frame.{Frame};
-ghost use Rattle.mt_formula.specs.declared.open.frame.Owner.TheVariants.{Fence};
+ghost use Rattle.mt_formula.specs.declared.open.open_list.Frame.{Frame};
+ghost use Rattle.mt_formula.specs.declared.open.open_list.Owner.TheVariants.{LeftRight};
 ghost use Rattle.mt_formula.specs.machine.OpenLists.{inner_sequence};
-ghost use Rattle.mt_formula.specs.machine.Resumes.{ResumesFence};
+ghost use Rattle.mt_formula.specs.machine.Resumes.{ResumesLeftRight};
 ghost use Rattle.mt_formula.specs.machine.Turned.{Resumes};
 
 use crate::forms::resume::after_first;
-use crate::open::hands::plain_hand;
-use crate::open::lists::put_hand;
-use crate::open::open_list::{InnerItems, OpenList};
-use crate::open::turned::{Stop, Turned};
+use crate::open::last_atom::plain_last_atom;
+use crate::open::lists::put_last_atom;
+use crate::open::open_list::{InnerItems, OpenList, Stop, Turned};
 use mt_plain::Codes;
 use mt_rules::{Class, Delim, Field, Item, MathList};
-use mt_scan::{NucleusKind, delimiter};
+use mt_scan::{FieldKind, scan_delimiter};
 use mt_token::Token;
 use std::alloc::{AllocError, Global};
 
@@ -28,7 +27,7 @@ fn put_boundaries(items: &mut Vec<Item>, left: Delim, right: Delim) -> Result<()
     Ok(())
 }
 
-fn into_fenced(left: Delim, items: InnerItems, right: Delim) -> Result<MathList, AllocError>
+fn into_bounded(left: Delim, items: InnerItems, right: Delim) -> Result<MathList, AllocError>
     ensures { IfOk result (λ list. list ≡ between_boundaries left (inner_sequence items) right) }
 {
     let InnerItems { mut items } = items;
@@ -36,26 +35,26 @@ fn into_fenced(left: Delim, items: InnerItems, right: Delim) -> Result<MathList,
     Ok(MathList::from_vec(items))
 }
 
-fn resume_fence(
+fn resume_left_right(
     alloc: Global,
     list: OpenList,
     left: Delim,
     all: InnerItems,
     right: Delim,
 ) -> Result<OpenList, AllocError>
-    ensures { IfOk result (λ new. ResumesFence left (inner_sequence all) right list new) }
+    ensures { IfOk result (λ new. ResumesLeftRight left (inner_sequence all) right list new) }
 {
-    let inner = Field::List(into_fenced(left, all, right)?);
-    put_hand(
+    let inner = Field::List(into_bounded(left, all, right)?);
+    put_last_atom(
         list,
-        plain_hand(alloc, NucleusKind::Class(Class::Inner), inner)?,
+        plain_last_atom(alloc, FieldKind::Class(Class::Inner), inner)?,
     )
 }
 
 /// What becomes of a list when the one between boundaries in it ends, at `\right`: a delimiter
 /// follows, and the whole is an Inner atom (The TeXbook, chapter 17). `Stop::Fault` where no
 /// delimiter stands there.
-pub fn close_fence<'a>(
+pub fn close_left_right<'a>(
     alloc: Global,
     codes: &Codes,
     list: OpenList,
@@ -64,13 +63,13 @@ pub fn close_fence<'a>(
     tokens: &'a [Token],
 ) -> Result<Turned<'a>, Stop>
     ensures is { (units : Units) (outer : List Frame) →
-        Resumes codes.now units (record { owner = Fence left; list = list }) outer
+        Resumes codes.now units (record { owner = LeftRight left; list = list }) outer
         (inner_sequence all) tokens.now result outer }
     ensures falls { IfOk result (λ turned. length turned.rest.now ≤ length tokens.now) }
 {
-    match delimiter(codes, after_first(tokens)) {
+    match scan_delimiter(codes, after_first(tokens)) {
         Ok(right) => Ok(Turned {
-            list: resume_fence(alloc, list, left, all, right.value)?,
+            list: resume_left_right(alloc, list, left, all, right.value)?,
             rest: right.rest,
         }),
         Err(fault) => Err(Stop::Fault(fault)),

@@ -13,18 +13,19 @@ use Rattle.mt_rules.specs.declared.list.Item.TheVariants.{Left, Right}
 use Rattle.mt_rules.specs.View.{sequence_of}
 use Rattle.mt_rules.specs.Facts.{EndsWithRight, IsMathList}
 use Rattle.mt_plain.specs.CodeTables.{CodeTables}
-use Rattle.mt_formula.specs.declared.open.frame.Frame.{Frame}
-use Rattle.mt_formula.specs.declared.open.frame.Owner.TheVariants.{Fence}
+use Rattle.mt_formula.specs.declared.open.open_list.Frame.{Frame}
+use Rattle.mt_formula.specs.declared.open.open_list.Owner.TheVariants.{LeftRight}
 use Rattle.mt_formula.specs.declared.open.open_list.OpenList.{OpenList}
+use Rattle.mt_scan.specs.declared.fault.ReadCause.{ReadCause}
 use Rattle.mt_scan.specs.Parts.{Read, Got, Fault, then_read}
-use Rattle.mt_scan.specs.Delimiters.{delimiter}
+use Rattle.mt_scan.specs.Delimiters.{scan_delimiter}
 use Rattle.mt_formula.specs.Atoms.{append, plain_atom}
 use Rattle.mt_formula.specs.Items.{put_atom}
 use Rattle.mt_formula.specs.Groups.{between_boundaries}
 use Rattle.mt_formula.specs.machine.Facts.{stands_inside, is_inside}
-use Rattle.mt_formula.specs.machine.OpenLists.{hand_of}
-use Rattle.mt_formula.specs.machine.Resumes.{ResumesFence}
-use Rattle.mt_formula.specs.machine.Stands.{Stands, behind}
+use Rattle.mt_formula.specs.machine.OpenLists.{last_atom_of}
+use Rattle.mt_formula.specs.machine.Resumes.{ResumesLeftRight}
+use Rattle.mt_formula.specs.machine.Stands.{Stands, tokens_after_all}
 use Rattle.mt_formula.specs.machine.Turned.{Resuming}
 use Rattle.mt_formula.proofs.Inside.{sequence_push, first_true, second_true, stands}
 use Rattle.mt_formula.proofs.Standing.{resumed_put, resumed_fault}
@@ -43,17 +44,17 @@ pub between_pushed : (old mid new : List Item) (left right : Delim) → mid ≡ 
 between_pushed old mid new left right e f = ap sequence_of f ∙ (sequence_push mid (Right right) ∙ ap (λ xs. append (sequence_of xs) (More (RightElement right) End)) (e ∙ insert_first old (Left left)))
 
 -- boundaries make a list of items that stand inside
-pub fenced_list : (left right : Delim) (s all : Sequence) → all ≡ between_boundaries left s right → is_inside s ≡ true → IsMathList all
-fenced_list left right s all e h = subst IsMathList (sym e) (ends_with_right s right h)
+pub bounded_list : (left right : Delim) (s all : Sequence) → all ≡ between_boundaries left s right → is_inside s ≡ true → IsMathList all
+bounded_list left right s all e h = subst IsMathList (sym e) (ends_with_right s right h)
 
-module _ (tables : CodeTables) (units : Units) (whole : Read Sequence) (l : OpenList) (left : Delim) (outer : List Frame) (all : Sequence) (ts first : List Token) (u : Resuming tables units whole (record { owner = Fence left; list = l }) outer all ts) (is_first : first ≡ drop 1 ts) where
-  pub fence_closed : (new : OpenList) (right : Delim) (after : List Token) → delimiter tables first ≡ Got right after → ResumesFence left all right l new → length after ≤ length first → length first ≤ length ts → Stands tables units whole outer new after
-  fence_closed new right after d b low lowest =
-      resumed_put tables units whole (record { owner = Fence left; list = l }) outer all ts after new _ _ _ u
-      (λ k again. ap (λ (r : Read Delim). then_read r (λ (right : Delim) (rest : List Token). put_atom tables units again l.depth l.family (hand_of l.hand) (plain_atom (Plain Inner) (ListPart (between_boundaries left all right))) rest)) (ap (delimiter tables) (sym is_first) ∙ d))
+module _ (tables : CodeTables) (units : Units) (whole : Read Sequence) (l : OpenList) (left : Delim) (outer : List Frame) (all : Sequence) (ts first : List Token) (u : Resuming tables units whole (record { owner = LeftRight left; list = l }) outer all ts) (is_first : first ≡ drop 1 ts) where
+  pub left_right_closed : (new : OpenList) (right : Delim) (after : List Token) → scan_delimiter tables first ≡ Got right after → ResumesLeftRight left all right l new → length after ≤ length first → length first ≤ length ts → Stands tables units whole outer new after
+  left_right_closed new right after d b low lowest =
+      resumed_put tables units whole (record { owner = LeftRight left; list = l }) outer all ts after new _ _ _ u
+      (λ k again. ap (λ (r : Read Delim). then_read r (λ (right : Delim) (rest : List Token). put_atom tables units again l.level l.family (last_atom_of l.last) (plain_atom (Plain Inner) (ListPart (between_boundaries left all right))) rest)) (ap (scan_delimiter tables) (sym is_first) ∙ d))
       b (omega arith)
 
-  pub fence_fault : (cause at : ℕ) → delimiter tables first ≡ Fault cause at → whole ≡ Fault cause (at + behind outer)
-  fence_fault cause at d =
-      resumed_fault tables units whole (record { owner = Fence left; list = l }) outer all ts cause at u
-      (λ k enough again. ap (λ (r : Read Delim). then_read r (λ (right : Delim) (rest : List Token). put_atom tables units again l.depth l.family (hand_of l.hand) (plain_atom (Plain Inner) (ListPart (between_boundaries left all right))) rest)) (ap (delimiter tables) (sym is_first) ∙ d))
+  pub left_right_fault : (cause : ReadCause) (at : ℕ) → scan_delimiter tables first ≡ Fault cause at → whole ≡ Fault cause (at + tokens_after_all outer)
+  left_right_fault cause at d =
+      resumed_fault tables units whole (record { owner = LeftRight left; list = l }) outer all ts cause at u
+      (λ k enough again. ap (λ (r : Read Delim). then_read r (λ (right : Delim) (rest : List Token). put_atom tables units again l.level l.family (last_atom_of l.last) (plain_atom (Plain Inner) (ListPart (between_boundaries left all right))) rest)) (ap (scan_delimiter tables) (sym is_first) ∙ d))

@@ -1,6 +1,0 @@
-use Rattle.mt_formula.specs.machine.OpenLists.{inner_sequence}
-use Rattle.mt_formula.proofs.Fencing.{fenced_list}
-use Rattle.mt_formula.proofs.forms.fences.into_fenced.Goals as goal
-
-pub from_vec-requires : goal.from_vec-requires
-from_vec-requires c = fenced_list c.args.left c.args.right (inner_sequence c.args.items) _ c.in_ok-put_boundaries.ensures c.args.items.inside

@@ -1,0 +1,163 @@
+//! The last atom: how it is made, and what it becomes.
+ghost use Rattle.std.specs.Prelude.{◌≡◌, true, false, not, IfOk};
+ghost use Rattle.mt_rules.specs.Sequence.{RowsPart};
+ghost use Rattle.mt_rules.specs.declared.kind.Kind.TheVariants.{Vcenter};
+ghost use Rattle.mt_rules.specs.View.{element_of, part_of_field};
+ghost use Rattle.mt_scan.specs.Role.{nucleus_kind};
+ghost use Rattle.mt_formula.specs.Atoms.{element_of_atom, plain_atom, scripted_atom, is_empty, is_free};
+ghost use Rattle.mt_formula.specs.Atoms.{is_op_kind, is_op, with_script, with_limits};
+ghost use Rattle.mt_formula.specs.machine.Facts.{stands_inside, holds_rows};
+ghost use Rattle.mt_formula.specs.machine.OpenLists.{atom_value, last_atom_value, last_atom_of};
+
+use crate::open::open_list::LastAtom;
+use mt_rules::{Atom, Class, Field, Item, Kind, Limits, RowList};
+use mt_scan::{FieldKind, Side};
+use std::alloc::{AllocError, Global};
+
+/// The atom as an item.
+pub fn into_item(last: LastAtom) -> Item
+    ensures is { element_of result ≡ element_of_atom (last_atom_value last) }
+    ensures inside { stands_inside (element_of result) ≡ true }
+{
+    Item::Atom(last.atom)
+}
+
+fn nucleus_kind(kind: FieldKind) -> Kind
+    ensures { result ≡ nucleus_kind kind }
+{
+    match kind {
+        FieldKind::Class(class) => Kind::Plain(class),
+        FieldKind::Radical(delim) => Kind::Radical(delim),
+        FieldKind::Accent(symbol) => Kind::Accent(symbol),
+        FieldKind::Over => Kind::Over,
+        FieldKind::Under => Kind::Under,
+    }
+}
+
+fn plain_atom(kind: Kind, nucleus: Field) -> Atom
+    ensures { atom_value result ≡ plain_atom kind (part_of_field nucleus) }
+{
+    Atom {
+        kind,
+        limits: Limits::Default,
+        nucleus,
+        sup: Field::Empty,
+        sub: Field::Empty,
+    }
+}
+
+/// An atom of a kind without scripts, at hand.
+pub fn plain_last_atom(
+    alloc: Global,
+    kind: FieldKind,
+    nucleus: Field,
+) -> Result<LastAtom, AllocError>
+    requires { holds_rows (part_of_field nucleus) ≡ false }
+    ensures { IfOk result (λ last. last_atom_value last
+        ≡ plain_atom (nucleus_kind kind) (part_of_field nucleus)) }
+{
+    let atom = Box::new(alloc, plain_atom(nucleus_kind(kind), nucleus))?;
+    Ok(LastAtom { atom })
+}
+
+/// A vcenter atom without scripts, at hand.
+pub fn vcenter_last_atom(alloc: Global, rows: RowList) -> Result<LastAtom, AllocError>
+    ensures { IfOk result (λ last. last_atom_value last ≡ plain_atom Vcenter (RowsPart rows)) }
+{
+    let atom = Box::new(alloc, plain_atom(Kind::Vcenter, Field::Rows(rows)))?;
+    Ok(LastAtom { atom })
+}
+
+fn scripted(alloc: Global, last: Option<LastAtom>) -> Result<LastAtom, AllocError>
+    ensures { IfOk result (λ new. last_atom_value new ≡ scripted_atom (last_atom_of last)) }
+{
+    match last {
+        Some(last) => Ok(last),
+        None => plain_last_atom(alloc, FieldKind::Class(Class::Ord), Field::Empty),
+    }
+}
+
+fn with_sup(last: LastAtom, part: Field) -> LastAtom
+    requires { holds_rows (part_of_field part) ≡ false }
+    ensures { last_atom_value result ≡ record (last_atom_value last) { sup = part_of_field part } }
+{
+    let LastAtom { mut atom } = last;
+    atom.sup = part;
+    LastAtom { atom }
+}
+
+fn with_sub(last: LastAtom, part: Field) -> LastAtom
+    requires { holds_rows (part_of_field part) ≡ false }
+    ensures { last_atom_value result ≡ record (last_atom_value last) { sub = part_of_field part } }
+{
+    let LastAtom { mut atom } = last;
+    atom.sub = part;
+    LastAtom { atom }
+}
+
+/// The last atom, or a new one, with a script.
+pub fn with_script(
+    alloc: Global,
+    side: Side,
+    part: Field,
+    last: Option<LastAtom>,
+) -> Result<LastAtom, AllocError>
+    requires { holds_rows (part_of_field part) ≡ false }
+    ensures { IfOk result (λ new. last_atom_value new
+        ≡ with_script side (part_of_field part) (last_atom_of last)) }
+{
+    let last = scripted(alloc, last)?;
+    Ok(match side {
+        Side::Up => with_sup(last, part),
+        Side::Down => with_sub(last, part),
+    })
+}
+
+fn is_empty(part: &Field) -> bool
+    ensures { result ≡ is_empty (part_of_field part.now) }
+{
+    matches!(part, Field::Empty)
+}
+
+/// Whether a script can be put there.
+pub fn is_free(side: Side, last: &Option<LastAtom>) -> bool
+    ensures { result ≡ is_free side (last_atom_of last.now) }
+{
+    match last {
+        None => true,
+        Some(last) => match side {
+            Side::Up => is_empty(&last.atom.sup),
+            Side::Down => is_empty(&last.atom.sub),
+        },
+    }
+}
+
+fn is_op_kind(kind: Kind) -> bool
+    ensures { result ≡ is_op_kind kind }
+{
+    matches!(kind, Kind::Plain(Class::Op))
+}
+
+/// Whether the last atom is an operator.
+pub fn is_op(last: &Option<LastAtom>) -> bool
+    ensures { result ≡ is_op (last_atom_of last.now) }
+{
+    match last {
+        None => false,
+        Some(last) => is_op_kind(last.atom.kind),
+    }
+}
+
+/// The last atom with its limits at another place.
+pub fn with_limits(limits: Limits, last: Option<LastAtom>) -> Option<LastAtom>
+    ensures { last_atom_of result ≡ with_limits limits (last_atom_of last) }
+{
+    match last {
+        None => None,
+        Some(last) => {
+            let LastAtom { mut atom } = last;
+            atom.limits = limits;
+            Some(LastAtom { atom })
+        }
+    }
+}

@@ -1,0 +1,177 @@
+//! The table of what each token does in a list (The TeXbook, chapter 26).
+ghost use Rattle.std.specs.Prelude.{◌≡◌, ◌≤◌, ◌^◌, ◌+◌, ◌∷◌, length, IfOk, IfSome};
+ghost use Rattle.mt_scaled.specs.Number.{Within};
+ghost use Rattle.mt_scan.specs.Meets.{Meets};
+ghost use Rattle.mt_scan.specs.Parts.{Got};
+ghost use Rattle.mt_scan.specs.Role.{role_of};
+ghost use Rattle.mt_scan.specs.declared.role.Side.TheVariants.{Up};
+ghost use Rattle.mt_formula.specs.Atoms.{is_free, is_op};
+ghost use Rattle.mt_formula.specs.Items.{free_action, limits_action, script_action, action, action_here};
+ghost use Rattle.mt_formula.specs.declared.step.action.Action.TheVariants.{Prime};
+ghost use Rattle.mt_formula.specs.machine.Actions.{spent, MeetsUnlessStop};
+ghost use Rattle.mt_formula.specs.machine.OpenLists.{last_atom_of};
+
+use crate::open::last_atom::{is_free, is_op};
+use crate::open::open_list::OpenList;
+use crate::step::action::{Action, coded_action, nucleus_action, script_action};
+use crate::step::words::{
+    accent_word, amount_action, char_word, choice_word, delimiter_word, family_word, left_word,
+    open_group, radical_word, vcenter_word,
+};
+use mt_plain::Codes;
+use mt_rules::Limits;
+use mt_scaled::Units;
+use mt_scan::{Fault, ReadCause, Role, Scanned, Side, role_of};
+use mt_token::Token;
+
+fn fault(cause: ReadCause, left: usize) -> Fault
+    ensures { result ≡ record { cause = cause; left = left } }
+{
+    Fault { cause, left }
+}
+
+// At `^` or `_`.
+fn script_word<'a>(
+    codes: &Codes,
+    list: &OpenList,
+    side: Side,
+    after: &'a [Token],
+) -> Result<Scanned<'a, Action>, Fault>
+    ensures is { Meets result (free_action (is_free side (last_atom_of list.now.last)) (length after.now + 1)
+        (script_action codes.now list.now.level list.now.family side after.now)) }
+    ensures falls { IfOk result (λ action. length action.rest.now ≤ length after.now) }
+{
+    if is_free(side, &list.last) {
+        script_action(codes, list.level, list.family, side, after)
+    } else {
+        Err(fault(ReadCause::DoubleScript, after.len() + 1))
+    }
+}
+
+// At a prime.
+fn prime_word<'a>(list: &OpenList, after: &'a [Token]) -> Result<Scanned<'a, Action>, Fault>
+    ensures is { Meets result (free_action (is_free Up (last_atom_of list.now.last)) (length after.now + 1)
+        (Got Prime after.now)) }
+    ensures falls { IfOk result (λ action. length action.rest.now ≤ length after.now) }
+{
+    if is_free(Side::Up, &list.last) {
+        Ok(Scanned {
+            value: Action::Prime,
+            rest: after,
+        })
+    } else {
+        Err(fault(ReadCause::DoubleScript, after.len() + 1))
+    }
+}
+
+// At a word that places the scripts of an operator.
+fn limits_word<'a>(
+    list: &OpenList,
+    limits: Limits,
+    after: &'a [Token],
+) -> Result<Scanned<'a, Action>, Fault>
+    ensures is { Meets result (limits_action (is_op (last_atom_of list.now.last)) limits after.now) }
+    ensures falls { IfOk result (λ action. length action.rest.now ≤ length after.now) }
+{
+    if is_op(&list.last) {
+        Ok(Scanned {
+            value: Action::Limits(limits),
+            rest: after,
+        })
+    } else {
+        Err(fault(ReadCause::MisplacedLimits, after.len() + 1))
+    }
+}
+
+// What a token of this role does; `None` where it is no item.
+fn role_action<'a>(
+    codes: &Codes,
+    units: Units,
+    list: &OpenList,
+    role: Role,
+    token: &Token,
+    after: &'a [Token],
+) -> Result<Option<Scanned<'a, Action>>, Fault>
+    requires em { Within (2 ^ 31) units.em }
+    requires ex { Within (2 ^ 31) units.ex }
+    requires role { role_of codes.now token.now ≡ role }
+    ensures is { MeetsUnlessStop result
+        (action codes.now units list.now.level list.now.family (last_atom_of list.now.last) token.now after.now role)
+        (token.now ∷ after.now) }
+    ensures falls { IfOk result (λ read. IfSome read
+        (λ action. length action.rest.now + spent action.value ≤ length after.now + 1)) }
+{
+    let level = list.level;
+    let family = list.family;
+    let read = match role {
+        Role::Blank => Ok(Scanned {
+            value: Action::Skip,
+            rest: after,
+        }),
+        Role::MathCode(code) => Ok(Scanned {
+            value: coded_action(family, u32::from(code)),
+            rest: after,
+        }),
+        Role::ItemWord(item) => Ok(Scanned {
+            value: Action::Item(item),
+            rest: after,
+        }),
+        Role::CharWord => char_word(family, after),
+        Role::DelimiterWord => delimiter_word(family, after),
+        Role::Nucleus(kind) => nucleus_action(codes, level, family, kind, after),
+        Role::RadicalWord => radical_word(codes, level, family, after),
+        Role::AccentWord => accent_word(codes, level, family, after),
+        Role::FamilyWord => family_word(after),
+        Role::AmountWord(amount) => amount_action(units, amount, after),
+        Role::OpenBrace => open_group(codes, level, token, after),
+        Role::LeftWord => left_word(codes, level, token, after),
+        Role::VcenterWord => vcenter_word(codes, level, after),
+        Role::ChoiceWord => choice_word(codes, level, after),
+        Role::Script(side) => script_word(codes, list, side, after),
+        Role::Prime => prime_word(list, after),
+        Role::LimitsWord(limits) => limits_word(list, limits, after),
+        Role::HboxWord | Role::Unknown => Err(fault(ReadCause::UnknownName, after.len() + 1)),
+        Role::CloseBrace
+        | Role::Dollar
+        | Role::Misplaced
+        | Role::RightWord
+        | Role::FractionWord(_, _)
+        | Role::NumberWord(_) => return Ok(None),
+    };
+    match read {
+        Ok(action) => Ok(Some(action)),
+        Err(fault) => Err(fault),
+    }
+}
+
+/// What the token in front does in a list, and the tokens after those that were read for it. It is
+/// `Stop`, and no token is read, where no item begins or none is left.
+pub fn action_here<'a>(
+    codes: &Codes,
+    units: Units,
+    list: &OpenList,
+    tokens: &'a [Token],
+) -> Result<Scanned<'a, Action>, Fault>
+    requires em { Within (2 ^ 31) units.em }
+    requires ex { Within (2 ^ 31) units.ex }
+    ensures is { Meets result
+        (action_here codes.now units list.now.level list.now.family (last_atom_of list.now.last) tokens.now) }
+    ensures falls { IfOk result (λ part. length part.rest.now + spent part.value ≤ length tokens.now) }
+{
+    match tokens {
+        [token, after @ ..] => {
+            match role_action(codes, units, list, role_of(codes, token), token, after) {
+                Ok(Some(part)) => Ok(part),
+                Ok(None) => Ok(Scanned {
+                    value: Action::Stop,
+                    rest: tokens,
+                }),
+                Err(fault) => Err(fault),
+            }
+        }
+        [] => Ok(Scanned {
+            value: Action::Stop,
+            rest: tokens,
+        }),
+    }
+}
