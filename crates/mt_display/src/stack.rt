@@ -147,7 +147,8 @@ fn line_after(here: NextLine, v: Length, extents: Extents) -> NextLine
     requires v { Within (2 ^ 33 * here.line + (2 ^ 32 + 2 ^ 31)) v.sp }
     requires extents { ExtentsInRange extents }
     ensures line { result.line ≡ here.line + 1 }
-    ensures above { above_value result.above ≡ Some (record { bottom = v.sp +ℤ extents.depth; depth = extents.depth }) }
+    ensures above { above_value result.above
+        ≡ Some (record { bottom = v.sp +ℤ extents.depth; depth = extents.depth }) }
     ensures near { IsNear result }
 {
     let depth = Length { sp: extents.depth };
