@@ -13,7 +13,7 @@ use Rattle.mt_plain.specs.CodeTables.{plain_codes}
 use Rattle.mt_plain.specs.Names.{control}
 use Rattle.mt_plain.specs.MacroTexts.{macro_texts, accent_macros, delimiter_macros, other_macros, family_macros, function_macros, limit_macros}
 use Rattle.mt_plain.specs.PlainMacros.{plain_table, body_of as plain_body}
-use Rattle.mt_formula.specs.Formulas.{stretch}
+use Rattle.mt_formula.specs.Formulas.{item_run}
 use Rattle.mt_rules.specs.AtomRow.{atom_row}
 use Rattle.mt_rules.specs.Nuclei.{nucleus_row}
 use Rattle.mt_rules.specs.Scripts.{row_with_scripts}
@@ -62,7 +62,7 @@ fonts width = record {
 
 -- what evaluating a source unfolds: its reading, and the rules of setting
 unfoldable computed : ⊤
-unfolding sets.sy source_pages document_pages formula_lines display_lines stacked_lines stretch run pages_from control plain_codes plain_table macro_texts accent_macros delimiter_macros other_macros family_macros function_macros limit_macros plain_body list_row halves_of first_pass_of second_pass_of atom_row nucleus_row row_with_scripts
+unfolding sets.sy source_pages document_pages formula_lines display_lines stacked_lines item_run run pages_from control plain_codes plain_table macro_texts accent_macros delimiter_macros other_macros family_macros function_macros limit_macros plain_body list_row halves_of first_pass_of second_pass_of atom_row nucleus_row row_with_scripts
 computed = tt
 
 abbrev Answered : Type 0
