@@ -17,21 +17,21 @@ nil_right (x ∷ xs) = ap (λ ys. x ∷ ys) (nil_right xs)
 ok_is : {A : Type 0} (x y : List A) → ◌≡◌ {A = Setting (List A)} (Ok x) (Ok y) → x ≡ y
 ok_is x y e = cc
 
-pub behind_nil : {A : Type 0} (s : Setting (List A)) → appended_to [] s ≡ s
-behind_nil (Ok xs) = refl
-behind_nil (Err e) = refl
+pub appended_nil : {A : Type 0} (s : Setting (List A)) → appended_to [] s ≡ s
+appended_nil (Ok xs) = refl
+appended_nil (Err e) = refl
 
-pub behind_end : {A : Type 0} (there : List A) → appended_to there (Ok []) ≡ Ok there
-behind_end there = ap (λ xs. Ok xs) (nil_right there)
+pub appended_end : {A : Type 0} (there : List A) → appended_to there (Ok []) ≡ Ok there
+appended_end there = ap (λ xs. Ok xs) (nil_right there)
 
--- what is made next stands behind what was made
-pub behind_step : {A : Type 0} (there next : List A) (s t : Setting (List A)) → appended_to there s ≡ Ok next → appended_to there (s >>= (λ xs. t >>= (λ ys. Ok (xs ++ ys)))) ≡ appended_to next t
-behind_step there next (Ok xs) (Ok ys) e = ap (λ zs. Ok zs) (sym (append_assoc there xs ys) ∙ ap (λ zs. zs ++ ys) (ok_is (there ++ xs) next e))
-behind_step there next (Ok xs) (Err f) e = refl
-behind_step there next (Err f) t e = absurd (cc)
+-- what is made next stands after what was made
+pub appended_step : {A : Type 0} (there next : List A) (s t : Setting (List A)) → appended_to there s ≡ Ok next → appended_to there (s >>= (λ xs. t >>= (λ ys. Ok (xs ++ ys)))) ≡ appended_to next t
+appended_step there next (Ok xs) (Ok ys) e = ap (λ zs. Ok zs) (sym (append_assoc there xs ys) ∙ ap (λ zs. zs ++ ys) (ok_is (there ++ xs) next e))
+appended_step there next (Ok xs) (Err f) e = refl
+appended_step there next (Err f) t e = absurd (cc)
 
-pub behind_err : {A : Type 0} (there : List A) (s t : Setting (List A)) (f : SettingFault) → s ≡ Err f → appended_to there (s >>= (λ xs. t >>= (λ ys. Ok (xs ++ ys)))) ≡ Err f
-behind_err there s t f e = ap (λ r. appended_to there (r >>= (λ xs. t >>= (λ ys. Ok (xs ++ ys))))) e
+pub appended_err : {A : Type 0} (there : List A) (s t : Setting (List A)) (f : SettingFault) → s ≡ Err f → appended_to there (s >>= (λ xs. t >>= (λ ys. Ok (xs ++ ys)))) ≡ Err f
+appended_err there s t f e = ap (λ r. appended_to there (r >>= (λ xs. t >>= (λ ys. Ok (xs ++ ys))))) e
 
 -- a fault of a part is the fault of the whole
 pub fails_on : {A B : Type 0} (e : SetFault) (s : Setting A) (t : Setting B) → SetFails e s → ((f : SettingFault) → s ≡ Err f → t ≡ Err f) → SetFails e t
@@ -54,11 +54,11 @@ piece_pushed old new p made e f = ap piece_values e ∙ (piece_values-append old
 pub one_pushed : (old new : List Piece) (p : Piece) (s : Setting (List PieceValue)) → s ≡ Ok (piece_value p ∷ []) → new ≡ old ++ p ∷ [] → appended_to (piece_values old) s ≡ Ok (piece_values new)
 one_pushed old new p s e f = ap (λ r. appended_to (piece_values old) r) e ∙ ap (λ xs. Ok xs) (sym (piece_pushed old new p (piece_value p ∷ []) f refl))
 
--- a row behind a space
+-- a row after a space
 pub row_pushed : (old mid new more row : List Piece) (space : List PieceValue) → piece_values mid ≡ piece_values old ++ space → new ≡ mid ++ more → more ≡ row → piece_values new ≡ piece_values old ++ (space ++ piece_values row)
 row_pushed old mid new more row space e f g = ap piece_values (f ∙ ap (λ x. mid ++ x) g) ∙ (piece_values-append mid row ∙ (ap (λ x. x ++ piece_values row) e ∙ append_assoc (piece_values old) space (piece_values row)))
 
--- a boundary behind a space
+-- a boundary after a space
 pub boundary_pushed : (old mid new : List Piece) (p : Piece) (space : List PieceValue) (s : Setting PieceValue) → s ≡ Ok (piece_value p) → piece_values mid ≡ piece_values old ++ space → new ≡ mid ++ p ∷ [] → appended_to (piece_values old) (s >>= (λ m. Ok (space ++ m ∷ []))) ≡ Ok (piece_values new)
 boundary_pushed old mid new p space s e f g =
     ap (λ r. appended_to (piece_values old) (r >>= (λ m. Ok (space ++ m ∷ [])))) e

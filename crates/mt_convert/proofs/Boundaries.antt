@@ -17,7 +17,7 @@ use Rattle.mt_delim.specs.RaisedBoxes.{RaisedAnswers}
 use Rattle.mt_convert.specs.declared.fault.SetFault.{SetFault}
 use Rattle.mt_convert.specs.Faults.{FaultFromPart}
 use Rattle.mt_convert.specs.Calls.{SetFails}
-use Rattle.mt_convert.specs.inner.Kinds.{lone_box}
+use Rattle.mt_convert.specs.inner.AtomSteps.{lone_box}
 use Rattle.mt_convert.specs.SecondPass.{boundary_piece}
 
 pub boundary_is : (fonts : SetValue) (size : Size) (wanted wanted' : ℤ) (delim : Delim) (raise raise' : ℤ) (body : BoxValue) → wanted' ≡ wanted → delimiter fonts delim size wanted' ≡ Ok (layout_of body) → raise ≡ axis_height fonts size -ℤ half_of (body.extents.height -ℤ body.extents.depth) → raise' ≡ raise → boundary_piece fonts size wanted delim ≡ Ok (PieceBox raise' (layout_of body))

@@ -1,4 +1,4 @@
--- Each atom can stand behind the atom before it, while a list is set item by item (`FollowSoFar`).
+-- Each atom can stand after the atom before it, while a list is set item by item (`FollowSoFar`).
 use Rattle.std.proofs.Common.{◌≡◌, List, [], ◌∷◌, ◌++◌, ap, sym, ◌∙◌, refl, subst, Option, Some, None, ℤ}
 use Rattle.std.specs.Prelude.{Ok, Err}
 use Rattle.std.specs.Option.{option_or}
@@ -11,14 +11,14 @@ use Rattle.mt_box.specs.Rows.{PieceValue}
 use Rattle.mt_rules.specs.AtomRow.{atom_row, fraction_row}
 use Rattle.mt_rules.specs.declared.symbol.Glue.{Glue}
 use Rattle.mt_spacing.proofs.Neighbours.{can_meet}
-use Rattle.mt_convert.specs.declared.current.Current.{Current}
+use Rattle.mt_convert.specs.declared.flat.current.Current.{Current}
 use Rattle.mt_convert.specs.FirstPass.{make_kern, make_space, set_item, in_points, glue_in_points}
 use Rattle.mt_convert.specs.Halves.{HalfValue, HalfAtom, HalfKern, HalfSpace, class_to_left, class_to_right}
 use Rattle.mt_convert.specs.Halfway.{half_values}
 use Rattle.mt_convert.specs.inner.Fields.{atom_content, fraction_content}
 use Rattle.mt_convert.specs.inner.Lengths.{kern_halves}
 use Rattle.mt_convert.specs.inner.Settling.{CanFollow, AllCanFollow}
-use Rattle.mt_convert.specs.inner.Turns.{PassedElement, PassedAtom, PassedFraction, PassedLeft, PassedRight, PassedStyle, PassedMuSpace, PassedSpace, PassedMuKern, PassedKern, flat_item, class_behind}
+use Rattle.mt_convert.specs.inner.Turns.{PassedElement, PassedAtom, PassedFraction, PassedLeft, PassedRight, PassedStyle, PassedMuSpace, PassedSpace, PassedMuKern, PassedKern, flat_item, class_after_passed}
 
 -- the class that the last atom of these items counts as, or else that of the atom before them
 abbrev pub last_right : List HalfValue → Option Class → Option Class
@@ -42,7 +42,7 @@ last_append (h ∷ hs) ks last = last_append hs ks (option_or (class_to_right h)
 
 -- ---- an item that is set
 
--- it can stand behind the atom before it, and this is the class of the last atom then
+-- it can stand after the atom before it, and this is the class of the last atom then
 pub record FollowsNext (last next : Option Class) (h : HalfValue) : Type 0 where
   pub follow : CanFollow last (class_to_left h)
   pub next_is : next ≡ option_or (class_to_right h) last
@@ -86,7 +86,7 @@ follows_space last glue h e = follows_two last (HalfSpace glue) h (test_value gl
 follows_kern : (last : Option Class) (amount : ℤ) (h : HalfValue) → make_kern amount ≡ Ok h → FollowsNext last last h
 follows_kern last amount h e = follows_test last (HalfKern amount) h (test_value amount) refl refl e
 
-pub item_follows : (fonts : SetValue) (current : Current) (p : PassedElement) (h : HalfValue) → set_item fonts current (flat_item fonts p) ≡ Ok h → FollowsNext current.last (class_behind current.last p) h
+pub item_follows : (fonts : SetValue) (current : Current) (p : PassedElement) (h : HalfValue) → set_item fonts current (flat_item fonts p) ≡ Ok h → FollowsNext current.last (class_after_passed current.last p) h
 item_follows fonts current (PassedAtom kind limits nucleus sup sub role kern) h e =
     follows_row current.last (forward_of current.last (kind_class kind)) h (atom_row fonts current.style role (atom_content fonts kind limits nucleus sup sub)) (follow_atom current.last (kind_class kind)) e
 item_follows fonts current (PassedFraction thickness left right num den) h e =
@@ -99,7 +99,7 @@ item_follows fonts current (PassedSpace glue) h e = follows_space current.last g
 item_follows fonts current (PassedMuKern amount) h e = follows_kern current.last (in_points fonts current.style amount) h e
 item_follows fonts current (PassedKern amount) h e = follows_kern current.last amount h e
 
--- ---- with the kern behind it
+-- ---- with the kern after it
 
 kern_follows : (last : Option Class) (kern : Option ℤ) → AllCanFollow last (half_values (kern_halves kern))
 kern_follows last None = tt

@@ -11,15 +11,15 @@ use Rattle.mt_rules.specs.Modest.{IsModestList, list_items, element_items, list_
 use Rattle.mt_rules.specs.Sequence.{Sequence, Element, End, More, AtomElement, FractionElement, LeftElement, RightElement, StyleElement, ChoiceElement, MuSpaceElement, SpaceElement, MuKernElement, KernElement, NonscriptElement, sequence_size, element_size}
 use Rattle.mt_rules.specs.Setting.{Setting, Overflow, ◌>>=◌, test_value}
 use Rattle.mt_rules.proofs.Answering.{in_range}
-use Rattle.mt_convert.specs.declared.current.Current.{Current}
+use Rattle.mt_convert.specs.declared.flat.current.Current.{Current}
 use Rattle.mt_convert.specs.declared.fault.SetFault.{SetFault}
 use Rattle.mt_convert.specs.declared.half.Half.{Half}
 use Rattle.mt_convert.specs.declared.half.Half.TheVariants as half
-use Rattle.mt_convert.specs.declared.passed.Passed.{Passed as CodePassed}
+use Rattle.mt_convert.specs.declared.flat.passed.Passed.{Passed as CodePassed}
 use Rattle.mt_convert.specs.Calls.{SetFails}
 use Rattle.mt_convert.specs.Current.{opening}
 use Rattle.mt_convert.specs.FirstPass.{set_item, set_items, first_pass_of}
-use Rattle.mt_convert.specs.Flat.{flat, flat_by, current_after_all}
+use Rattle.mt_convert.specs.Flat.{flat, flat_by, current_after_items}
 use Rattle.mt_convert.specs.Halves.{HalfValue, Halves, half_height, half_depth, greatest_height, greatest_depth, settle}
 use Rattle.mt_convert.specs.Halfway.{half_value, half_values, HalfFits, HalvesFit, count_of, total_of}
 use Rattle.mt_convert.specs.ListRow.{items_of, halves_of}
@@ -28,8 +28,8 @@ use Rattle.mt_convert.specs.inner.Appending.{appended_to}
 use Rattle.mt_convert.specs.inner.Boundaries.{Remains, RestOfList, TurnLeaves}
 use Rattle.mt_convert.specs.inner.Lengths.{kern_halves, test_kern}
 use Rattle.mt_convert.specs.inner.Modest.{IsModestElement}
-use Rattle.mt_convert.specs.inner.Turns.{PassedElement, ListTurn, PassesOne, RewritesTo, element_of_passed, passed_value, turn_of, turned, turn_meaning, flat_item, flat_items, current_behind, kern_of}
-use Rattle.mt_convert.proofs.Appending.{behind_nil, behind_end, fails_on}
+use Rattle.mt_convert.specs.inner.Turns.{PassedElement, ListTurn, PassesOne, RewritesTo, element_of_passed, passed_value, turn_of, turned, turn_meaning, flat_item, flat_items, current_after_passed, kern_of}
+use Rattle.mt_convert.proofs.Appending.{appended_nil, appended_end, fails_on}
 use Rattle.mt_convert.proofs.Following.{FollowSoFar, follow_start, follow_step, item_follows}
 use Rattle.mt_convert.proofs.InOrder.{items_set, items_fail, item_err, kern_err, half_values-append}
 use Rattle.mt_convert.proofs.Remaining.{remains_start, remains_again, remains_pass, remains_end}
@@ -57,7 +57,7 @@ pub going_start : (fonts : SetValue) (style : Style) (whole rest : Sequence) (ha
 going_start fonts style whole rest halves m i e f = rw (e, f) (record {
   turns = sequence_size whole;
   enough = omega arith;
-  whole_is = sym (behind_nil _);
+  whole_is = sym (appended_nil _);
   size = omega arith;
   items = omega arith;
   total = omega arith;
@@ -142,7 +142,7 @@ pub next_fits : (fonts : SetValue) (first : Style) (whole : Sequence) (current :
 next_fits fonts first whole current rest halves f s p rest' g is u =
     subst (λ r. NextFits whole (element_of_passed p) r rest') (sym is) (next_of fonts first whole current f s halves p rest' (subst (λ r. Going fonts first whole current r halves) is g) u)
 
--- ---- what is put behind the items so far
+-- ---- what is put after the items so far
 
 items_positive : (e : Element) → 1 ≤ element_items e
 items_positive (AtomElement kind limits nucleus sup sub) = omega arith
@@ -186,7 +186,7 @@ depth_append n (h ∷ hs) ks a b =
     both_low (half_depth h) (greatest_depth (hs ++ ks)) n (left_low (half_depth h) (greatest_depth hs) n a)
     (depth_append n hs ks (right_low (half_depth h) (greatest_depth hs) n a) b)
 
--- an item with the kern behind it
+-- an item with the kern after it
 record Pushes (n : ℕ) (hs : List Half) : Type 0 where
   pub count : length hs ≤ 2
   pub total : total_of hs ≤ 4
@@ -228,7 +228,7 @@ half_fits_more m n (half.Style style) le k = k
 half_fits_more m n (half.Kern amount) le k = k
 half_fits_more m n (half.Space glue) le k = k
 
--- an item that was set, and the kern behind it
+-- an item that was set, and the kern after it
 pub record WasSet (fonts : SetValue) (current : Current) (p : PassedElement) (h : Half) (between : Option ℤ) : Type 0 where
   pub is : set_item fonts current (flat_item fonts p) ≡ Ok (half_value h)
   pub kern : test_kern between ≡ Ok tt
@@ -236,7 +236,7 @@ pub record WasSet (fonts : SetValue) (current : Current) (p : PassedElement) (h 
   pub few : count_of h ≤ 3
   pub reach : HalfReachInRange h
 
-going_set : (fonts : SetValue) (first : Style) (whole : Sequence) (current : Current) (f : Element) (s : Sequence) (halves : List Half) (p : PassedElement) (rest' : Sequence) (h : Half) → Going fonts first whole current (More f s) halves → PassesOne p rest' ≡ turn_of fonts current f s → (RestOfList (More f s) → RestOfList (More (element_of_passed p) rest')) → WasSet fonts current p h (kern_of p) → Going fonts first whole (current_behind current p) rest' (halves ++ h ∷ kern_halves (kern_of p))
+going_set : (fonts : SetValue) (first : Style) (whole : Sequence) (current : Current) (f : Element) (s : Sequence) (halves : List Half) (p : PassedElement) (rest' : Sequence) (h : Half) → Going fonts first whole current (More f s) halves → PassesOne p rest' ≡ turn_of fonts current f s → (RestOfList (More f s) → RestOfList (More (element_of_passed p) rest')) → WasSet fonts current p h (kern_of p) → Going fonts first whole (current_after_passed current p) rest' (halves ++ h ∷ kern_halves (kern_of p))
 going_set fonts first whole current f s halves p rest' h g u l w =
     let k : TurnKeeps f s (PassesOne p rest') = subst (TurnKeeps f s) (sym u) (turn_keeps fonts current f s) in
     let t = turns_left fonts current f s g.turns g.enough in
@@ -251,7 +251,7 @@ going_set fonts first whole current f s halves p rest' h g u l w =
       whole_is =
           g.whole_is
           ∙ (ap (λ xs. appended_to (half_values halves) (set_items fonts current xs)) (t.first_turn ∙ ap (λ v. flat_by (flat fonts t.left) current (turn_meaning fonts v)) (sym u))
-          ∙ (items_set fonts current halves p h (flat fonts t.left (current_after_all current (flat_items fonts p)) (items_of fonts rest')) w.is w.kern
+          ∙ (items_set fonts current halves p h (flat fonts t.left (current_after_items current (flat_items fonts p)) (items_of fonts rest')) w.is w.kern
           ∙ ap (λ x. appended_to (half_values (halves ++ next)) (set_items fonts x (flat fonts t.left x (items_of fonts rest')))) (same_current fonts current p)));
       size = omega (arith, g.size, k.size);
       items = omega (arith, g.items, k.items, a.count, items_positive (element_of_passed p), length-append halves next);
@@ -261,12 +261,12 @@ going_set fonts first whole current f s halves p rest' h g u l w =
       fits = all_fit_append n halves next g.fits a.fits;
       height = subst (λ xs. greatest_height xs ≤ℤ pos max_dimen) (sym now) (height_append (pos max_dimen) (half_values halves) (half_values next) g.height a.height);
       depth = subst (λ xs. greatest_depth xs ≤ℤ pos max_dimen) (sym now) (depth_append (pos max_dimen) (half_values halves) (half_values next) g.depth a.depth);
-      follow = subst (FollowSoFar (current_behind current p).last) (sym now) (follow_step current.last (current_behind current p).last (half_values halves) (half_value h) (kern_of p) g.follow (item_follows fonts current p (half_value h) w.is));
+      follow = subst (FollowSoFar (current_after_passed current p).last) (sym now) (follow_step current.last (current_after_passed current p).last (half_values halves) (half_value h) (kern_of p) g.follow (item_follows fonts current p (half_value h) w.is));
       remains = subst (λ xs. Remains xs rest') (sym now) (remains_pass fonts current (half_values halves) f s p rest' h g.remains u l w.is);
       modest = g.modest;
     }
 
-pub going_pass : (fonts : SetValue) (first : Style) (whole : Sequence) (current current' : Current) (rest : Sequence) (halves halves' : List Half) (f : Element) (s : Sequence) (p : PassedElement) (rest' : Sequence) (h : Half) (kern : Option ℤ) → Going fonts first whole current rest halves → rest ≡ More f s → PassesOne p rest' ≡ turn_of fonts current f s → (RestOfList (More f s) → RestOfList (More (element_of_passed p) rest')) → kern ≡ kern_of p → WasSet fonts current p h kern → halves' ≡ halves ++ h ∷ kern_halves kern → current' ≡ current_behind current p → Going fonts first whole current' rest' halves'
+pub going_pass : (fonts : SetValue) (first : Style) (whole : Sequence) (current current' : Current) (rest : Sequence) (halves halves' : List Half) (f : Element) (s : Sequence) (p : PassedElement) (rest' : Sequence) (h : Half) (kern : Option ℤ) → Going fonts first whole current rest halves → rest ≡ More f s → PassesOne p rest' ≡ turn_of fonts current f s → (RestOfList (More f s) → RestOfList (More (element_of_passed p) rest')) → kern ≡ kern_of p → WasSet fonts current p h kern → halves' ≡ halves ++ h ∷ kern_halves kern → current' ≡ current_after_passed current p → Going fonts first whole current' rest' halves'
 going_pass fonts first whole current current' rest halves halves' f s p rest' h kern g is u l k w eq c =
     rw (eq, c, k) (going_set fonts first whole current f s halves p rest' h (subst (λ r. Going fonts first whole current r halves) is g) u l (subst (WasSet fonts current p h) k w))
 
@@ -280,7 +280,7 @@ err_set fonts first whole current f s halves p rest' fault g u h =
     (λ x k. ap (λ a. a >>= (λ hs. Ok (settle hs)))
     (g.whole_is
     ∙ (ap (λ xs. appended_to (half_values halves) (set_items fonts current xs)) (t.first_turn ∙ ap (λ v. flat_by (flat fonts t.left) current (turn_meaning fonts v)) (sym u))
-    ∙ items_fail fonts current halves p (flat fonts t.left (current_after_all current (flat_items fonts p)) (items_of fonts rest')) x k)))
+    ∙ items_fail fonts current halves p (flat fonts t.left (current_after_items current (flat_items fonts p)) (items_of fonts rest')) x k)))
 
 pub going_err : (fonts : SetValue) (first : Style) (whole : Sequence) (current : Current) (rest : Sequence) (halves : List Half) (f : Element) (s : Sequence) (p : PassedElement) (rest' : Sequence) (fault : SetFault) → Going fonts first whole current rest halves → rest ≡ More f s → PassesOne p rest' ≡ turn_of fonts current f s → SetFails fault (set_item fonts current (flat_item fonts p)) → SetFails fault (halves_of fonts first whole)
 going_err fonts first whole current rest halves f s p rest' fault g is u h =
@@ -299,7 +299,7 @@ at_end fonts current (suc t) = refl
 end_on : (fonts : SetValue) (first : Style) (whole : Sequence) (current : Current) (halves : List Half) → Going fonts first whole current End halves → halves_of fonts first whole ≡ Ok (settle (half_values halves))
 unfolding halves_of first_pass_of
 end_on fonts first whole current halves g =
-    ap (λ a. a >>= (λ hs. Ok (settle hs))) (g.whole_is ∙ (ap (λ s. appended_to (half_values halves) s) (at_end fonts current g.turns) ∙ behind_end (half_values halves)))
+    ap (λ a. a >>= (λ hs. Ok (settle hs))) (g.whole_is ∙ (ap (λ s. appended_to (half_values halves) s) (at_end fonts current g.turns) ∙ appended_end (half_values halves)))
 
 pub going_end : (fonts : SetValue) (first : Style) (whole : Sequence) (current : Current) (rest : Sequence) (halves : List Half) (x : Halves) → Going fonts first whole current rest halves → rest ≡ End → x ≡ settle (half_values halves) → halves_of fonts first whole ≡ Ok x
 going_end fonts first whole current rest halves x g e f = end_on fonts first whole current halves (subst (λ r. Going fonts first whole current r halves) e g) ∙ ap (λ v. Ok v) (sym f)

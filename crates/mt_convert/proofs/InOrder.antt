@@ -1,22 +1,22 @@
--- Items of the flat list set in order (`items_set`): those that a turn passes, and then those behind them.
+-- Items of the flat list set in order (`items_set`): those that a turn passes, and then those after them.
 use Rattle.std.proofs.Common.{◌≡◌, List, [], ◌∷◌, ◌++◌, ap, sym, ◌∙◌, refl, Option, Some, None, ℤ}
 use Rattle.std.specs.Prelude.{Ok, Err, ⊤}
 use Rattle.mt_family.specs.SetValue.{SetValue}
 use Rattle.mt_rules.specs.Setting.{Setting, SettingFault, ◌>>=◌, ◌>>◌, test_value}
-use Rattle.mt_convert.specs.declared.current.Current.{Current}
+use Rattle.mt_convert.specs.declared.flat.current.Current.{Current}
 use Rattle.mt_convert.specs.declared.fault.SetFault.{SetFault}
 use Rattle.mt_convert.specs.declared.half.Half.{Half}
 use Rattle.mt_convert.specs.Calls.{SetFails}
 use Rattle.mt_convert.specs.FirstPass.{set_item, set_items}
-use Rattle.mt_convert.specs.Flat.{FlatItem, current_after, current_after_all}
+use Rattle.mt_convert.specs.Flat.{FlatItem, current_after_item, current_after_items}
 use Rattle.mt_convert.specs.Halves.{HalfValue, HalfKern}
 use Rattle.mt_convert.specs.Halfway.{half_value, half_values}
 use Rattle.mt_convert.specs.inner.Appending.{appended_to}
 use Rattle.mt_convert.specs.inner.Lengths.{kern_halves, test_kern}
 use Rattle.mt_convert.specs.inner.Turns.{PassedElement, flat_item, flat_items, kern_items, kern_of}
-use Rattle.mt_convert.proofs.Appending.{behind_nil, behind_step, behind_err, fails_on}
+use Rattle.mt_convert.proofs.Appending.{appended_nil, appended_step, appended_err, fails_on}
 
--- ---- one part of the list behind another
+-- ---- one part of the list after another
 
 first_of_both : {A : Type 0} (s : Setting A) (a b r : Setting (List A)) → r ≡ (a >>= (λ hs. b >>= (λ ks. Ok (hs ++ ks)))) → (s >>= (λ h. r >>= (λ hs. Ok (h ∷ hs)))) ≡ ((s >>= (λ h. a >>= (λ hs. Ok (h ∷ hs)))) >>= (λ hs. b >>= (λ ks. Ok (hs ++ ks))))
 first_of_both (Ok h) (Ok hs) (Ok ks) r e = ap (λ t. t >>= (λ xs. Ok (h ∷ xs))) e
@@ -24,13 +24,13 @@ first_of_both (Ok h) (Ok hs) (Err f) r e = ap (λ t. t >>= (λ xs. Ok (h ∷ xs)
 first_of_both (Ok h) (Err f) b r e = ap (λ t. t >>= (λ xs. Ok (h ∷ xs))) e
 first_of_both (Err f) a b r e = refl
 
-items_append : (fonts : SetValue) (xs ys : List FlatItem) (current : Current) → set_items fonts current (xs ++ ys) ≡ (set_items fonts current xs >>= (λ hs. set_items fonts (current_after_all current xs) ys >>= (λ ks. Ok (hs ++ ks))))
-items_append fonts [] ys current = sym (behind_nil (set_items fonts current ys))
+items_append : (fonts : SetValue) (xs ys : List FlatItem) (current : Current) → set_items fonts current (xs ++ ys) ≡ (set_items fonts current xs >>= (λ hs. set_items fonts (current_after_items current xs) ys >>= (λ ks. Ok (hs ++ ks))))
+items_append fonts [] ys current = sym (appended_nil (set_items fonts current ys))
 items_append fonts (x ∷ xs) ys current =
-    first_of_both (set_item fonts current x) (set_items fonts (current_after current x) xs) (set_items fonts (current_after_all (current_after current x) xs) ys) (set_items fonts (current_after current x) (xs ++ ys))
-    (items_append fonts xs ys (current_after current x))
+    first_of_both (set_item fonts current x) (set_items fonts (current_after_item current x) xs) (set_items fonts (current_after_items (current_after_item current x) xs) ys) (set_items fonts (current_after_item current x) (xs ++ ys))
+    (items_append fonts xs ys (current_after_item current x))
 
--- ---- an item, and the kern behind it
+-- ---- an item, and the kern after it
 
 tested_kern : (amount : ℤ) (t : Setting ⊤) → t ≡ Ok tt → ((t >> Ok (HalfKern amount)) >>= (λ half. Ok (half ∷ []))) ≡ Ok (HalfKern amount ∷ [])
 tested_kern amount t e = rw e refl
@@ -51,36 +51,36 @@ second_fails s h t f e g = rw (e, g) refl
 
 passed_set : (fonts : SetValue) (current : Current) (p : PassedElement) (h : Half) → set_item fonts current (flat_item fonts p) ≡ Ok (half_value h) → test_kern (kern_of p) ≡ Ok tt → set_items fonts current (flat_items fonts p) ≡ Ok (half_values (h ∷ kern_halves (kern_of p)))
 passed_set fonts current p h e k =
-    let after = current_after current (flat_item fonts p) in
+    let after = current_after_item current (flat_item fonts p) in
     both_set (set_item fonts current (flat_item fonts p)) (half_value h) (set_items fonts after (kern_items (kern_of p))) (half_values (kern_halves (kern_of p))) e (kern_set fonts after (kern_of p) k)
 
 -- a fault of the item, or of the kern, is the fault of both
 pub item_err : (fonts : SetValue) (current : Current) (p : PassedElement) (fault : SetFault) → SetFails fault (set_item fonts current (flat_item fonts p)) → SetFails fault (set_items fonts current (flat_items fonts p))
 item_err fonts current p fault h =
-    let after = current_after current (flat_item fonts p) in
+    let after = current_after_item current (flat_item fonts p) in
     fails_on fault (set_item fonts current (flat_item fonts p)) (set_items fonts current (flat_items fonts p)) h
     (λ f k. ap (λ s. s >>= (λ half. set_items fonts after (kern_items (kern_of p)) >>= (λ halves. Ok (half ∷ halves)))) k)
 
 pub kern_err : (fonts : SetValue) (current : Current) (p : PassedElement) (h : HalfValue) (fault : SetFault) → set_item fonts current (flat_item fonts p) ≡ Ok h → SetFails fault (test_kern (kern_of p)) → SetFails fault (set_items fonts current (flat_items fonts p))
 kern_err fonts current p h fault e k =
-    let after = current_after current (flat_item fonts p) in
+    let after = current_after_item current (flat_item fonts p) in
     fails_on fault (test_kern (kern_of p)) (set_items fonts current (flat_items fonts p)) k
     (λ f x. second_fails (set_item fonts current (flat_item fonts p)) h (set_items fonts after (kern_items (kern_of p))) f e (kern_fails fonts after (kern_of p) f x))
 
--- ---- behind what was set before
+-- ---- after what was set before
 
 pub half_values-append : (hs ks : List Half) → half_values (hs ++ ks) ≡ half_values hs ++ half_values ks
 half_values-append [] ks = refl
 half_values-append (h ∷ hs) ks = ap (λ r. half_value h ∷ r) (half_values-append hs ks)
 
-pub items_set : (fonts : SetValue) (current : Current) (there : List Half) (p : PassedElement) (h : Half) (rest : List FlatItem) → set_item fonts current (flat_item fonts p) ≡ Ok (half_value h) → test_kern (kern_of p) ≡ Ok tt → appended_to (half_values there) (set_items fonts current (flat_items fonts p ++ rest)) ≡ appended_to (half_values (there ++ h ∷ kern_halves (kern_of p))) (set_items fonts (current_after_all current (flat_items fonts p)) rest)
+pub items_set : (fonts : SetValue) (current : Current) (there : List Half) (p : PassedElement) (h : Half) (rest : List FlatItem) → set_item fonts current (flat_item fonts p) ≡ Ok (half_value h) → test_kern (kern_of p) ≡ Ok tt → appended_to (half_values there) (set_items fonts current (flat_items fonts p ++ rest)) ≡ appended_to (half_values (there ++ h ∷ kern_halves (kern_of p))) (set_items fonts (current_after_items current (flat_items fonts p)) rest)
 items_set fonts current there p h rest e k =
     let next = h ∷ kern_halves (kern_of p) in
     ap (λ s. appended_to (half_values there) s) (items_append fonts (flat_items fonts p) rest current)
-    ∙ behind_step (half_values there) (half_values (there ++ next)) (set_items fonts current (flat_items fonts p)) (set_items fonts (current_after_all current (flat_items fonts p)) rest)
+    ∙ appended_step (half_values there) (half_values (there ++ next)) (set_items fonts current (flat_items fonts p)) (set_items fonts (current_after_items current (flat_items fonts p)) rest)
     (ap (λ s. appended_to (half_values there) s) (passed_set fonts current p h e k) ∙ ap (λ xs. Ok xs) (sym (half_values-append there next)))
 
 pub items_fail : (fonts : SetValue) (current : Current) (there : List Half) (p : PassedElement) (rest : List FlatItem) (f : SettingFault) → set_items fonts current (flat_items fonts p) ≡ Err f → appended_to (half_values there) (set_items fonts current (flat_items fonts p ++ rest)) ≡ Err f
 items_fail fonts current there p rest f e =
     ap (λ s. appended_to (half_values there) s) (items_append fonts (flat_items fonts p) rest current)
-    ∙ behind_err (half_values there) (set_items fonts current (flat_items fonts p)) (set_items fonts (current_after_all current (flat_items fonts p)) rest) f e
+    ∙ appended_err (half_values there) (set_items fonts current (flat_items fonts p)) (set_items fonts (current_after_items current (flat_items fonts p)) rest) f e

@@ -32,7 +32,7 @@ pub mod InOrder
 pub mod Going
 -- both passes
 pub mod BothPasses
--- whole lists in the example fonts, worked
+-- whole lists in the toy fonts, worked
 mod cases
 -- atoms of each kind, and fractions
 pub mod kinds

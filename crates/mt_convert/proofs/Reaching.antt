@@ -3,7 +3,7 @@ use Rattle.std.proofs.Common.{◌≡◌, ◌≤◌, ◌≤ℤ◌, ◌^◌, subst
 use Rattle.std.proofs.lemmas.Int.{ints, clamps}
 use Rattle.std.specs.Int.{int_max}
 use Rattle.mt_convert.specs.declared.half.Half.{Half}
-use Rattle.mt_convert.specs.declared.settle.Reach.{Reach}
+use Rattle.mt_convert.specs.declared.set.settle.Reach.{Reach}
 use Rattle.mt_convert.specs.Halves.{greatest_height, greatest_depth, half_height, half_depth}
 use Rattle.mt_convert.specs.Halfway.{half_value, half_values, HalfFits, HalvesFit, count_of, total_of}
 use Rattle.mt_convert.proofs.Settling.{height_low, depth_low}

@@ -9,14 +9,14 @@ use Rattle.mt_rules.specs.declared.symbol.Glue.{Glue}
 use Rattle.mt_rules.specs.Facts.{NoBoundary, Inside, EndsWithRight, IsMathList}
 use Rattle.mt_rules.specs.Setting.{Setting, ◌>>=◌, test_value}
 use Rattle.mt_rules.specs.Sequence.{Sequence, Element, End, More, AtomElement, FractionElement, LeftElement, RightElement, StyleElement, ChoiceElement, MuSpaceElement, SpaceElement, MuKernElement, KernElement, NonscriptElement}
-use Rattle.mt_convert.specs.declared.current.Current.{Current}
+use Rattle.mt_convert.specs.declared.flat.current.Current.{Current}
 use Rattle.mt_convert.specs.declared.half.Half.{Half}
 use Rattle.mt_convert.specs.declared.half.Half.TheVariants as half
 use Rattle.mt_convert.specs.Flat.{list_for}
 use Rattle.mt_convert.specs.FirstPass.{set_item, make_space, glue_in_points}
 use Rattle.mt_convert.specs.Halves.{HalfValue, HalfAtom, HalfLeft, HalfRight, HalfStyle, HalfKern, HalfSpace, settled_halves}
 use Rattle.mt_convert.specs.Halfway.{half_value, half_values, MayEnd, BoundariesOutside}
-use Rattle.mt_convert.specs.inner.Boundaries.{Remains, GoesOn, IsOver, RestOfList, StartOfList, NoBoundaries, IsOpen, RestBehind}
+use Rattle.mt_convert.specs.inner.Boundaries.{Remains, GoesOn, IsOver, RestOfList, StartOfList, NoBoundaries, IsOpen, RestAfter}
 use Rattle.mt_convert.specs.inner.Lengths.{kern_halves}
 use Rattle.mt_convert.specs.inner.Turns.{PassedElement, PassedAtom, PassedFraction, PassedLeft, PassedRight, PassedStyle, PassedMuSpace, PassedSpace, PassedMuKern, PassedKern, PassesOne, RewritesTo, element_of_passed, flat_item, kern_of, append_list, turn_of}
 
@@ -129,23 +129,23 @@ choice_rest style a b c d taken s new e h f k =
 
 -- ---- items so far
 
-end_behind : (hs : List HalfValue) (delim : Delim) → NoBoundaries hs → MayEnd (hs ++ HalfRight delim ∷ [])
-end_behind [] delim h = refl
-end_behind (HalfAtom class row ∷ hs) delim h = end_behind hs delim h
-end_behind (HalfLeft d ∷ hs) delim h = absurd h
-end_behind (HalfRight d ∷ hs) delim h = absurd h
-end_behind (HalfStyle style ∷ hs) delim h = end_behind hs delim h
-end_behind (HalfKern amount ∷ hs) delim h = end_behind hs delim h
-end_behind (HalfSpace glue ∷ hs) delim h = end_behind hs delim h
+end_after : (hs : List HalfValue) (delim : Delim) → NoBoundaries hs → MayEnd (hs ++ HalfRight delim ∷ [])
+end_after [] delim h = refl
+end_after (HalfAtom class row ∷ hs) delim h = end_after hs delim h
+end_after (HalfLeft d ∷ hs) delim h = absurd h
+end_after (HalfRight d ∷ hs) delim h = absurd h
+end_after (HalfStyle style ∷ hs) delim h = end_after hs delim h
+end_after (HalfKern amount ∷ hs) delim h = end_after hs delim h
+end_after (HalfSpace glue ∷ hs) delim h = end_after hs delim h
 
-right_behind : (hs : List HalfValue) (delim : Delim) → IsOpen hs → BoundariesOutside (hs ++ HalfRight delim ∷ [])
-right_behind [] delim h = refl
-right_behind (HalfAtom class row ∷ hs) delim h = end_behind hs delim h
-right_behind (HalfLeft d ∷ hs) delim h = end_behind hs delim h
-right_behind (HalfRight d ∷ hs) delim h = absurd h
-right_behind (HalfStyle style ∷ hs) delim h = end_behind hs delim h
-right_behind (HalfKern amount ∷ hs) delim h = end_behind hs delim h
-right_behind (HalfSpace glue ∷ hs) delim h = end_behind hs delim h
+right_after : (hs : List HalfValue) (delim : Delim) → IsOpen hs → BoundariesOutside (hs ++ HalfRight delim ∷ [])
+right_after [] delim h = refl
+right_after (HalfAtom class row ∷ hs) delim h = end_after hs delim h
+right_after (HalfLeft d ∷ hs) delim h = end_after hs delim h
+right_after (HalfRight d ∷ hs) delim h = absurd h
+right_after (HalfStyle style ∷ hs) delim h = end_after hs delim h
+right_after (HalfKern amount ∷ hs) delim h = end_after hs delim h
+right_after (HalfSpace glue ∷ hs) delim h = end_after hs delim h
 
 no_boundaries_append : (hs ks : List HalfValue) → NoBoundaries hs → NoBoundaries ks → NoBoundaries (hs ++ ks)
 no_boundaries_append [] ks h k = k
@@ -232,7 +232,7 @@ start_again fonts current (MuKernElement amount) s s' u h g = rest_start s' (g h
 start_again fonts current (KernElement amount) s s' u h g = rest_start s' (g h)
 start_again fonts current NonscriptElement s s' u h g = rest_start s' (g h)
 
-rest_again : (fonts : SetValue) (current : Current) (hs : List HalfValue) (f : Element) (s s' : Sequence) → RewritesTo s' ≡ turn_of fonts current f s → RestBehind hs (More f s) → (RestOfList (More f s) → RestOfList s') → RestBehind hs s'
+rest_again : (fonts : SetValue) (current : Current) (hs : List HalfValue) (f : Element) (s s' : Sequence) → RewritesTo s' ≡ turn_of fonts current f s → RestAfter hs (More f s) → (RestOfList (More f s) → RestOfList s') → RestAfter hs s'
 rest_again fonts current [] f s s' u h g = start_again fonts current f s s' u h g
 rest_again fonts current (x ∷ hs) f s s' u h g = g h
 
@@ -265,7 +265,7 @@ first_passes fonts current (MuKernElement amount) s p s' u r g = AsRest (g r)
 first_passes fonts current (KernElement amount) s p s' u r g = AsRest (g r)
 first_passes fonts current NonscriptElement s p s' u r g = AsRest (g r)
 
-passes_as : (fonts : SetValue) (current : Current) (hs : List HalfValue) (f : Element) (s : Sequence) (p : PassedElement) (s' : Sequence) → PassesOne p s' ≡ turn_of fonts current f s → RestBehind hs (More f s) → (RestOfList (More f s) → RestOfList (More (element_of_passed p) s')) → PassesAs p s' hs
+passes_as : (fonts : SetValue) (current : Current) (hs : List HalfValue) (f : Element) (s : Sequence) (p : PassedElement) (s' : Sequence) → PassesOne p s' ≡ turn_of fonts current f s → RestAfter hs (More f s) → (RestOfList (More f s) → RestOfList (More (element_of_passed p) s')) → PassesAs p s' hs
 passes_as fonts current [] f s p s' u r g = first_passes fonts current f s p s' u r g
 passes_as fonts current (x ∷ hs) f s p s' u r g = AsRest (g r)
 
@@ -283,30 +283,30 @@ made_then_no_boundary (Err fault) next half h n e = absurd (cc)
 space_no_boundary : (glue : Glue) (h : HalfValue) → make_space glue ≡ Ok h → NoBoundaries (h ∷ [])
 space_no_boundary glue h e = made_then_no_boundary (test_value glue.width) (λ u. test_value glue.shrink) (λ u. HalfSpace glue) h (λ u. tt) e
 
-kern_behind : (h : Half) (kern : Option ℤ) → NoBoundaries (half_value h ∷ []) → NoBoundaries (half_values (h ∷ kern_halves kern))
-kern_behind (half.Set class row) None n = n
-kern_behind (half.Set class row) (Some amount) n = tt
-kern_behind (half.Left delim) None n = n
-kern_behind (half.Left delim) (Some amount) n = absurd n
-kern_behind (half.Right delim) None n = n
-kern_behind (half.Right delim) (Some amount) n = absurd n
-kern_behind (half.Style style) None n = n
-kern_behind (half.Style style) (Some amount) n = tt
-kern_behind (half.Kern k) None n = n
-kern_behind (half.Kern k) (Some amount) n = tt
-kern_behind (half.Space glue) None n = n
-kern_behind (half.Space glue) (Some amount) n = tt
+kern_after : (h : Half) (kern : Option ℤ) → NoBoundaries (half_value h ∷ []) → NoBoundaries (half_values (h ∷ kern_halves kern))
+kern_after (half.Set class row) None n = n
+kern_after (half.Set class row) (Some amount) n = tt
+kern_after (half.Left delim) None n = n
+kern_after (half.Left delim) (Some amount) n = absurd n
+kern_after (half.Right delim) None n = n
+kern_after (half.Right delim) (Some amount) n = absurd n
+kern_after (half.Style style) None n = n
+kern_after (half.Style style) (Some amount) n = tt
+kern_after (half.Kern k) None n = n
+kern_after (half.Kern k) (Some amount) n = tt
+kern_after (half.Space glue) None n = n
+kern_after (half.Space glue) (Some amount) n = tt
 
-rest_behind : (hs : List HalfValue) (s : Sequence) → RestOfList s → RestBehind hs s
-rest_behind [] s h = rest_start s h
-rest_behind (x ∷ hs) s h = h
+rest_after : (hs : List HalfValue) (s : Sequence) → RestOfList s → RestAfter hs s
+rest_after [] s h = rest_start s h
+rest_after (x ∷ hs) s h = h
 
 remains_inside : (hs : List HalfValue) (h : Half) (kern : Option ℤ) (s : Sequence) → IsOpen hs → RestOfList s → NoBoundaries (half_value h ∷ []) → Remains (hs ++ half_values (h ∷ kern_halves kern)) s
 remains_inside hs h kern s o l n =
-    GoesOn (open_append hs (half_values (h ∷ kern_halves kern)) o (kern_behind h kern n)) (rest_behind (hs ++ half_values (h ∷ kern_halves kern)) s l)
+    GoesOn (open_append hs (half_values (h ∷ kern_halves kern)) o (kern_after h kern n)) (rest_after (hs ++ half_values (h ∷ kern_halves kern)) s l)
 
 remains_right : (hs : List HalfValue) (h : Half) (s : Sequence) (delim : Delim) → IsOpen hs → s ≡ End → HalfRight delim ≡ half_value h → Remains (hs ++ half_value h ∷ []) s
-remains_right hs h s delim o e g = subst (λ x. Remains (hs ++ x ∷ []) s) g (IsOver (right_behind hs delim o) e)
+remains_right hs h s delim o e g = subst (λ x. Remains (hs ++ x ∷ []) s) g (IsOver (right_after hs delim o) e)
 
 remains_left : (hs : List HalfValue) (h : Half) (s : Sequence) (delim : Delim) → hs ≡ [] → RestOfList s → HalfLeft delim ≡ half_value h → Remains (hs ++ half_value h ∷ []) s
 remains_left hs h s delim e l g =

@@ -9,16 +9,16 @@ use Rattle.mt_rules.specs.declared.style.Style.{Style}
 use Rattle.mt_rules.specs.Styles.{size_of}
 use Rattle.mt_rules.specs.Setting.{◌>>=◌, make_row}
 use Rattle.mt_rules.specs.Delimiters.{boundary_size}
-use Rattle.mt_convert.specs.declared.current.Current.{Current}
+use Rattle.mt_convert.specs.declared.flat.current.Current.{Current}
 use Rattle.mt_convert.specs.declared.fault.SetFault.{SetFault}
 use Rattle.mt_convert.specs.declared.half.Half.{Half}
 use Rattle.mt_convert.specs.Current.{opening}
 use Rattle.mt_convert.specs.Halves.{HalfValue, class_to_left}
 use Rattle.mt_convert.specs.Calls.{SetFails}
 use Rattle.mt_convert.specs.Halfway.{half_value, half_values, RowFits, HalfFits, HalvesFit, AllMeet, MayMeet, count_of, total_of}
-use Rattle.mt_convert.specs.SecondPass.{all_pieces, half_pieces, current_past, row_of_halves, second_pass_of}
+use Rattle.mt_convert.specs.SecondPass.{all_pieces, half_pieces, current_after_half, row_of_halves, second_pass_of}
 use Rattle.mt_convert.specs.inner.Appending.{appended_to}
-use Rattle.mt_convert.proofs.Appending.{behind_nil, behind_end, behind_step, behind_err, fails_on}
+use Rattle.mt_convert.proofs.Appending.{appended_nil, appended_end, appended_step, appended_err, fails_on}
 use Rattle.mt_convert.proofs.Fitting.{fits_nil}
 
 -- the pieces of the whole list are those so far, and then those of the rest
@@ -30,7 +30,7 @@ pub record SoFar (fonts : SetValue) (size : Size) (wanted : ℤ) (style : Style)
 
 pub so_far_start : (fonts : SetValue) (size : Size) (wanted : ℤ) (style : Style) (whole rest : List Half) (pieces : List Piece) → AllMeet None (half_values whole) → length whole ≤ 2 ^ 19 → total_of whole ≤ 2 ^ 20 → rest ≡ whole → pieces ≡ [] → SoFar fonts size wanted style whole (record { style = style; last = None }) rest pieces
 so_far_start fonts size wanted style whole rest pieces meet few total e g = rw (e, g) (record {
-  whole_is = sym (behind_nil _);
+  whole_is = sym (appended_nil _);
   meet = meet;
   few = omega (arith, few, total);
   fits = λ n le k. (fits_nil n, k);
@@ -41,11 +41,11 @@ next_meets fonts size wanted style whole current rest pieces h rest' s e =
     let s' : SoFar fonts size wanted style whole current (h ∷ rest') pieces = subst (λ r. SoFar fonts size wanted style whole current r pieces) e s in
     s'.meet.0
 
-pub so_far_step : (fonts : SetValue) (size : Size) (wanted : ℤ) (style : Style) (whole : List Half) (current current' : Current) (rest : List Half) (pieces pieces' : List Piece) (h : Half) (rest' : List Half) → SoFar fonts size wanted style whole current rest pieces → rest ≡ h ∷ rest' → appended_to (piece_values pieces) (half_pieces fonts size wanted current (half_value h)) ≡ Ok (piece_values pieces') → current' ≡ current_past current (half_value h) → length pieces' ≤ length pieces + count_of h + 2 → ((n : ℕ) → 2 ≤ n → HalfFits n h → RowFits n pieces → RowFits n pieces') → SoFar fonts size wanted style whole current' rest' pieces'
+pub so_far_step : (fonts : SetValue) (size : Size) (wanted : ℤ) (style : Style) (whole : List Half) (current current' : Current) (rest : List Half) (pieces pieces' : List Piece) (h : Half) (rest' : List Half) → SoFar fonts size wanted style whole current rest pieces → rest ≡ h ∷ rest' → appended_to (piece_values pieces) (half_pieces fonts size wanted current (half_value h)) ≡ Ok (piece_values pieces') → current' ≡ current_after_half current (half_value h) → length pieces' ≤ length pieces + count_of h + 2 → ((n : ℕ) → 2 ≤ n → HalfFits n h → RowFits n pieces → RowFits n pieces') → SoFar fonts size wanted style whole current' rest' pieces'
 so_far_step fonts size wanted style whole current current' rest pieces pieces' h rest' s e made eq few fits =
     let s' : SoFar fonts size wanted style whole current (h ∷ rest') pieces = subst (λ r. SoFar fonts size wanted style whole current r pieces) e s in
     rw eq (record {
-      whole_is = s'.whole_is ∙ behind_step (piece_values pieces) (piece_values pieces') (half_pieces fonts size wanted current (half_value h)) (all_pieces fonts size wanted (current_past current (half_value h)) (half_values rest')) made;
+      whole_is = s'.whole_is ∙ appended_step (piece_values pieces) (piece_values pieces') (half_pieces fonts size wanted current (half_value h)) (all_pieces fonts size wanted (current_after_half current (half_value h)) (half_values rest')) made;
       meet = s'.meet.1;
       few = omega (arith, s'.few, few);
       fits = λ n le k. let g = s'.fits n le k in (fits n le g.1.0 g.0, g.1.1);
@@ -56,12 +56,12 @@ pub so_far_err : (fonts : SetValue) (size : Size) (wanted : ℤ) (style : Style)
 so_far_err fonts size wanted style whole current rest pieces h rest' e s eq fails =
     let s' : SoFar fonts size wanted style whole current (h ∷ rest') pieces = subst (λ r. SoFar fonts size wanted style whole current r pieces) eq s in
     fails_on e (half_pieces fonts size wanted current (half_value h)) (row_of_halves fonts size wanted style (half_values whole)) fails
-    (λ f k. ap (λ r. r >>= make_row) (s'.whole_is ∙ behind_err (piece_values pieces) (half_pieces fonts size wanted current (half_value h)) (all_pieces fonts size wanted (current_past current (half_value h)) (half_values rest')) f k))
+    (λ f k. ap (λ r. r >>= make_row) (s'.whole_is ∙ appended_err (piece_values pieces) (half_pieces fonts size wanted current (half_value h)) (all_pieces fonts size wanted (current_after_half current (half_value h)) (half_values rest')) f k))
 
 pub so_far_end : (fonts : SetValue) (size : Size) (wanted : ℤ) (style : Style) (whole : List Half) (current : Current) (rest : List Half) (pieces : List Piece) → SoFar fonts size wanted style whole current rest pieces → rest ≡ [] → row_of_halves fonts size wanted style (half_values whole) ≡ make_row (piece_values pieces)
 so_far_end fonts size wanted style whole current rest pieces s eq =
     let s' : SoFar fonts size wanted style whole current [] pieces = subst (λ r. SoFar fonts size wanted style whole current r pieces) eq s in
-    ap (λ r. r >>= make_row) (s'.whole_is ∙ behind_end (piece_values pieces))
+    ap (λ r. r >>= make_row) (s'.whole_is ∙ appended_end (piece_values pieces))
 
 -- what the finished row keeps
 pub record Finished (whole : List Half) (pieces : List Piece) : Type 0 where

@@ -10,7 +10,7 @@ use Rattle.mt_box.specs.Extents.{ExtentsInRange}
 use Rattle.mt_box.specs.Layout.{BoxValue}
 use Rattle.mt_scripts.specs.Reaches.{RowReachesWithin}
 use Rattle.mt_convert.specs.declared.fault.SetFault.{SetFault}
-use Rattle.mt_convert.specs.declared.nucleus.SetNucleus.{SetNucleus}
+use Rattle.mt_convert.specs.declared.set.nucleus.SetNucleus.{SetNucleus}
 use Rattle.mt_convert.specs.Halfway.{RowFits}
 use Rattle.mt_convert.specs.inner.Nucleus.{NucleusIsSmall, IsGlyphInRange}
 

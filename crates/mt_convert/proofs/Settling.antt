@@ -17,7 +17,7 @@ use Rattle.mt_convert.proofs.Remaining.{boundaries_settled}
 
 -- ---- from the right
 
--- the first class of these items, or else that of the next atom behind them
+-- the first class of these items, or else that of the next atom after them
 abbrev pub class_before : List Half → Option Class → Option Class
 class_before [] after = after
 class_before (h ∷ hs) after = option_or (class_to_left (half_value h)) (class_before hs after)

@@ -16,14 +16,14 @@ use Rattle.mt_rules.specs.Styles.{size_of, is_display_or_text}
 use Rattle.mt_rules.specs.Nuclei.{OrdinarySymbol, TextSymbol, SmartPair, is_empty}
 use Rattle.mt_rules.specs.Sequence.{Sequence, Element, Part, End, More, AtomElement, FractionElement, LeftElement, RightElement, StyleElement, ChoiceElement, MuSpaceElement, SpaceElement, MuKernElement, KernElement, NonscriptElement, EmptyPart, SymbolPart, ListPart, RowsPart, sequence_size, element_size}
 use Rattle.mt_rules.specs.Modest.{list_items, element_items, list_nesting, element_nesting, ListAmounts, ElementAmounts, IsAmount}
-use Rattle.mt_convert.specs.declared.current.Current.{Current}
-use Rattle.mt_convert.specs.declared.joining.SymbolPair.{SymbolPair}
+use Rattle.mt_convert.specs.declared.flat.current.Current.{Current}
+use Rattle.mt_convert.specs.declared.flat.joining.SymbolPair.{SymbolPair}
 use Rattle.mt_convert.specs.Contents.{MoreItems, StyleItem, append_items}
 use Rattle.mt_convert.specs.Joining.{is_ord_by_now, is_any_but_inner, content_symbol, first_symbol, symbol_of_item, next_symbol, symbol_pair, pair_of_fonts}
 use Rattle.mt_convert.specs.ListRow.{items_of, item_of, content_of}
-use Rattle.mt_convert.specs.Flat.{Passes, Rewrites, FlatSpace, turn, atom_turn, pair_turn, as_symbol, first_as_symbol, list_for, is_space_or_kern, without_space, after_nonscript, no_glue, current_after_all}
+use Rattle.mt_convert.specs.Flat.{Passes, Rewrites, FlatSpace, turn, atom_turn, pair_turn, as_symbol, first_as_symbol, list_for, is_space_or_kern, without_space, after_nonscript, no_glue, current_after_items}
 use Rattle.mt_convert.specs.inner.Fields.{atom_content}
-use Rattle.mt_convert.specs.inner.Turns.{PassedElement, PassedAtom, PassedFraction, PassedLeft, PassedRight, PassedStyle, PassedMuSpace, PassedSpace, PassedMuKern, PassedKern, ListTurn, PassesOne, RewritesTo, element_of_passed, append_list, part_symbol, is_empty_part, symbol_before, symbol_of_element, next_symbol_of, element_as_symbol, first_element_as, turn_by_pair, turn_of_atom, is_space_element, list_without_space, list_after_nonscript, turn_of, turn_meaning, flat_items, current_behind}
+use Rattle.mt_convert.specs.inner.Turns.{PassedElement, PassedAtom, PassedFraction, PassedLeft, PassedRight, PassedStyle, PassedMuSpace, PassedSpace, PassedMuKern, PassedKern, ListTurn, PassesOne, RewritesTo, element_of_passed, append_list, part_symbol, is_empty_part, symbol_before, symbol_of_element, next_symbol_of, element_as_symbol, first_element_as, turn_by_pair, turn_of_atom, is_space_element, list_without_space, list_after_nonscript, turn_of, turn_meaning, flat_items, current_after_passed}
 
 -- ---- in size, items, nesting and amounts
 
@@ -331,7 +331,7 @@ same_turn fonts current (MuKernElement amount) s = refl
 same_turn fonts current (KernElement amount) s = refl
 same_turn fonts current NonscriptElement s = ap (λ x. Passes (FlatSpace no_glue ∷ []) x) (same_nonscript fonts current.style s)
 
-pub same_current : (fonts : SetValue) (current : Current) (p : PassedElement) → current_after_all current (flat_items fonts p) ≡ current_behind current p
+pub same_current : (fonts : SetValue) (current : Current) (p : PassedElement) → current_after_items current (flat_items fonts p) ≡ current_after_passed current p
 same_current fonts current (PassedAtom kind limits nucleus sup sub role None) = refl
 same_current fonts current (PassedAtom kind limits nucleus sup sub role (Some amount)) = refl
 same_current fonts current (PassedFraction thickness left right num den) = refl

@@ -1,7 +1,7 @@
 -- Where a list begins (`opening`): in its style, and with no atom before.
 use Rattle.std.specs.Prelude.{None}
 use Rattle.mt_rules.specs.declared.style.Style.{Style}
-use Rattle.mt_convert.specs.declared.current.Current.{Current}
+use Rattle.mt_convert.specs.declared.flat.current.Current.{Current}
 
 abbrev pub opening : Style → Current
 opening style = record { style = style; last = None }

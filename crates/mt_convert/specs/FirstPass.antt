@@ -11,10 +11,10 @@ use Rattle.mt_rules.specs.Classes.{kind_class, forward_of}
 use Rattle.mt_rules.specs.Setting.{Setting, ◌>>=◌, ◌>>◌, test_value}
 use Rattle.mt_rules.specs.Parameters.{quad}
 use Rattle.mt_rules.specs.AtomRow.{atom_row, fraction_row}
-use Rattle.mt_convert.specs.declared.current.Current.{Current}
+use Rattle.mt_convert.specs.declared.flat.current.Current.{Current}
 use Rattle.mt_convert.specs.Current.{opening}
 use Rattle.mt_convert.specs.Contents.{ItemContents}
-use Rattle.mt_convert.specs.Flat.{FlatItem, FlatAtom, FlatFraction, FlatLeft, FlatRight, FlatStyle, FlatMuSpace, FlatSpace, FlatMuKern, FlatKern, current_after, flat}
+use Rattle.mt_convert.specs.Flat.{FlatItem, FlatAtom, FlatFraction, FlatLeft, FlatRight, FlatStyle, FlatMuSpace, FlatSpace, FlatMuKern, FlatKern, current_after_item, flat}
 use Rattle.mt_convert.specs.Halves.{HalfValue, HalfAtom, HalfLeft, HalfRight, HalfStyle, HalfKern, HalfSpace, Halves, settle}
 
 -- ---- spaces and kerns
@@ -63,7 +63,7 @@ abbrev pub set_items : SetValue → Current → List FlatItem → Setting (List 
 set_items fonts current [] = Ok []
 set_items fonts current (item ∷ items) = do
   half ← set_item fonts current item
-  halves ← set_items fonts (current_after current item) items
+  halves ← set_items fonts (current_after_item current item) items
   Ok (half ∷ halves)
 
 -- then the classes are settled, and the atoms measured

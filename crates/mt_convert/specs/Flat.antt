@@ -17,9 +17,9 @@ use Rattle.mt_rules.specs.Styles.{size_of, is_display_or_text}
 use Rattle.mt_rules.specs.Classes.{kind_class, forward_of}
 use Rattle.mt_rules.specs.Nuclei.{SymbolContent, SymbolRole, OrdinarySymbol, TextSymbol, SmartPair}
 use Rattle.mt_rules.specs.AtomRow.{AtomContent, FractionContent}
-use Rattle.mt_convert.specs.declared.current.Current.{Current}
+use Rattle.mt_convert.specs.declared.flat.current.Current.{Current}
 use Rattle.mt_convert.specs.Contents.{ItemContent, AtomItem, FractionItem, LeftItem, RightItem, StyleItem, ChoiceItem, MuSpaceItem, SpaceItem, MuKernItem, KernItem, NonscriptItem, ItemContents, NoItems, MoreItems, append_items}
-use Rattle.mt_convert.specs.declared.joining.SymbolPair.{SymbolPair}
+use Rattle.mt_convert.specs.declared.flat.joining.SymbolPair.{SymbolPair}
 use Rattle.mt_convert.specs.Joining.{pair_with_next, pair_of_fonts}
 
 -- An item of the flat list. There are no choices and no conditional spaces among them.
@@ -37,20 +37,20 @@ pub data FlatItem : Type 0 where
 
 -- ---- what an item changes for those after it
 
-abbrev pub style_after : Style → FlatItem → Style
-style_after style (FlatStyle next) = next
-style_after style _ = style
+abbrev pub style_after_item : Style → FlatItem → Style
+style_after_item style (FlatStyle next) = next
+style_after_item style _ = style
 
 -- an atom counts by the class that it has got from the left
-abbrev pub class_after : Option Class → FlatItem → Option Class
-class_after last (FlatAtom role a) = Some (forward_of last (kind_class a.kind))
-class_after last (FlatFraction f) = Some Inner
-class_after last (FlatLeft delim) = Some Open
-class_after last (FlatRight delim) = Some Close
-class_after last _ = last
+abbrev pub class_after_item : Option Class → FlatItem → Option Class
+class_after_item last (FlatAtom role a) = Some (forward_of last (kind_class a.kind))
+class_after_item last (FlatFraction f) = Some Inner
+class_after_item last (FlatLeft delim) = Some Open
+class_after_item last (FlatRight delim) = Some Close
+class_after_item last _ = last
 
-abbrev pub current_after : Current → FlatItem → Current
-current_after current item = record { style = style_after current.style item; last = class_after current.last item }
+abbrev pub current_after_item : Current → FlatItem → Current
+current_after_item current item = record { style = style_after_item current.style item; last = class_after_item current.last item }
 
 -- ---- one turn, at the front of a list
 
@@ -132,12 +132,12 @@ turn fonts current NonscriptItem rest = passes (FlatSpace no_glue) (after_nonscr
 
 -- ---- turn by turn
 
-abbrev pub current_after_all : Current → List FlatItem → Current
-current_after_all current [] = current
-current_after_all current (item ∷ items) = current_after_all (current_after current item) items
+abbrev pub current_after_items : Current → List FlatItem → Current
+current_after_items current [] = current
+current_after_items current (item ∷ items) = current_after_items (current_after_item current item) items
 
 abbrev pub flat_by : (Current → ItemContents → List FlatItem) → Current → FrontTurn → List FlatItem
-flat_by next current (Passes items rest) = items ++ next (current_after_all current items) rest
+flat_by next current (Passes items rest) = items ++ next (current_after_items current items) rest
 flat_by next current (Rewrites rest) = next current rest
 
 -- In so many turns: each turn makes less of a list, so as many as its size are enough.

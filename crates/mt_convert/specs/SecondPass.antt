@@ -14,7 +14,7 @@ use Rattle.mt_rules.specs.Styles.{size_of}
 use Rattle.mt_rules.specs.Spaces.{Spacing, NoSpacing, ThinSpacing, MediumSpacing, ThickSpacing, spacing, spacing_glue}
 use Rattle.mt_rules.specs.Setting.{Setting, ◌>>=◌, make_row}
 use Rattle.mt_rules.specs.Delimiters.{delimiter, piece_on_axis, boundary_size}
-use Rattle.mt_convert.specs.declared.current.Current.{Current}
+use Rattle.mt_convert.specs.declared.flat.current.Current.{Current}
 use Rattle.mt_convert.specs.Current.{opening}
 use Rattle.mt_convert.specs.Halves.{HalfValue, HalfAtom, HalfLeft, HalfRight, HalfStyle, HalfKern, HalfSpace, Halves, class_to_right}
 use Rattle.mt_convert.specs.FirstPass.{math_unit}
@@ -42,13 +42,13 @@ space_before fonts current right = pieces_between fonts current.style current.la
 
 -- ---- the pieces of an item
 
-abbrev pub style_past : Style → HalfValue → Style
-style_past style (HalfStyle next) = next
-style_past style _ = style
+abbrev pub style_after_half : Style → HalfValue → Style
+style_after_half style (HalfStyle next) = next
+style_after_half style _ = style
 
-abbrev pub current_past : Current → HalfValue → Current
-current_past current half =
-    record { style = style_past current.style half; last = option_or (class_to_right half) current.last }
+abbrev pub current_after_half : Current → HalfValue → Current
+current_after_half current half =
+    record { style = style_after_half current.style half; last = option_or (class_to_right half) current.last }
 
 -- a delimiter of the wanted size at this size, in the middle of the axis
 abbrev pub boundary_piece : SetValue → Size → ℤ → Delim → Setting PieceValue
@@ -75,7 +75,7 @@ abbrev pub all_pieces : SetValue → Size → ℤ → Current → List HalfValue
 all_pieces fonts size wanted current [] = Ok []
 all_pieces fonts size wanted current (half ∷ halves) = do
   pieces ← half_pieces fonts size wanted current half
-  rest ← all_pieces fonts size wanted (current_past current half) halves
+  rest ← all_pieces fonts size wanted (current_after_half current half) halves
   Ok (pieces ++ rest)
 
 -- the finished row is tested last

@@ -18,7 +18,7 @@ pub mod Lengths
 pub mod Settling
 -- what a call inside the crate answers
 pub mod Answers
--- the nucleus of each kind
-pub mod Kinds
+-- the steps in which an atom is built
+pub mod AtomSteps
 -- how an atom is built
 pub mod Forms

@@ -1,29 +1,16 @@
 //! Math lists converted to rows (The TeXbook, Appendix G; tex.web, sections 719 to 767).
 #![tactic(auto)]
 
-mod boundary;
-mod clean;
-mod current;
 mod fault;
-mod form;
+mod flat;
 mod half;
 mod halfway;
-mod joining;
-mod lengths;
 mod list;
-mod nucleus;
-mod parts;
-mod passed;
-mod pieces;
-mod scripts;
 mod second;
-mod settle;
-mod space;
-mod turn;
-mod worklist;
+mod set;
 
 pub use fault::SetFault;
 pub use half::{Half, HalfList};
 pub use halfway::Halfway;
 pub use list::{first_pass, set_list};
-pub use second::second_pass;
+pub use second::pass::second_pass;

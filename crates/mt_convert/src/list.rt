@@ -15,30 +15,33 @@ ghost use Rattle.mt_convert.specs.Holding.{RowHolds};
 ghost use Rattle.mt_convert.specs.ListRow.{halves_of, list_row, rows_by_style};
 ghost use Rattle.mt_convert.specs.inner.Answers.{HalfReachInRange, ReachInRange, SetsBox, SetsBoxes, SetsHalf, SetsNucleus, SetsOperator, SetsScript};
 ghost use Rattle.mt_convert.specs.inner.Fields.{atom_row_of, field_content, fraction_row_of, list_content};
-ghost use Rattle.mt_convert.specs.inner.Kinds.{accent_part, class_nucleus, kind_nucleus, operator_box, row_with_fields, row_with_limits};
+ghost use Rattle.mt_convert.specs.inner.AtomSteps.{accent_part, class_nucleus, kind_nucleus, operator_box, row_with_fields, row_with_limits};
 ghost use Rattle.mt_convert.specs.inner.Modest.{IsModestElement, IsModestPart, IsModestRows, ScriptLevels};
 ghost use Rattle.mt_convert.specs.inner.Nucleus.{NucleusIsSmall, nucleus_value, operator_value};
 ghost use Rattle.mt_convert.specs.inner.Turns.{element_of_passed, flat_item, passed_value, role_value};
 
 use crate::SetFault;
-use crate::clean::{clean_symbol, cleaned, empty_box, find, packed};
-use crate::current::{Current, kind_class};
-use crate::form::{AtomForm, class_nucleus, form_of, part_nucleus, part_operator};
+use crate::flat::current::{Current, kind_class};
+use crate::flat::joining::is_empty;
+use crate::flat::passed::{JoiningRole, Passed};
+use crate::flat::turn::turn;
+use crate::flat::worklist::Worklist;
 use crate::half::Half;
 use crate::halfway::Halfway;
-use crate::joining::is_empty;
-use crate::lengths::{glue_in_points, in_points, make_kern, make_space, push_with_kern};
-use crate::nucleus::{
+use crate::second::pass::second_pass;
+use crate::set::clean::{clean_symbol, cleaned, empty_box, find_symbol, packed};
+use crate::set::form::{AtomForm, class_nucleus, form_of, part_nucleus, part_operator};
+use crate::set::lengths::{glue_in_points, in_points, make_kern, make_space, push_with_kern};
+use crate::set::nucleus::{
     SetNucleus, SetOperator, box_nucleus, empty_nucleus, operator_nucleus, symbol_nucleus,
     symbol_operator,
 };
-use crate::parts::{accent, field_skew, fraction, overline, radical, skew_of, underline, vcenter};
-use crate::passed::{JoiningRole, Passed};
-use crate::scripts::{box_row, with_limits, with_scripts};
-use crate::second::second_pass;
-use crate::settle::finish;
-use crate::turn::turn;
-use crate::worklist::Worklist;
+use crate::set::parts::{
+    accent, field_skew, fraction, overline, radical, skew_of, underline, vcenter,
+};
+use crate::set::row::box_row;
+use crate::set::scripts::{with_limits, with_scripts};
+use crate::set::settle::finish;
 use mt_box::{Packed, Row};
 use mt_family::FontSet;
 use mt_rules::{
@@ -115,7 +118,7 @@ pub fn first_pass(
     let mut current = Current { style, last: None };
     while let Some(front) = rest.pop() {
         if let Some(passed) = turn(fonts, current, front, &mut rest)? {
-            let next = current.behind(&passed);
+            let next = current.after_passed(&passed);
             let kern = passed.kern();
             let half = set_item(alloc, fonts, current, passed)?;
             push_with_kern(&mut halves, half, kern)?;
@@ -463,7 +466,7 @@ fn set_accent(
     ensures is { SetsBox result (accent_part fonts.now style symbol (field_content fonts.now field)) }
     ensures level { IfOk result (λ b. b.level ≤ 12 * part_nesting (part_of_field field) + 3) }
 {
-    let number = find(fonts, style.size(), symbol)?;
+    let number = find_symbol(fonts, style.size(), symbol)?;
     let skew = field_skew(fonts, style.size(), &field);
     let plain = clean_field(alloc, fonts, style.cramped(), field)?;
     let extents = plain.extents();
@@ -498,7 +501,7 @@ fn set_accent_inside(
     ensures fits { IfOk result (λ row. (n : ℕ) → ScriptLevels n (part_of_field sup) (part_of_field sub) → RowFits (n + 4) row) }
     ensures reach { IfOk result ReachInRange }
 {
-    let number = find(fonts, style.size(), accent_symbol)?;
+    let number = find_symbol(fonts, style.size(), accent_symbol)?;
     let plain = clean_symbol(alloc, fonts, style.cramped(), symbol)?.extents();
     let has_subscript = !is_empty(&sub);
     let nucleus = symbol_nucleus(

@@ -174,26 +174,26 @@ module _ (fonts : SetValue) where
       let once : GlyphsHold font (replicate 1 c) = subst (λ k. GlyphsHold font (replicate k c)) one h in
       repeats_hold font c (suc n) once.0
 
-  behind_often : (font c n : ℕ) (ds es : List ℕ) → (GlyphsHold font ds → GlyphsHold font es) → GlyphsHold font (replicate (min n 1) c ++ ds) → GlyphsHold font (replicate n c ++ es)
-  behind_often font c n ds es k h =
+  after_often : (font c n : ℕ) (ds es : List ℕ) → (GlyphsHold font ds → GlyphsHold font es) → GlyphsHold font (replicate (min n 1) c ++ ds) → GlyphsHold font (replicate n c ++ es)
+  after_often font c n ds es k h =
       let parts = hold_apart font (replicate (min n 1) c) ds h in
       hold_append font (replicate n c) es (often font c n parts.0) (k parts.1)
 
-  behind_same : (font : ℕ) (cs ds es : List ℕ) → (GlyphsHold font ds → GlyphsHold font es) → GlyphsHold font (cs ++ ds) → GlyphsHold font (cs ++ es)
-  behind_same font cs ds es k h = let parts = hold_apart font cs ds h in hold_append font cs es parts.0 (k parts.1)
+  after_same : (font : ℕ) (cs ds es : List ℕ) → (GlyphsHold font ds → GlyphsHold font es) → GlyphsHold font (cs ++ ds) → GlyphsHold font (cs ++ es)
+  after_same font cs ds es k h = let parts = hold_apart font cs ds h in hold_append font cs es parts.0 (k parts.1)
 
   pieces_often_by : (font : ℕ) (top middle bottom : List ℕ) (c n : ℕ) (b : Bool)
       → GlyphsHold font (if b then top ++ (replicate (min n 1) c ++ bottom) else top ++ (replicate (min n 1) c ++ (middle ++ (replicate (min n 1) c ++ bottom))))
       → GlyphsHold font (if b then top ++ (replicate n c ++ bottom) else top ++ (replicate n c ++ (middle ++ (replicate n c ++ bottom))))
   pieces_often_by font top middle bottom c n true h =
-      behind_same font top (replicate (min n 1) c ++ bottom) (replicate n c ++ bottom) (behind_often font c n bottom bottom (λ k. k)) h
+      after_same font top (replicate (min n 1) c ++ bottom) (replicate n c ++ bottom) (after_often font c n bottom bottom (λ k. k)) h
   pieces_often_by font top middle bottom c n false h =
       let once = replicate (min n 1) c in
       let all = replicate n c in
-      behind_same font top (once ++ (middle ++ (once ++ bottom))) (all ++ (middle ++ (all ++ bottom)))
-      (behind_often font c n (middle ++ (once ++ bottom)) (middle ++ (all ++ bottom))
-      (behind_same font middle (once ++ bottom) (all ++ bottom)
-      (behind_often font c n bottom bottom (λ k. k)))) h
+      after_same font top (once ++ (middle ++ (once ++ bottom))) (all ++ (middle ++ (all ++ bottom)))
+      (after_often font c n (middle ++ (once ++ bottom)) (middle ++ (all ++ bottom))
+      (after_same font middle (once ++ bottom) (all ++ bottom)
+      (after_often font c n bottom bottom (λ k. k)))) h
 
   pieces_often : (font : ℕ) (r : Recipe) (n : ℕ) → GlyphsHold font (recipe_pieces r (min n 1)) → GlyphsHold font (recipe_pieces r n)
   pieces_often font r n h = pieces_often_by font (recipe_piece r.top) (recipe_piece r.middle) (recipe_piece r.bottom) r.repeat n (r.middle == 0) h

@@ -15,12 +15,12 @@ use Rattle.mt_rules.specs.Styles.{size_of, is_display_or_text}
 use Rattle.mt_rules.specs.Classes.{kind_class, forward_of}
 use Rattle.mt_rules.specs.Setting.{◌>>=◌, ◌>>◌, test_value}
 use Rattle.mt_rules.specs.AtomRow.{AtomContent, atom_row, fraction_row}
-use Rattle.mt_convert.specs.declared.current.Current.{Current}
+use Rattle.mt_convert.specs.declared.flat.current.Current.{Current}
 use Rattle.mt_convert.specs.Current.{opening}
 use Rattle.mt_convert.specs.Contents.{ItemContent, AtomItem, FractionItem, LeftItem, RightItem, StyleItem, ChoiceItem, MuSpaceItem, SpaceItem, MuKernItem, KernItem, NonscriptItem, ItemContents, NoItems, MoreItems, append_items}
-use Rattle.mt_convert.specs.declared.joining.SymbolPair.{SymbolPair}
+use Rattle.mt_convert.specs.declared.flat.joining.SymbolPair.{SymbolPair}
 use Rattle.mt_convert.specs.Joining.{pair_with_next, pair_of_fonts}
-use Rattle.mt_convert.specs.Flat.{FlatItem, FlatAtom, FlatFraction, FlatLeft, FlatRight, FlatStyle, FlatMuSpace, FlatSpace, FlatMuKern, FlatKern, current_after, FrontTurn, Passes, Rewrites, as_symbol, first_as_symbol, pair_turn, atom_turn, list_for, is_space_or_kern, without_space, turn, current_after_all, flat_by, flat}
+use Rattle.mt_convert.specs.Flat.{FlatItem, FlatAtom, FlatFraction, FlatLeft, FlatRight, FlatStyle, FlatMuSpace, FlatSpace, FlatMuKern, FlatKern, current_after_item, FrontTurn, Passes, Rewrites, as_symbol, first_as_symbol, pair_turn, atom_turn, list_for, is_space_or_kern, without_space, turn, current_after_items, flat_by, flat}
 use Rattle.mt_convert.specs.Halves.{HalfValue, HalfAtom, HalfLeft, HalfRight, HalfStyle, HalfKern, HalfSpace, Halves, next_class, settled_half, settled_halves, settle}
 use Rattle.mt_convert.specs.FirstPass.{in_points, glue_in_points, make_space, make_kern, set_item, set_items, first_pass_of}
 use Rattle.mt_convert.specs.Holding.{RowHolds}
@@ -148,7 +148,7 @@ module _ (fonts : SetValue) where
 
   by_turn : (turns : ℕ) → ((current : Current) (items : ItemContents) → ItemsHold items → FlatsHold (flat fonts turns current items)) → (current : Current) (t : FrontTurn) → TurnHolds t → FlatsHold (flat_by (flat fonts turns) current t)
   by_turn turns next current (Passes items rest) h =
-      flats_append items (flat fonts turns (current_after_all current items) rest) h.0 (next (current_after_all current items) rest h.1)
+      flats_append items (flat fonts turns (current_after_items current items) rest) h.0 (next (current_after_items current items) rest h.1)
   by_turn turns next current (Rewrites rest) h = next current rest h
 
   flat_holds : (turns : ℕ) (current : Current) (items : ItemContents) → ItemsHold items → FlatsHold (flat fonts turns current items)
@@ -198,10 +198,10 @@ module _ (fonts : SetValue) where
   items_set [] current sound h = tt
   items_set (item ∷ items) current sound h =
       step_holds HalfHolds HalvesHold (set_item fonts current item)
-      (λ half. set_items fonts (current_after current item) items >>= (λ halves. Ok (half ∷ halves)))
+      (λ half. set_items fonts (current_after_item current item) items >>= (λ halves. Ok (half ∷ halves)))
       (item_set current item sound h.0)
-      (λ half x. step_holds HalvesHold HalvesHold (set_items fonts (current_after current item) items) (λ halves. Ok (half ∷ halves))
-      (items_set items (current_after current item) sound h.1) (λ halves y. (x, y)))
+      (λ half x. step_holds HalvesHold HalvesHold (set_items fonts (current_after_item current item) items) (λ halves. Ok (half ∷ halves))
+      (items_set items (current_after_item current item) sound h.1) (λ halves y. (x, y)))
 
   settled_half_holds : (half : HalfValue) (after : Option Class) → HalfHolds half → HalfHolds (settled_half half after)
   settled_half_holds (HalfAtom class row) after h = h

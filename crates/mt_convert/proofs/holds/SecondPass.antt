@@ -11,11 +11,11 @@ use Rattle.mt_rules.specs.Styles.{size_of}
 use Rattle.mt_rules.specs.Spaces.{Spacing, NoSpacing, ThinSpacing, MediumSpacing, ThickSpacing, spacing}
 use Rattle.mt_rules.specs.Setting.{◌>>=◌, make_row}
 use Rattle.mt_rules.specs.Delimiters.{delimiter, piece_on_axis, boundary_size}
-use Rattle.mt_convert.specs.declared.current.Current.{Current}
+use Rattle.mt_convert.specs.declared.flat.current.Current.{Current}
 use Rattle.mt_convert.specs.Current.{opening}
 use Rattle.mt_convert.specs.Halves.{HalfValue, HalfAtom, HalfLeft, HalfRight, HalfStyle, HalfKern, HalfSpace, Halves}
 use Rattle.mt_convert.specs.FirstPass.{math_unit}
-use Rattle.mt_convert.specs.SecondPass.{spacing_pieces, pieces_between, space_before, current_past, boundary_piece, boundary_pieces, half_pieces, all_pieces, row_of_halves, second_pass_of}
+use Rattle.mt_convert.specs.SecondPass.{spacing_pieces, pieces_between, space_before, current_after_half, boundary_piece, boundary_pieces, half_pieces, all_pieces, row_of_halves, second_pass_of}
 use Rattle.mt_convert.specs.Holding.{LayoutHolds, PieceHolds, RowHolds}
 use Rattle.mt_convert.proofs.holds.Steps.{step_holds, row_made}
 use Rattle.mt_convert.proofs.holds.Boxes.{row_holds_append}
@@ -56,10 +56,10 @@ module _ (fonts : SetValue) where
   all_hold [] size wanted current sound h = tt
   all_hold (half ∷ halves) size wanted current sound h =
       step_holds (RowHolds fonts) (RowHolds fonts) (half_pieces fonts size wanted current half)
-      (λ row. all_pieces fonts size wanted (current_past current half) halves >>= (λ rest. Ok (row ++ rest)))
+      (λ row. all_pieces fonts size wanted (current_after_half current half) halves >>= (λ rest. Ok (row ++ rest)))
       (half_row size wanted current half sound h.0)
-      (λ row x. step_holds (RowHolds fonts) (RowHolds fonts) (all_pieces fonts size wanted (current_past current half) halves) (λ rest. Ok (row ++ rest))
-      (all_hold halves size wanted (current_past current half) sound h.1)
+      (λ row x. step_holds (RowHolds fonts) (RowHolds fonts) (all_pieces fonts size wanted (current_after_half current half) halves) (λ rest. Ok (row ++ rest))
+      (all_hold halves size wanted (current_after_half current half) sound h.1)
       (λ rest y. row_holds_append fonts row rest x y))
 
   row_of_halves_holds : (size : Size) (wanted : ℤ) (style : Style) (halves : List HalfValue) → AreSound fonts → HalvesHold fonts halves → IfOk (row_of_halves fonts size wanted style halves) (RowHolds fonts)

@@ -9,7 +9,7 @@ use Rattle.mt_box.specs.Rows.{PieceValue, pack}
 use Rattle.mt_rules.specs.Setting.{Setting, Overflow, ◌>>=◌, ◌>>◌, pass_unless, test_value, test_extents, test_rule, make_box, make_row}
 use Rattle.mt_rules.proofs.Answering.{in_range, extents_in_range}
 
--- what a step answers, and what the steps behind it do with it
+-- what a step answers, and what the steps after it do with it
 pub step_holds : {A B : Type 0} (P : A → Type 0) (Q : B → Type 0) (s : Setting A) (next : A → Setting B) → IfOk s P → ((a : A) → P a → IfOk (next a) Q) → IfOk (s >>= next) Q
 step_holds P Q (Ok a) next h k = k a h
 step_holds P Q (Err fault) next h k = tt

@@ -16,7 +16,7 @@ use Rattle.mt_rules.specs.Accents.{accent}
 use Rattle.mt_rules.specs.AtomRow.{accent_inside, content_skew}
 use Rattle.mt_convert.specs.declared.fault.SetFault.{SetFault}
 use Rattle.mt_convert.specs.Calls.{SetFails}
-use Rattle.mt_convert.specs.inner.Kinds.{accent_part, row_with_fields}
+use Rattle.mt_convert.specs.inner.AtomSteps.{accent_part, row_with_fields}
 use Rattle.mt_convert.proofs.Appending.{fails_then}
 use Rattle.mt_convert.proofs.kinds.Chains.{first_made}
 

@@ -18,11 +18,11 @@ use Rattle.mt_rules.specs.Nuclei.{Content, SymbolContent, SymbolRole, Nucleus, i
 use Rattle.mt_rules.specs.Operators.{uses_limits}
 use Rattle.mt_rules.specs.Accents.{accent}
 use Rattle.mt_rules.specs.AtomRow.{accent_by_scripts, accent_inside, atom_row, box_nucleus, content_skew, nucleus_under_limits, operator_by_limits}
-use Rattle.mt_convert.specs.declared.form.AtomForm.TheVariants as form
+use Rattle.mt_convert.specs.declared.set.form.AtomForm.TheVariants as form
 use Rattle.mt_convert.specs.ListRow.{content_of}
 use Rattle.mt_convert.specs.inner.Fields.{atom_content}
 use Rattle.mt_convert.specs.inner.Forms.{form_of}
-use Rattle.mt_convert.specs.inner.Kinds.{BoxWithItalic, as_nucleus, kind_nucleus, operator_box, row_with_fields, row_with_limits}
+use Rattle.mt_convert.specs.inner.AtomSteps.{BoxWithItalic, as_nucleus, kind_nucleus, operator_box, row_with_fields, row_with_limits}
 use Rattle.mt_convert.specs.inner.Turns.{is_empty_part}
 use Rattle.mt_convert.proofs.Turning.{same_empty}
 

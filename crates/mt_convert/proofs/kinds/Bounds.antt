@@ -7,7 +7,7 @@ use Rattle.mt_rules.specs.declared.kind.Limits.{Limits}
 use Rattle.mt_rules.specs.declared.symbol.Delim.{Delim}
 use Rattle.mt_rules.specs.Sequence.{Sequence, Part, Rows, AtomElement, FractionElement, ListPart, RowsPart, MoreRows}
 use Rattle.mt_rules.specs.Modest.{IsModestList, ThicknessAmount}
-use Rattle.mt_convert.specs.declared.nucleus.SetNucleus.{SetNucleus}
+use Rattle.mt_convert.specs.declared.set.nucleus.SetNucleus.{SetNucleus}
 use Rattle.mt_convert.specs.Halfway.{RowFits}
 use Rattle.mt_convert.specs.inner.Modest.{IsModestElement, IsModestPart, IsModestRows}
 use Rattle.mt_convert.specs.inner.Nucleus.{NucleusIsSmall}

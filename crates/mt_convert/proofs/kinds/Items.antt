@@ -12,11 +12,11 @@ use Rattle.mt_rules.specs.declared.class.Class.TheVariants.{Inner}
 use Rattle.mt_rules.specs.Classes.{kind_class, forward_of}
 use Rattle.mt_rules.specs.Setting.{Setting, ◌>>=◌}
 use Rattle.mt_box.specs.Rows.{PieceValue}
-use Rattle.mt_convert.specs.declared.current.Current.{Current}
+use Rattle.mt_convert.specs.declared.flat.current.Current.{Current}
 use Rattle.mt_convert.specs.declared.fault.SetFault.{SetFault}
 use Rattle.mt_convert.specs.declared.half.Half.{Half}
 use Rattle.mt_convert.specs.declared.half.Half.TheVariants as half
-use Rattle.mt_convert.specs.declared.passed.JoiningRole.{JoiningRole}
+use Rattle.mt_convert.specs.declared.flat.passed.JoiningRole.{JoiningRole}
 use Rattle.mt_convert.specs.Calls.{SetFails}
 use Rattle.mt_convert.specs.FirstPass.{set_item}
 use Rattle.mt_convert.specs.Halfway.{count_of}

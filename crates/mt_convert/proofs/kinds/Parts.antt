@@ -21,7 +21,7 @@ use Rattle.mt_convert.specs.Calls.{SetFails}
 use Rattle.mt_convert.specs.ListRow.{list_row, halves_of, content_of}
 use Rattle.mt_convert.specs.inner.Fields.{list_content}
 use Rattle.mt_convert.specs.inner.Forms.{as_operator}
-use Rattle.mt_convert.specs.inner.Kinds.{BoxWithItalic, class_nucleus, operator_box}
+use Rattle.mt_convert.specs.inner.AtomSteps.{BoxWithItalic, class_nucleus, operator_box}
 use Rattle.mt_convert.specs.inner.Turns.{is_empty_part}
 use Rattle.mt_convert.proofs.Appending.{fails_then}
 use Rattle.mt_convert.proofs.Turning.{same_empty}

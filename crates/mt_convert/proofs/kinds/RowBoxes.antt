@@ -24,7 +24,7 @@ use Rattle.mt_convert.specs.Calls.{SetFails}
 use Rattle.mt_convert.specs.ListRow.{content_of, list_row, rows_by_style}
 use Rattle.mt_convert.specs.inner.Appending.{appended_to}
 use Rattle.mt_convert.specs.inner.Modest.{IsModestRows}
-use Rattle.mt_convert.proofs.Appending.{behind_nil, behind_end, fails_then}
+use Rattle.mt_convert.proofs.Appending.{appended_nil, appended_end, fails_then}
 use Rattle.mt_convert.proofs.kinds.Bounds.{first_row, other_rows}
 use Rattle.mt_convert.proofs.kinds.Chains.{first_made}
 use Rattle.mt_convert.proofs.kinds.Parts.{list_made, list_fails}
@@ -40,7 +40,7 @@ pub record RowsSoFar (fonts : SetValue) (whole : Rows) (rest : List Sequence) (b
 
 pub rows_start : (fonts : SetValue) (whole : Rows) (rest items : List Sequence) (boxes : List BoxValue) → IsModestRows whole → rest ≡ items → rows_of items ≡ whole → boxes ≡ [] → RowsSoFar fonts whole rest boxes
 rows_start fonts whole rest items boxes modest e f g = rw (e, g) (rw (sym f) (record {
-  whole_is = sym (behind_nil _);
+  whole_is = sym (appended_nil _);
   few = omega arith;
   size = omega arith;
   nesting = omega arith;
@@ -54,9 +54,9 @@ next_row fonts whole rest boxes list rest' h e = first_row list (rows_of rest') 
 pub next_size : (fonts : SetValue) (whole : Rows) (rest : List Sequence) (boxes : List BoxValue) (list : Sequence) (rest' : List Sequence) → RowsSoFar fonts whole rest boxes → rest ≡ list ∷ rest' → sequence_size list + 1 ≤ rows_size whole
 next_size fonts whole rest boxes list rest' h e = omega (arith, subst (λ r. rows_size (rows_of r) ≤ rows_size whole) e h.size)
 
-behind_cons : {A : Type 0} (there : List A) (x : A) (s : Setting (List A)) → appended_to there (s >>= (λ xs. Ok (x ∷ xs))) ≡ appended_to (there ++ x ∷ []) s
-behind_cons there x (Ok xs) = ap (λ ys. Ok ys) (sym (append_assoc there (x ∷ []) xs))
-behind_cons there x (Err fault) = refl
+appended_cons : {A : Type 0} (there : List A) (x : A) (s : Setting (List A)) → appended_to there (s >>= (λ xs. Ok (x ∷ xs))) ≡ appended_to (there ++ x ∷ []) s
+appended_cons there x (Ok xs) = ap (λ ys. Ok ys) (sym (append_assoc there (x ∷ []) xs))
+appended_cons there x (Err fault) = refl
 
 -- what is left of a row and the rows after it
 abbrev packed_first : SetValue → List Sequence → List PieceValue → Setting (List Layout)
@@ -80,7 +80,7 @@ rows_step fonts whole rest boxes new list rest' row b h e made packed level push
           g.whole_is
           ∙ list_made (λ s. appended_to (map layout_of boxes) s ≡ appended_to (map layout_of boxes) (pack_rows (rows_by_style fonts (rows_of rest')) >>= (λ bs. Ok (layout_of b ∷ bs)))) fonts list T row (packed_first fonts rest') made
           (ap (λ s. appended_to (map layout_of boxes) (s >>= (λ box. pack_rows (rows_by_style fonts (rows_of rest')) >>= (λ bs. Ok (box ∷ bs))))) packed)
-          ∙ (behind_cons (map layout_of boxes) (layout_of b) (pack_rows (rows_by_style fonts (rows_of rest')))
+          ∙ (appended_cons (map layout_of boxes) (layout_of b) (pack_rows (rows_by_style fonts (rows_of rest')))
           ∙ ap (λ m. appended_to m (pack_rows (rows_by_style fonts (rows_of rest')))) (sym (boxes_more boxes new b pushed)));
       few = let f : length new ≡ length boxes + 1 = ap length pushed ∙ one_longer boxes b in omega (arith, f, g.few);
       size = omega (arith, g.size);
@@ -101,7 +101,7 @@ box_fails fault fonts whole rest boxes list rest' row h e made bad =
     (list_made (SetFails fault) fonts list T row (packed_first fonts rest') made (fails_then fault (pack_row row) _ bad)))
 
 pub rows_end : (fonts : SetValue) (whole : Rows) (rest : List Sequence) (boxes : List BoxValue) → RowsSoFar fonts whole rest boxes → rest ≡ [] → pack_rows (rows_by_style fonts whole) ≡ Ok (map layout_of boxes)
-rows_end fonts whole rest boxes h e = (subst (λ r. RowsSoFar fonts whole r boxes) e h).whole_is ∙ behind_end (map layout_of boxes)
+rows_end fonts whole rest boxes h e = (subst (λ r. RowsSoFar fonts whole r boxes) e h).whole_is ∙ appended_end (map layout_of boxes)
 
 pub rows_few : (fonts : SetValue) (whole : Rows) (rest : List Sequence) (boxes : List BoxValue) → IsModestRows whole → RowsSoFar fonts whole rest boxes → length boxes ≤ 2 ^ 18
 rows_few fonts whole rest boxes m h = omega (arith, m.items, h.few)

@@ -10,12 +10,12 @@ use Rattle.mt_rules.specs.Setting.{Setting}
 use Rattle.mt_rules.specs.Nuclei.{Nucleus}
 use Rattle.mt_convert.specs.declared.fault.SetFault.{SetFault}
 use Rattle.mt_convert.specs.declared.half.Half.{Half}
-use Rattle.mt_convert.specs.declared.nucleus.SetNucleus.{SetNucleus}
+use Rattle.mt_convert.specs.declared.set.nucleus.SetNucleus.{SetNucleus}
 use Rattle.mt_convert.specs.Calls.{SetFails}
 use Rattle.mt_convert.specs.Halves.{HalfValue, half_height, half_depth}
 use Rattle.mt_convert.specs.Halfway.{half_value}
-use Rattle.mt_convert.specs.declared.nucleus.SetOperator.{SetOperator}
-use Rattle.mt_convert.specs.inner.Kinds.{BoxWithItalic}
+use Rattle.mt_convert.specs.declared.set.nucleus.SetOperator.{SetOperator}
+use Rattle.mt_convert.specs.inner.AtomSteps.{BoxWithItalic}
 use Rattle.mt_convert.specs.inner.Nucleus.{nucleus_value, operator_value}
 
 abbrev pub SetsBox : Result BoxValue SetFault → Setting Layout → Type 0

@@ -1,4 +1,4 @@
--- A list that is made part by part: what is made next stands behind what is there (`AppendsPieces`).
+-- A list that is made part by part: what is made next stands after what is there (`AppendsPieces`).
 use Rattle.std.specs.Prelude.{◌≡◌, List, ◌++◌, Result, Ok, Err}
 use Rattle.mt_box.specs.declared.piece.Piece.{Piece}
 use Rattle.mt_box.specs.Rows.{PieceValue, piece_values}
@@ -6,7 +6,7 @@ use Rattle.mt_rules.specs.Setting.{Setting, ◌>>=◌}
 use Rattle.mt_convert.specs.declared.fault.SetFault.{SetFault}
 use Rattle.mt_convert.specs.Calls.{SetFails}
 
--- what is made, behind what is there
+-- what is made, after what is there
 abbrev pub appended_to : {A : Type 0} → List A → Setting (List A) → Setting (List A)
 appended_to there setting = do
   more ← setting

@@ -2,7 +2,7 @@
 use Rattle.std.specs.Prelude.{◌≡◌, ⊤, List, [], ◌∷◌, Option, Some, None}
 use Rattle.mt_rules.specs.Facts.{NoBoundary}
 use Rattle.mt_rules.specs.Sequence.{Sequence, End, More, LeftElement, RightElement, ChoiceElement}
-use Rattle.mt_convert.specs.declared.passed.Passed.{Passed as CodePassed}
+use Rattle.mt_convert.specs.declared.flat.passed.Passed.{Passed as CodePassed}
 use Rattle.mt_convert.specs.Halves.{HalfValue, HalfLeft, HalfRight}
 use Rattle.mt_convert.specs.Halfway.{BoundariesOutside}
 use Rattle.mt_convert.specs.inner.Turns.{element_of_passed, passed_value}
@@ -37,11 +37,11 @@ abbrev pub IsOpen : List HalfValue → Type 0
 IsOpen (HalfLeft delim ∷ hs) = NoBoundaries hs
 IsOpen hs = NoBoundaries hs
 
-abbrev pub RestBehind : List HalfValue → Sequence → Type 0
-RestBehind [] s = StartOfList s
-RestBehind (h ∷ hs) s = RestOfList s
+abbrev pub RestAfter : List HalfValue → Sequence → Type 0
+RestAfter [] s = StartOfList s
+RestAfter (h ∷ hs) s = RestOfList s
 
 -- items so far, and what is left: the list goes on, or it is at its end
 pub data Remains (hs : List HalfValue) (s : Sequence) : Type 0 where
-  GoesOn : IsOpen hs → RestBehind hs s → Remains hs s
+  GoesOn : IsOpen hs → RestAfter hs s → Remains hs s
   IsOver : BoundariesOutside hs → s ≡ End → Remains hs s

@@ -11,9 +11,9 @@ use Rattle.mt_rules.specs.declared.symbol.Symbol.{Symbol}
 use Rattle.mt_rules.specs.Operators.{uses_limits}
 use Rattle.mt_rules.specs.Sequence.{Part, SymbolPart}
 use Rattle.mt_rules.specs.Setting.{Setting, ◌>>=◌}
-use Rattle.mt_convert.specs.declared.form.AtomForm.{AtomForm}
-use Rattle.mt_convert.specs.declared.form.AtomForm.TheVariants as form
-use Rattle.mt_convert.specs.inner.Kinds.{BoxWithItalic}
+use Rattle.mt_convert.specs.declared.set.form.AtomForm.{AtomForm}
+use Rattle.mt_convert.specs.declared.set.form.AtomForm.TheVariants as form
+use Rattle.mt_convert.specs.inner.AtomSteps.{BoxWithItalic}
 use Rattle.mt_convert.specs.inner.Turns.{is_empty_part}
 
 -- the scripts of a symbol belong under the accent

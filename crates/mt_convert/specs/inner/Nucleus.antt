@@ -7,11 +7,11 @@ use Rattle.mt_scaled.specs.Number.{Within}
 use Rattle.mt_box.specs.Rows.{piece_values}
 use Rattle.mt_rules.specs.Nuclei.{Nucleus}
 use Rattle.mt_scripts.specs.Reaches.{RowReachesWithin}
-use Rattle.mt_convert.specs.declared.nucleus.SetNucleus.{SetNucleus}
-use Rattle.mt_convert.specs.declared.nucleus.SetOperator.{SetOperator}
+use Rattle.mt_convert.specs.declared.set.nucleus.SetNucleus.{SetNucleus}
+use Rattle.mt_convert.specs.declared.set.nucleus.SetOperator.{SetOperator}
 use Rattle.mt_box.specs.Layout.{layout_of}
 use Rattle.mt_convert.specs.Halfway.{RowFits}
-use Rattle.mt_convert.specs.inner.Kinds.{BoxWithItalic}
+use Rattle.mt_convert.specs.inner.AtomSteps.{BoxWithItalic}
 
 abbrev pub nucleus_value : SetNucleus → Nucleus
 nucleus_value n = record { row = piece_values n.row; delta = n.delta.sp }

@@ -20,12 +20,12 @@ use Rattle.mt_rules.specs.Classes.{kind_class, forward_of}
 use Rattle.mt_rules.specs.Nuclei.{SymbolRole, OrdinarySymbol, TextSymbol, SmartPair}
 use Rattle.mt_rules.specs.Sequence.{Sequence, Element, Part, End, More, AtomElement, FractionElement, LeftElement, RightElement, StyleElement, ChoiceElement, MuSpaceElement, SpaceElement, MuKernElement, KernElement, NonscriptElement, EmptyPart, SymbolPart}
 use Rattle.mt_rules.specs.View.{part_of_field}
-use Rattle.mt_convert.specs.declared.current.Current.{Current}
-use Rattle.mt_convert.specs.declared.joining.SymbolPair.{SymbolPair}
-use Rattle.mt_convert.specs.declared.passed.Passed.{Passed as CodePassed}
-use Rattle.mt_convert.specs.declared.passed.Passed.TheVariants as passed
-use Rattle.mt_convert.specs.declared.passed.JoiningRole.{JoiningRole}
-use Rattle.mt_convert.specs.declared.passed.JoiningRole.TheVariants as role
+use Rattle.mt_convert.specs.declared.flat.current.Current.{Current}
+use Rattle.mt_convert.specs.declared.flat.joining.SymbolPair.{SymbolPair}
+use Rattle.mt_convert.specs.declared.flat.passed.Passed.{Passed as CodePassed}
+use Rattle.mt_convert.specs.declared.flat.passed.Passed.TheVariants as passed
+use Rattle.mt_convert.specs.declared.flat.passed.JoiningRole.{JoiningRole}
+use Rattle.mt_convert.specs.declared.flat.passed.JoiningRole.TheVariants as role
 use Rattle.mt_convert.specs.Joining.{is_ord_by_now, is_any_but_inner, symbol_pair, pair_of_fonts}
 use Rattle.mt_convert.specs.Flat as flat
 use Rattle.mt_convert.specs.Flat.{FlatItem, FlatAtom, FlatFraction, FlatLeft, FlatRight, FlatStyle, FlatMuSpace, FlatSpace, FlatMuKern, FlatKern, list_for, no_glue}
@@ -88,7 +88,7 @@ abbrev pub kern_items : Option ℤ → List FlatItem
 kern_items None = []
 kern_items (Some amount) = FlatKern amount ∷ []
 
--- the kern that joining leaves behind an atom
+-- the kern that joining leaves after an atom
 abbrev pub kern_of : PassedElement → Option ℤ
 kern_of (PassedAtom kind limits nucleus sup sub role kern) = kern
 kern_of _ = None
@@ -108,19 +108,19 @@ abbrev pub flat_items : SetValue → PassedElement → List FlatItem
 flat_items fonts p = flat_item fonts p ∷ kern_items (kern_of p)
 
 -- what it changes for those after it
-abbrev pub style_behind : Style → PassedElement → Style
-style_behind style (PassedStyle next) = next
-style_behind style _ = style
+abbrev pub style_after_passed : Style → PassedElement → Style
+style_after_passed style (PassedStyle next) = next
+style_after_passed style _ = style
 
-abbrev pub class_behind : Option Class → PassedElement → Option Class
-class_behind last (PassedAtom kind limits nucleus sup sub role kern) = Some (forward_of last (kind_class kind))
-class_behind last (PassedFraction thickness left right num den) = Some Inner
-class_behind last (PassedLeft delim) = Some Open
-class_behind last (PassedRight delim) = Some Close
-class_behind last _ = last
+abbrev pub class_after_passed : Option Class → PassedElement → Option Class
+class_after_passed last (PassedAtom kind limits nucleus sup sub role kern) = Some (forward_of last (kind_class kind))
+class_after_passed last (PassedFraction thickness left right num den) = Some Inner
+class_after_passed last (PassedLeft delim) = Some Open
+class_after_passed last (PassedRight delim) = Some Close
+class_after_passed last _ = last
 
-abbrev pub current_behind : Current → PassedElement → Current
-current_behind current p = record { style = style_behind current.style p; last = class_behind current.last p }
+abbrev pub current_after_passed : Current → PassedElement → Current
+current_after_passed current p = record { style = style_after_passed current.style p; last = class_after_passed current.last p }
 
 -- ---- one turn
 
@@ -148,11 +148,11 @@ symbol_before last kind nucleus sup sub =
 abbrev pub atom_symbol_before : Option Class → AtomFields → Option Symbol
 atom_symbol_before last a = symbol_before last a.kind (part_of_field a.nucleus) (part_of_field a.sup) (part_of_field a.sub)
 
-abbrev pub symbol_behind : Kind → Part → Option Symbol
-symbol_behind kind nucleus = if is_any_but_inner kind then part_symbol nucleus else None
+abbrev pub symbol_after : Kind → Part → Option Symbol
+symbol_after kind nucleus = if is_any_but_inner kind then part_symbol nucleus else None
 
 abbrev pub symbol_of_element : Element → Option Symbol
-symbol_of_element (AtomElement kind limits nucleus sup sub) = symbol_behind kind nucleus
+symbol_of_element (AtomElement kind limits nucleus sup sub) = symbol_after kind nucleus
 symbol_of_element _ = None
 
 abbrev pub next_symbol_of : Sequence → Option Symbol

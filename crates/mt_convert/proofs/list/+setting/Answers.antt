@@ -22,7 +22,7 @@ use Rattle.mt_convert.specs.FirstPass
 use Rattle.mt_convert.specs.Halfway.{HalfFits, RowFits, count_of}
 use Rattle.mt_convert.specs.inner.Answers.{HalfReachInRange, SetsBox, SetsHalf, SetsNucleus, SetsOperator}
 use Rattle.mt_convert.specs.inner.Fields.{field_content, list_content}
-use Rattle.mt_convert.specs.inner.Kinds.{accent_part, kind_nucleus, operator_box, row_beside, row_between, row_with_fields, row_with_limits}
+use Rattle.mt_convert.specs.inner.AtomSteps.{accent_part, kind_nucleus, operator_box, row_beside, row_between, row_with_fields, row_with_limits}
 use Rattle.mt_convert.specs.inner.Modest.{IsModestElement, ScriptLevels}
 use Rattle.mt_convert.specs.inner.Nucleus.{NucleusIsSmall, nucleus_value, operator_value}
 use Rattle.mt_convert.specs.inner.Turns.{atom_passed, element_of_passed, flat_item, fraction_passed, passed_value, role_value}
@@ -75,11 +75,11 @@ pub first_pass-loop-front-preserved-in-Some-2 : goal.first_pass-loop-front-prese
 first_pass-loop-front-preserved-in-Some-2 t c =
     let u = turned_some c.in_ok-passed.field-0 c.in-Some-2.passed c.turn.new.rest _ c.in_ok-passed.ensures.turns c.in-Some-2.is in
     let e = c.in_ok-half.ensures in
-    going_pass _ _ _ c.loop-front.current c.behind-next.result _ _ _ _ _ (passed_value c.in-Some-2.passed) _ c.in_ok-half.half c.kern-kern.result c.loop-front.invariant c.in-Some.ensures u
+    going_pass _ _ _ c.loop-front.current c.after_passed-next.result _ _ _ _ _ (passed_value c.in-Some-2.passed) _ c.in_ok-half.half c.kern-kern.result c.loop-front.invariant c.in-Some.ensures u
     (leaves_some _ c.in_ok-passed.field-0 c.in-Some-2.passed c.turn.new.rest c.in_ok-passed.ensures.boundaries c.in-Some-2.is)
     c.kern-kern.ensures
     (record { is = e.is; kern = c.in_ok-push_with_kern.ensures.is; fits = e.fits; few = e.few; reach = e.reach })
-    c.in_ok-push_with_kern.ensures.pushed c.behind-next.ensures
+    c.in_ok-push_with_kern.ensures.pushed c.after_passed-next.ensures
 
 pub first_pass-loop-front-smaller : goal.first_pass-loop-front-smaller
 first_pass-loop-front-smaller t c =

@@ -1,9 +1,0 @@
-use Rattle.std.proofs.Common.{◌≡◌, ◌++◌, ◌≤◌, take, drop, length}
-use Rattle.std.specs.Prelude.{None}
-use Rattle.mt_convert.proofs.Settling.{settled_before}
-use Rattle.mt_convert.proofs.settle.settle_all.Given as goal
-
-abbrev pub invariant-loop-i : goal.invariant-loop-i
-invariant-loop-i l =
-    (l.i ≤ length l.halves.items)
-    × (settled_before l.after (take l.i l.halves.items) ++ drop l.i l.halves.items ≡ settled_before None l.fn.halves.items)

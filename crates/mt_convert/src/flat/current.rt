@@ -1,0 +1,61 @@
+//! Where a list has come to.
+ghost use Rattle.std.specs.Prelude.{◌≡◌};
+ghost use Rattle.mt_rules.specs.Classes.{kind_class};
+ghost use Rattle.mt_convert.specs.inner.Turns.{class_after_passed, current_after_passed, passed_value, style_after_passed};
+
+use crate::flat::passed::Passed;
+use mt_rules::{Class, Kind, Style};
+use mt_spacing::forward;
+
+/// Where a list has come to.
+#[derive(Clone, Copy)]
+pub struct Current {
+    /// The style there: that of the last style item before, or else the one in which the list begins.
+    pub style: Style,
+    /// The class that the last atom before counts as towards its right, if there is one; boundaries
+    /// are atoms here.
+    pub last: Option<Class>,
+}
+
+impl Current {
+    // Where the list has come to after this item.
+    pub(crate) fn after_passed(self, passed: &Passed) -> Current
+        ensures { result ≡ current_after_passed self (passed_value passed.now) }
+    {
+        Current {
+            style: style_after_passed(self.style, passed),
+            last: class_after_passed(self.last, passed),
+        }
+    }
+}
+
+fn style_after_passed(style: Style, passed: &Passed) -> Style
+    ensures { result ≡ style_after_passed style (passed_value passed.now) }
+{
+    match passed {
+        Passed::Style(next) => *next,
+        _ => style,
+    }
+}
+
+fn class_after_passed(last: Option<Class>, passed: &Passed) -> Option<Class>
+    ensures { result ≡ class_after_passed last (passed_value passed.now) }
+{
+    match passed {
+        Passed::Atom { atom, .. } => Some(forward(last, kind_class(atom.kind))),
+        Passed::Fraction(_) => Some(Class::Inner),
+        Passed::Left(_) => Some(Class::Open),
+        Passed::Right(_) => Some(Class::Close),
+        _ => last,
+    }
+}
+
+// The class of its own of an atom of this kind.
+pub(crate) fn kind_class(kind: Kind) -> Class
+    ensures { result ≡ kind_class kind }
+{
+    match kind {
+        Kind::Plain(class) => class,
+        _ => Class::Ord,
+    }
+}

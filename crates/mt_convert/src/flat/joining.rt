@@ -1,0 +1,116 @@
+//! Symbols side by side that are joined (The TeXbook, Appendix G, rule 14; tex.web, section 752).
+ghost use Rattle.std.specs.Prelude.{◌≡◌, Some};
+ghost use Rattle.mt_rules.specs.Styles.{size_of};
+ghost use Rattle.mt_rules.specs.View.{part_of_field};
+ghost use Rattle.mt_convert.specs.Joining.{is_any_but_inner, is_ord_by_now, pair_in_font, pair_of_fonts, symbol_pair};
+ghost use Rattle.mt_convert.specs.inner.Turns.{atom_symbol_before, is_empty_part, part_symbol, symbol_after};
+
+use mt_family::FontSet;
+use mt_rules::{Atom, Class, Field, Kind, Style, Symbol};
+use mt_spacing::forward;
+use mt_tfm::{Font, Pair};
+
+/// Two characters side by side, of one family.
+#[derive(Clone, Copy)]
+pub struct SymbolPair {
+    /// The number of the family.
+    pub fam: u8,
+    /// The code of the first character.
+    pub first: u8,
+    /// The code of the second character.
+    pub second: u8,
+}
+
+fn symbol_of_field(field: &Field) -> Option<Symbol>
+    ensures { result ≡ part_symbol (part_of_field field.now) }
+{
+    match field {
+        Field::Sym(symbol) => Some(*symbol),
+        _ => None,
+    }
+}
+
+pub(crate) fn is_empty(field: &Field) -> bool
+    ensures { result ≡ is_empty_part (part_of_field field.now) }
+{
+    matches!(field, Field::Empty)
+}
+
+// An atom of the plain kind that is ordinary by now, after the atom before it.
+fn is_ord_by_now(last: Option<Class>, kind: Kind) -> bool
+    ensures { result ≡ is_ord_by_now last kind }
+{
+    match kind {
+        Kind::Plain(own) => matches!(forward(last, own), Class::Ord),
+        _ => false,
+    }
+}
+
+fn is_any_but_inner(kind: Kind) -> bool
+    ensures { result ≡ is_any_but_inner kind }
+{
+    match kind {
+        Kind::Plain(Class::Inner) => false,
+        Kind::Plain(_) => true,
+        _ => false,
+    }
+}
+
+// The symbol of an atom that may be joined with the next one: it has no scripts.
+pub(crate) fn first_symbol(last: Option<Class>, atom: &Atom) -> Option<Symbol>
+    ensures { result ≡ atom_symbol_before last atom.now }
+{
+    if is_ord_by_now(last, atom.kind) && is_empty(&atom.sup) && is_empty(&atom.sub) {
+        symbol_of_field(&atom.nucleus)
+    } else {
+        None
+    }
+}
+
+// The symbol of an atom that may be joined with the one before it.
+pub(crate) fn second_symbol(atom: &Atom) -> Option<Symbol>
+    ensures { result ≡ symbol_after atom.now.kind (part_of_field atom.now.nucleus) }
+{
+    if is_any_but_inner(atom.kind) {
+        symbol_of_field(&atom.nucleus)
+    } else {
+        None
+    }
+}
+
+// The pair of two symbols, where they are of one family.
+pub(crate) fn symbol_pair(first: Option<Symbol>, second: Option<Symbol>) -> Option<SymbolPair>
+    ensures { result ≡ symbol_pair first second }
+{
+    let (Some(first), Some(second)) = (first, second) else {
+        return None;
+    };
+    if first.fam != second.fam {
+        return None;
+    }
+    Some(SymbolPair {
+        fam: first.fam,
+        first: first.code,
+        second: second.code,
+    })
+}
+
+fn pair_in_font(font: &Font, pair: SymbolPair) -> Option<Pair>
+    ensures { result ≡ pair_in_font (Some font.now) pair }
+{
+    if font.exists(pair.first) {
+        Some(font.pair(pair.first, pair.second))
+    } else {
+        None
+    }
+}
+
+// What the font of the pair's family says of it, where its first character exists.
+pub(crate) fn pair_of_fonts(fonts: &FontSet, style: Style, pair: SymbolPair) -> Option<Pair>
+    ensures { result ≡ pair_of_fonts fonts.now (size_of style) pair }
+{
+    match fonts.font_of(pair.fam, style.size()) {
+        Some(font) => pair_in_font(font, pair),
+        None => None,
+    }
+}

@@ -1,0 +1,95 @@
+//! The second pass: the rows side by side, with spaces and boundaries (The TeXbook, Appendix G,
+//! rules 19 and 20).
+ghost use Rattle.std.specs.Prelude.{◌≡◌, ◌≤◌, ◌^◌, ℕ, IfOk, length, None};
+ghost use Rattle.mt_scaled.specs.Number.{Within};
+ghost use Rattle.mt_convert.specs.SecondPass.{current_after_half, row_of_halves, second_pass_of, style_after_half};
+ghost use Rattle.mt_convert.specs.Calls.{SetsRow};
+ghost use Rattle.mt_convert.specs.Halfway.{half_value, half_values, halves_value, total_of, HalvesFit, AllMeet, RowFits};
+
+use crate::SetFault;
+use crate::flat::current::Current;
+use crate::half::{Half, HalfList};
+use crate::halfway::Halfway;
+use crate::second::boundary::{BoundaryFrame, boundary_frame};
+use crate::second::pieces::push_half;
+use crate::set::row::tested;
+use mt_box::Row;
+use mt_family::FontSet;
+use mt_rules::Style;
+use mt_scaled::Length;
+use std::alloc::Global;
+
+/// The row of a list that the first pass has set, in the style in which the list begins: the rows
+/// of its items side by side, with the spaces between atoms, and the boundaries at the two ends (The
+/// TeXbook, Appendix G, rules 19 and 20; tex.web, sections 760 to 767).
+///
+/// The row has at most 2^21 pieces. Each number in it is at most 2^40 in size, and its boxes have a
+/// level of at most 2^16: the greatest in the items, or 2 where that is less.
+///
+/// # Errors
+///
+/// `TooTall` with the repeats of a boundary, or `Overflow` with the first extent out of range of a
+/// boundary's glyphs and box, the left boundary first; then `Overflow` with the first extent out of
+/// range of the row. `OutOfMemory` where memory ran out.
+pub fn second_pass(
+    alloc: Global,
+    fonts: &FontSet,
+    half: Halfway,
+    style: Style,
+) -> Result<Row, SetFault>
+    ensures is { SetsRow result (second_pass_of fonts.now style (halves_value half)) }
+    ensures few { IfOk result (λ row. length row ≤ 2 ^ 21) }
+    ensures bounded { IfOk result (RowFits (2 ^ 16)) }
+    ensures fits { IfOk result (λ row. (n : ℕ) → 2 ≤ n → HalvesFit n half.items → RowFits n row) }
+{
+    let height = Length { sp: half.height };
+    let depth = Length { sp: half.depth };
+    let frame = boundary_frame(fonts, style, height, depth);
+    join_rows(alloc, fonts, frame, style, half.items)
+}
+
+// The rows of these items side by side.
+fn join_rows(
+    alloc: Global,
+    fonts: &FontSet,
+    frame: BoundaryFrame,
+    style: Style,
+    items: HalfList,
+) -> Result<Row, SetFault>
+    requires wanted { Within (2 ^ 40) frame.wanted.sp }
+    requires meet { AllMeet None (half_values items) }
+    requires few { length items ≤ 2 ^ 19 }
+    requires total { total_of items ≤ 2 ^ 20 }
+    requires fit { HalvesFit (2 ^ 16) items }
+    ensures is { SetsRow result (row_of_halves fonts.now frame.size frame.wanted.sp style (half_values items)) }
+    ensures few { IfOk result (λ row. length row ≤ 2 ^ 21) }
+    ensures fits { IfOk result (λ row. (n : ℕ) → 2 ≤ n → HalvesFit n items → RowFits n row) }
+{
+    let mut pieces = Vec::new(alloc);
+    let mut current = Current { style, last: None };
+    for item in items.into_vec() {
+        let next = after_half(current, &item);
+        push_half(alloc, fonts, frame, current, item, &mut pieces)?;
+        current = next;
+    }
+    tested(Row::from_vec(pieces))
+}
+
+// Where a list has come to after an item.
+fn after_half(current: Current, half: &Half) -> Current
+    ensures { result ≡ current_after_half current (half_value half.now) }
+{
+    Current {
+        style: style_after_half(current.style, half),
+        last: half.class_to_right().or(current.last),
+    }
+}
+
+fn style_after_half(style: Style, half: &Half) -> Style
+    ensures { result ≡ style_after_half style (half_value half.now) }
+{
+    match half {
+        Half::Style(next) => *next,
+        _ => style,
+    }
+}

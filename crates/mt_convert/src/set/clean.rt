@@ -1,0 +1,85 @@
+//! Symbols found, and the boxes of rows (tex.web, sections 720 and 722).
+ghost use Rattle.std.specs.Prelude.{◌≡◌, ◌≤◌, ◌+◌, ◌^◌, ℕ, IfOk, IsTrue, Ok, length};
+ghost use Rattle.mt_tfm.specs.Font.{exists};
+ghost use Rattle.mt_box.specs.Extents.{ExtentsInRange};
+ghost use Rattle.mt_box.specs.Rows.{piece_values};
+ghost use Rattle.mt_rules.specs.Nuclei;
+ghost use Rattle.mt_rules.specs.Setting.{empty_layout, pack_row};
+ghost use Rattle.mt_rules.specs.Symbols.{find_symbol, font_of_number};
+ghost use Rattle.mt_convert.specs.Halfway.{RowFits};
+ghost use Rattle.mt_convert.specs.inner.Answers.{SetsBox, SetsNumber};
+
+use crate::SetFault;
+use crate::flat::passed::JoiningRole;
+use crate::set::nucleus::symbol_nucleus;
+use crate::set::row::tested;
+use mt_box::{Packed, Row, clean, hpack};
+use mt_family::{FontSet, Size};
+use mt_rules::{Style, Symbol};
+use std::alloc::Global;
+
+// The number of the font in which a symbol is found.
+pub(crate) fn find_symbol(fonts: &FontSet, size: Size, symbol: Symbol) -> Result<u16, SetFault>
+    ensures is { SetsNumber result (find_symbol fonts.now size symbol) }
+    ensures there { IfOk result (λ n. IsTrue (exists (font_of_number fonts.now n) symbol.code)) }
+{
+    let Symbol { fam, code } = symbol;
+    let Some(number) = fonts.number_of(fam, size) else {
+        return Err(SetFault::MissingFamily { fam, size });
+    };
+    match fonts.font(number) {
+        Some(font) if font.exists(code) => Ok(number),
+        _ => Err(SetFault::MissingChar { fam, size, code }),
+    }
+}
+
+// A row packed.
+pub(crate) fn packed(alloc: Global, row: Row) -> Result<Packed, SetFault>
+    requires few { length row ≤ 2 ^ 21 }
+    requires fits { RowFits 4000 row }
+    ensures is { SetsBox result (pack_row (piece_values row)) }
+    ensures level { IfOk result (λ b. (n : ℕ) → RowFits n row → b.level ≤ n + 1) }
+{
+    match hpack(alloc, row) {
+        Ok(body) => Ok(body),
+        Err(error) => Err(SetFault::from(error)),
+    }
+}
+
+// A row as a clean box: where it is a box alone, that box.
+pub(crate) fn cleaned(alloc: Global, row: Row) -> Result<Packed, SetFault>
+    requires few { length row ≤ 2 ^ 21 }
+    requires fits { RowFits 4000 row }
+    ensures is { SetsBox result (Nuclei.make_clean (piece_values row)) }
+    ensures in_range { IfOk result (λ b. ExtentsInRange b.extents) }
+    ensures level { IfOk result (λ b. (n : ℕ) → RowFits n row → b.level ≤ n + 1) }
+{
+    match clean(alloc, row) {
+        Ok(body) => Ok(body),
+        Err(error) => Err(SetFault::from(error)),
+    }
+}
+
+// The clean box of a list of one ordinary symbol.
+pub(crate) fn clean_symbol(
+    alloc: Global,
+    fonts: &FontSet,
+    style: Style,
+    symbol: Symbol,
+) -> Result<Packed, SetFault>
+    ensures is { SetsBox result (Nuclei.clean_symbol fonts.now style symbol) }
+    ensures in_range { IfOk result (λ b. ExtentsInRange b.extents) }
+    ensures level { IfOk result (λ b. b.level ≤ 1) }
+{
+    let nucleus = symbol_nucleus(alloc, fonts, style, symbol, JoiningRole::Ordinary, false)?;
+    let row = tested(nucleus.row)?;
+    cleaned(alloc, row)
+}
+
+// The clean box of what holds nothing.
+pub(crate) fn empty_box(alloc: Global) -> Result<Packed, SetFault>
+    ensures is { SetsBox result (Ok empty_layout) }
+    ensures level { IfOk result (λ b. b.level ≤ 1) }
+{
+    cleaned(alloc, Row::from_vec(Vec::new(alloc)))
+}

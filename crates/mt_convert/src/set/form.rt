@@ -1,0 +1,124 @@
+//! How an atom is built: the form that its kind and its fields give it (The TeXbook, Appendix G,
+//! rules 12, 13 and 17).
+ghost use Rattle.std.specs.Prelude.{◌≡◌, ◌≤◌, ◌^◌, ℕ, IfOk, Ok};
+ghost use Rattle.mt_scaled.specs.Number.{Within};
+ghost use Rattle.mt_rules.specs.Nuclei.{SymbolContent};
+ghost use Rattle.mt_rules.specs.Operators.{uses_limits};
+ghost use Rattle.mt_rules.specs.Setting.{Setting};
+ghost use Rattle.mt_rules.specs.View.{part_of_field};
+ghost use Rattle.mt_box.specs.Layout.{Layout};
+ghost use Rattle.mt_convert.specs.inner.Answers.{SetsBox, SetsNucleus, SetsOperator};
+ghost use Rattle.mt_convert.specs.inner.Forms.{accent_form, as_operator, form_of};
+ghost use Rattle.mt_convert.specs.inner.AtomSteps.{as_nucleus, class_nucleus};
+ghost use Rattle.mt_convert.specs.inner.Nucleus.{NucleusIsSmall};
+ghost use Rattle.mt_convert.specs.inner.Turns.{role_value};
+
+use crate::SetFault;
+use crate::flat::joining::is_empty;
+use crate::flat::passed::JoiningRole;
+use crate::set::nucleus::{SetNucleus, SetOperator, box_nucleus, operator_nucleus, symbol_nucleus};
+use mt_box::Packed;
+use mt_family::FontSet;
+use mt_rules::{Atom, Class, Field, Kind, Limits, Style, Symbol};
+use mt_scaled::Length;
+use std::alloc::Global;
+
+/// How an atom is built.
+#[derive(Clone, Copy)]
+pub enum AtomForm {
+    /// An operator with its scripts above and below it.
+    Limits,
+    /// An accent over a symbol whose scripts belong under it.
+    AccentInside {
+        /// The accent.
+        accent: Symbol,
+        /// The symbol.
+        symbol: Symbol,
+    },
+    /// A nucleus with its scripts beside it.
+    Beside,
+}
+
+// Whether the scripts of an operator stand above and below it.
+fn uses_limits(limits: Limits, style: Style) -> bool
+    ensures { result ≡ uses_limits limits style }
+{
+    match limits {
+        Limits::Always => true,
+        Limits::Never => false,
+        Limits::Default => style.is_display(),
+    }
+}
+
+// The form of an atom in a style.
+pub(crate) fn form_of(style: Style, atom: &Atom) -> AtomForm
+    ensures { result ≡ form_of style atom.now.kind atom.now.limits (part_of_field atom.now.nucleus) (part_of_field atom.now.sup)
+        (part_of_field atom.now.sub) }
+{
+    match atom.kind {
+        Kind::Plain(Class::Op) if uses_limits(atom.limits, style) => AtomForm::Limits,
+        Kind::Accent(accent) => accent_form(accent, &atom.nucleus, &atom.sup, &atom.sub),
+        _ => AtomForm::Beside,
+    }
+}
+
+// The form of an accent: the scripts of a symbol belong under it.
+fn accent_form(accent: Symbol, nucleus: &Field, sup: &Field, sub: &Field) -> AtomForm
+    ensures { result ≡ accent_form accent (part_of_field nucleus.now) (part_of_field sup.now) (part_of_field sub.now) }
+{
+    match nucleus {
+        Field::Sym(symbol) if !(is_empty(sup) && is_empty(sub)) => AtomForm::AccentInside {
+            accent,
+            symbol: *symbol,
+        },
+        _ => AtomForm::Beside,
+    }
+}
+
+// The nucleus of a symbol in an atom of this class.
+pub(crate) fn class_nucleus(
+    alloc: Global,
+    fonts: &FontSet,
+    style: Style,
+    class: Class,
+    role: JoiningRole,
+    symbol: Symbol,
+    has_subscript: bool,
+) -> Result<SetNucleus, SetFault>
+    ensures is { SetsNucleus result (class_nucleus class fonts.now style (role_value role) (SymbolContent symbol) has_subscript) }
+    ensures fits { IfOk result (NucleusIsSmall 1) }
+{
+    match class {
+        Class::Op => operator_nucleus(alloc, fonts, style, symbol, has_subscript),
+        _ => symbol_nucleus(alloc, fonts, style, symbol, role, has_subscript),
+    }
+}
+
+// What is set as a box, as a nucleus.
+pub(crate) fn part_nucleus(
+    alloc: Global,
+    part: Result<Packed, SetFault>,
+) -> Result<SetNucleus, SetFault>
+    ensures is { (setting : Setting Layout) → SetsBox part setting → SetsNucleus result (as_nucleus setting) }
+    ensures fits { (n : ℕ) → IfOk part (λ b. b.level ≤ n) → IfOk result (NucleusIsSmall n) }
+{
+    match part {
+        Ok(body) => box_nucleus(alloc, body),
+        Err(fault) => Err(fault),
+    }
+}
+
+// What is set as a box, as an operator without an italic correction.
+pub(crate) fn part_operator(part: Result<Packed, SetFault>) -> Result<SetOperator, SetFault>
+    ensures is { (setting : Setting Layout) → SetsBox part setting → SetsOperator result (as_operator setting) }
+    ensures level { (n : ℕ) → IfOk part (λ b. b.level ≤ n) → IfOk result (λ o. o.body.level ≤ n) }
+    ensures delta { IfOk result (λ o. Within (2 ^ 31) o.delta.sp) }
+{
+    match part {
+        Ok(body) => Ok(SetOperator {
+            body,
+            delta: Length { sp: 0 },
+        }),
+        Err(fault) => Err(fault),
+    }
+}

@@ -1,0 +1,101 @@
+//! Spaces and kerns of a list, and the kern after an atom that is joined with the next one.
+ghost use Rattle.std.specs.Prelude.{◌≡◌, ◌^◌, ◌++◌, ◌∷◌, [], ℕ, IfOk, OnOk};
+ghost use Rattle.mt_scaled.specs.Number.{Within};
+ghost use Rattle.mt_rules.specs.Modest.{GlueAmounts, IsAmount};
+ghost use Rattle.mt_convert.specs.declared.half.Half.TheVariants as half_of_list;
+ghost use Rattle.mt_convert.specs.FirstPass.{glue_in_points, in_points, make_kern, make_space, math_unit as unit_of};
+ghost use Rattle.mt_convert.specs.Halfway.{HalfFits};
+ghost use Rattle.mt_convert.specs.inner.Answers.{SetsHalf};
+ghost use Rattle.mt_convert.specs.inner.Lengths.{SetsKern, kern_halves};
+
+use crate::SetFault;
+use crate::half::Half;
+use mt_family::FontSet;
+use mt_rules::{Glue, Style};
+use mt_scaled::{Length, in_range, mu_mult, mu_of_quad};
+use std::alloc::AllocError;
+
+// The size of a math unit in a style.
+pub(crate) fn math_unit(fonts: &FontSet, style: Style) -> Length
+    ensures is { result.sp ≡ unit_of fonts.now style }
+    ensures small { Within (2 ^ 31) result.sp }
+{
+    Length {
+        sp: mu_of_quad(fonts.sy(6, style.size())),
+    }
+}
+
+// A space, tested: its width, then its shrink.
+pub(crate) fn make_space(glue: Glue) -> Result<Half, SetFault>
+    ensures is { SetsHalf result (make_space glue) }
+    ensures fits { IfOk result (λ h. (n : ℕ) → HalfFits n h) }
+    ensures same { IfOk result (λ h. h ≡ half_of_list.Space glue) }
+{
+    if !in_range(glue.width) {
+        return Err(SetFault::Overflow(glue.width));
+    }
+    if !in_range(glue.shrink) {
+        return Err(SetFault::Overflow(glue.shrink));
+    }
+    Ok(Half::Space(glue))
+}
+
+// A kern, tested.
+pub(crate) fn make_kern(amount: Length) -> Result<Half, SetFault>
+    ensures is { SetsHalf result (make_kern amount.sp) }
+    ensures fits { IfOk result (λ h. (n : ℕ) → HalfFits n h) }
+    ensures same { IfOk result (λ h. h ≡ half_of_list.Kern amount.sp) }
+{
+    if !in_range(amount.sp) {
+        return Err(SetFault::Overflow(amount.sp));
+    }
+    Ok(Half::Kern(amount.sp))
+}
+
+// A length in math units, in scaled points.
+pub(crate) fn in_points(fonts: &FontSet, style: Style, amount: Length) -> Length
+    requires { IsAmount amount.sp }
+    ensures { result.sp ≡ in_points fonts.now style amount.sp }
+{
+    Length {
+        sp: mu_mult(amount.sp, math_unit(fonts, style).sp),
+    }
+}
+
+// A space in math units, in scaled points.
+pub(crate) fn glue_in_points(fonts: &FontSet, style: Style, glue: Glue) -> Glue
+    requires { GlueAmounts glue }
+    ensures { result ≡ glue_in_points fonts.now style glue }
+{
+    Glue {
+        width: in_points(fonts, style, Length { sp: glue.width }).sp,
+        shrink: in_points(fonts, style, Length { sp: glue.shrink }).sp,
+    }
+}
+
+// An item that was set, and after it the kern between it and the next atom, tested.
+pub(crate) fn push_with_kern(
+    halves: &mut Vec<Half>,
+    half: Half,
+    kern: Option<i64>,
+) -> Result<(), SetFault>
+    ensures is { SetsKern result kern }
+    ensures pushed { OnOk result (halves.new.items ≡ halves.old.items ++ half ∷ kern_halves kern) }
+{
+    push_item(halves, half)?;
+    match kern {
+        Some(amount) => {
+            let kern = make_kern(Length { sp: amount })?;
+            push_item(halves, kern)?;
+            Ok(())
+        }
+        None => Ok(()),
+    }
+}
+
+fn push_item(halves: &mut Vec<Half>, half: Half) -> Result<(), AllocError>
+    ensures { OnOk result (halves.new.items ≡ halves.old.items ++ half ∷ []) }
+{
+    halves.push(half)?;
+    Ok(())
+}
