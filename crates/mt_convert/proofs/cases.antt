@@ -1,6 +1,5 @@
--- Whole math lists, worked by hand from the rules of Appendix G, in the example fonts.
+-- Whole math lists, worked by hand from the rules of Appendix G, in the toy fonts.
 mod Writing
-mod ToyFonts
 mod ListCases
 mod JoiningCases
 mod PartCases

@@ -11,4 +11,4 @@ pub mod Stacks
 -- the definitions on known formulas
 mod Worked
 -- the rules of Appendix G on parts of formulas in made-up fonts
-mod cases
+pub mod cases

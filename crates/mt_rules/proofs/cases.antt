@@ -1,7 +1,7 @@
 -- Worked cases of the rules of Appendix G, in made-up fonts with odd numbers and in the toy fonts.
-mod Writing
+pub mod Writing
 mod OddFonts
-mod ToyFonts
+pub mod ToyFonts
 mod ScriptCases
 mod LimitCases
 mod FractionCases

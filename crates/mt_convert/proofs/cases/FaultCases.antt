@@ -7,8 +7,9 @@ use Rattle.mt_rules.specs.declared.kind.Kind.TheVariants.{Plain}
 use Rattle.mt_rules.specs.Sequence.{FractionElement, LeftElement, RightElement, KernElement, EmptyPart, ListPart}
 use Rattle.mt_rules.specs.Setting.{MissingFamily, MissingChar, Overflow, TooTall}
 use Rattle.mt_convert.specs.ListRow.{list_row}
-use Rattle.mt_convert.proofs.cases.ToyFonts.{toy}
-use Rattle.mt_convert.proofs.cases.Writing.{list, delim, no_delim, atom, plain, letter, roman, group, from_top, evaluated}
+use Rattle.mt_rules.proofs.cases.ToyFonts.{toy}
+use Rattle.mt_rules.proofs.cases.Writing.{delim, no_delim}
+use Rattle.mt_convert.proofs.cases.Writing.{list, atom, plain, letter, roman, group, from_top, evaluated}
 
 -- a character that its font does not have
 missing_char : from_top (list_row toy T (list (roman 0 ∷ []))) ≡ Err (MissingChar 0 Text 0)

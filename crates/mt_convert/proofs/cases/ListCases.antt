@@ -7,7 +7,7 @@ use Rattle.mt_rules.specs.declared.kind.Kind.TheVariants.{Plain}
 use Rattle.mt_rules.specs.declared.symbol.Glue.{Glue}
 use Rattle.mt_rules.specs.Sequence.{End, StyleElement, ChoiceElement, MuSpaceElement, NonscriptElement, EmptyPart, ListPart}
 use Rattle.mt_convert.specs.ListRow.{list_row}
-use Rattle.mt_convert.proofs.cases.ToyFonts.{toy}
+use Rattle.mt_rules.proofs.cases.ToyFonts.{toy}
 use Rattle.mt_convert.proofs.cases.Writing.{list, symbol, atom, letter, plus, equals, from_top, evaluated}
 
 -- 3mu

@@ -7,8 +7,9 @@ use Rattle.mt_rules.specs.declared.kind.Kind.TheVariants.{Plain, Radical, Accent
 use Rattle.mt_rules.specs.declared.kind.Limits.TheVariants.{Never}
 use Rattle.mt_rules.specs.Sequence.{Element, AtomElement, FractionElement, LeftElement, RightElement, EmptyPart, ListPart, RowsPart, NoRows, MoreRows}
 use Rattle.mt_convert.specs.ListRow.{list_row}
-use Rattle.mt_convert.proofs.cases.ToyFonts.{toy}
-use Rattle.mt_convert.proofs.cases.Writing.{list, symbol, delim, no_delim, atom, plain, letter, roman, equals, group, from_top, evaluated}
+use Rattle.mt_rules.proofs.cases.ToyFonts.{toy}
+use Rattle.mt_rules.proofs.cases.Writing.{delim, no_delim}
+use Rattle.mt_convert.proofs.cases.Writing.{list, symbol, atom, plain, letter, roman, equals, group, from_top, evaluated}
 
 -- the root of b squared - 4 a c
 abbrev root_of_discriminant : Element

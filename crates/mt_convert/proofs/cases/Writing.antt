@@ -1,7 +1,5 @@
 -- Short forms for worked lists, and what evaluating them unfolds.
-use Rattle.std.specs.Prelude.{ℕ, ℤ, pos, neg_ℤ, List, [], ◌∷◌, Ok, ⊤}
-use Rattle.mt_tfm.specs.declared.chars.CharWord.{CharWord}
-use Rattle.mt_family.specs.Sets.{sy, ex}
+use Rattle.std.specs.Prelude.{ℕ, pos, List, [], ◌∷◌, Ok, ⊤}
 use Rattle.mt_box.specs.declared.place.Place.{Place}
 use Rattle.mt_box.specs.Placing.{all_lowered}
 use Rattle.mt_box.specs.Rows.{PieceValue, pack}
@@ -10,36 +8,12 @@ use Rattle.mt_rules.specs.declared.class.Class.TheVariants.{Ord, Bin, Rel}
 use Rattle.mt_rules.specs.declared.kind.Kind.{Kind}
 use Rattle.mt_rules.specs.declared.kind.Kind.TheVariants.{Plain}
 use Rattle.mt_rules.specs.declared.kind.Limits.TheVariants.{Default}
-use Rattle.mt_rules.specs.declared.symbol.Delim.{Delim}
 use Rattle.mt_rules.specs.Sequence.{Sequence, Element, Part, End, More, AtomElement, EmptyPart, SymbolPart, ListPart}
 use Rattle.mt_rules.specs.Setting.{Setting, ◌>>=◌}
-use Rattle.mt_rules.specs.Candidates.{candidates}
-use Rattle.mt_rules.specs.Delimiters.{delimiter, delimiter_variant}
-use Rattle.mt_rules.specs.Scripts.{script_shifts, row_with_scripts}
-use Rattle.mt_rules.specs.Limits.{limits}
-use Rattle.mt_rules.specs.Fractions.{fraction_shifts, fraction}
-use Rattle.mt_rules.specs.Radicals.{radical}
-use Rattle.mt_rules.specs.Lines.{overline, underline}
-use Rattle.mt_rules.specs.Vcenter.{vcenter}
-use Rattle.mt_rules.specs.Accents.{accent}
-use Rattle.mt_rules.specs.Nuclei.{clean_field, nucleus_row}
-use Rattle.mt_rules.specs.Operators.{operator_nucleus}
-use Rattle.mt_rules.specs.AtomRow.{atom_row, fraction_row}
 use Rattle.mt_convert.specs.FirstPass.{first_pass_of}
 use Rattle.mt_convert.specs.SecondPass.{second_pass_of}
 use Rattle.mt_convert.specs.ListRow.{halves_of, list_row}
-
-abbrev pub neg : ℕ → ℤ
-neg n = neg_ℤ (pos n)
-
--- ---- characters of a font, whose i-th entries they have
-
-abbrev pub char : ℕ → ℕ → ℕ → ℕ → ℕ → ℕ → CharWord
-char width height depth italic tag remainder =
-    record { width = width; height = height; depth = depth; italic = italic; tag = tag; remainder = remainder }
-
-abbrev pub absent : CharWord
-absent = char 0 0 0 0 0 0
+use Rattle.mt_rules.proofs.cases.Writing as rules
 
 -- ---- lists
 
@@ -50,13 +24,6 @@ list (e ∷ es) = More e (list es)
 -- a character of a family
 abbrev pub symbol : ℕ → ℕ → Part
 symbol fam code = SymbolPart (record { fam = fam; code = code })
-
-abbrev pub delim : ℕ → ℕ → ℕ → ℕ → Delim
-delim fam code large_fam large_code =
-    record { small = record { fam = fam; code = code }; large = record { fam = large_fam; code = large_code } }
-
-abbrev pub no_delim : Delim
-no_delim = delim 0 0 0 0
 
 abbrev pub atom : Kind → Part → Part → Part → Element
 atom kind nucleus sup sub = AtomElement kind Default nucleus sup sub
@@ -95,5 +62,5 @@ from_top row = do
 -- ---- the rules, open
 
 unfoldable pub evaluated : ⊤
-unfolding sy ex candidates delimiter delimiter_variant script_shifts row_with_scripts limits fraction_shifts fraction radical overline underline vcenter accent clean_field nucleus_row operator_nucleus atom_row fraction_row first_pass_of second_pass_of halves_of list_row
+unfolding rules.evaluated first_pass_of second_pass_of halves_of list_row
 evaluated = tt

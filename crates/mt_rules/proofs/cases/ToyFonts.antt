@@ -1,4 +1,4 @@
--- The example fonts.
+-- The toy fonts.
 use Rattle.std.specs.Prelude.{pos, [], ◌∷◌, ◌++◌, replicate, Some, None}
 use Rattle.mt_tfm.specs.Font.{Metrics}
 use Rattle.mt_family.specs.SetValue.{SetValue}
