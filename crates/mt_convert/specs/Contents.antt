@@ -1,4 +1,5 @@
--- The items of a math list, where each list inside an item is given as the row that it is set to in each style (`ItemContents`).
+-- The items of a math list, where each list inside an item is given as the row that it is set to in each style
+-- (`ItemContents`).
 use Rattle.std.specs.Prelude.{ℤ}
 use Rattle.mt_rules.specs.declared.style.Style.{Style}
 use Rattle.mt_rules.specs.declared.symbol.Delim.{Delim}

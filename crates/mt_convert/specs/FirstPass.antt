@@ -1,5 +1,5 @@
--- The first pass (`first_pass_of`): the items of the flat list are set in order, up to the first fault (The TeXbook, Appendix G, rules
--- 1 to 18; tex.web, sections 726 to 759).
+-- The first pass (`first_pass_of`): the items of the flat list are set in order, up to the first fault (The TeXbook,
+-- Appendix G, rules 1 to 18; tex.web, sections 726 to 759).
 use Rattle.std.specs.Prelude.{ℕ, ℤ, pos, int_div, List, [], ◌∷◌, Ok}
 use Rattle.mt_scaled.specs.Number.{mu_product}
 use Rattle.mt_family.specs.SetValue.{SetValue}

@@ -1,5 +1,5 @@
--- The flat list of a math list (`flat`): choices are taken, conditional spaces have had their effect, and symbols are joined (The
--- TeXbook, Appendix G, rules 2 to 4 and 14; tex.web, sections 731, 732 and 752).
+-- The flat list of a math list (`flat`): choices are taken, conditional spaces have had their effect, and symbols are
+-- joined (The TeXbook, Appendix G, rules 2 to 4 and 14; tex.web, sections 731, 732 and 752).
 use Rattle.std.specs.Prelude.{ℕ, zero, suc, ℤ, pos, Bool, true, false, if◌then◌else◌, List, [], ◌∷◌, ◌++◌, Option, Some, None}
 use Rattle.mt_tfm.specs.declared.pair.Pair.{Pair}
 use Rattle.mt_tfm.specs.declared.pair.Pair.TheVariants.{None as NoPair, Kern as KernPair, Join as JoinPair, Smart as RefusedPair}
@@ -50,7 +50,8 @@ class_after_item last (FlatRight delim) = Some Close
 class_after_item last _ = last
 
 abbrev pub current_after_item : Current → FlatItem → Current
-current_after_item current item = record { style = style_after_item current.style item; last = class_after_item current.last item }
+current_after_item current item =
+    record { style = style_after_item current.style item; last = class_after_item current.last item }
 
 -- ---- one turn, at the front of a list
 
@@ -72,8 +73,8 @@ abbrev pub first_as_symbol : Symbol → ItemContents → ItemContents
 first_as_symbol symbol NoItems = NoItems
 first_as_symbol symbol (MoreItems item rest) = MoreItems (as_symbol symbol item) rest
 
--- The first of a pair that is looked up is a symbol of a text; a kern of the pair stands between the two. Where the pair has a ligature
--- of another kind, setting this atom is refused, so what follows it has no effect.
+-- The first of a pair that is looked up is a symbol of a text; a kern of the pair stands between the two. Where the
+-- pair has a ligature of another kind, setting this atom is refused, so what follows it has no effect.
 abbrev pub pair_turn : SymbolPair → AtomContent → ItemContents → Option Pair → FrontTurn
 pair_turn p a rest None = passes (FlatAtom OrdinarySymbol a) rest
 pair_turn p a rest (Some NoPair) = passes (FlatAtom TextSymbol a) rest
@@ -123,7 +124,8 @@ turn fonts current (LeftItem delim) rest = passes (FlatLeft delim) rest
 turn fonts current (RightItem delim) rest = passes (FlatRight delim) rest
 turn fonts current (StyleItem style) rest = passes (FlatStyle style) rest
 turn fonts current (ChoiceItem display text script small) rest =
-    Rewrites (MoreItems (StyleItem current.style) (append_items (list_for current.style display text script small) rest))
+    Rewrites (MoreItems (StyleItem current.style)
+    (append_items (list_for current.style display text script small) rest))
 turn fonts current (MuSpaceItem glue) rest = passes (FlatMuSpace glue) rest
 turn fonts current (SpaceItem glue) rest = passes (FlatSpace glue) rest
 turn fonts current (MuKernItem amount) rest = passes (FlatMuKern amount) rest

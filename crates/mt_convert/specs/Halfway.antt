@@ -1,4 +1,5 @@
--- The items that the code has between the two passes as those of the definition (`halves_value`), and what such a list keeps (`IsHalfway`).
+-- The items that the code has between the two passes as those of the definition (`halves_value`), and what such a list
+-- keeps (`IsHalfway`).
 use Rattle.std.specs.Prelude.{◌≡◌, ◌≤◌, ◌≤ℤ◌, ◌+◌, ◌^◌, ℕ, ℤ, pos, ⊤, List, [], ◌∷◌, length, Option, Some, None, false}
 use Rattle.std.specs.Option.{option_or}
 use Rattle.mt_scaled.specs.Number.{Within, max_dimen}

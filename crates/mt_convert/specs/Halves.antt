@@ -1,4 +1,5 @@
--- The items of a list between the two passes (`Halves`): each set, with its final class (The TeXbook, Appendix G, rules 5, 6 and 19).
+-- The items of a list between the two passes (`Halves`): each set, with its final class (The TeXbook, Appendix G, rules
+-- 5, 6 and 19).
 use Rattle.std.specs.Prelude.{ℤ, pos, List, [], ◌∷◌, Option, Some, None}
 use Rattle.std.specs.Int.{int_max}
 use Rattle.std.specs.Option.{option_or}
@@ -19,7 +20,8 @@ pub data HalfValue : Type 0 where
   HalfKern : (amount : ℤ) → HalfValue
   HalfSpace : (glue : Glue) → HalfValue
 
--- The class that an item counts as for the atom at its left, and for the one at its right, where it is spaced as an atom.
+-- The class that an item counts as for the atom at its left, and for the one at its right, where it is spaced as an
+-- atom.
 abbrev pub class_to_left : HalfValue → Option Class
 class_to_left (HalfAtom class row) = Some class
 class_to_left (HalfLeft delim) = Some Open

@@ -1,5 +1,5 @@
--- The row that a math list is set to (`list_row`; The TeXbook, Appendix G; tex.web, section 726): the first pass over its items
--- (`halves_of`), then the second one.
+-- The row that a math list is set to (`list_row`; The TeXbook, Appendix G; tex.web, section 726): the first pass over
+-- its items (`halves_of`), then the second one.
 use Rattle.std.specs.Prelude.{ℕ, List, [], ◌∷◌}
 use Rattle.mt_family.specs.SetValue.{SetValue}
 use Rattle.mt_box.specs.Rows.{PieceValue}
@@ -26,7 +26,13 @@ module _ (fonts : SetValue) where
 
     pub item_of : Element → ItemContent
     item_of (AtomElement kind limits nucleus sup sub) =
-        AtomItem (record { kind = kind; limits = limits; nucleus = content_of nucleus; sup = content_of sup; sub = content_of sub })
+        AtomItem (record {
+          kind = kind;
+          limits = limits;
+          nucleus = content_of nucleus;
+          sup = content_of sup;
+          sub = content_of sub;
+        })
     item_of (FractionElement thickness left right num den) =
         FractionItem (record {
           thickness = thickness;

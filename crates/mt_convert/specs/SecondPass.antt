@@ -1,5 +1,5 @@
--- The second pass (`second_pass_of`): the rows of the items side by side, with the spaces between atoms and the boundaries at the two ends
--- (The TeXbook, Appendix G, rules 19 and 20; chapter 18; tex.web, sections 760 to 767).
+-- The second pass (`second_pass_of`): the rows of the items side by side, with the spaces between atoms and the
+-- boundaries at the two ends (The TeXbook, Appendix G, rules 19 and 20; chapter 18; tex.web, sections 760 to 767).
 use Rattle.std.specs.Prelude.{ℤ, List, [], ◌∷◌, ◌++◌, Option, Some, None, Ok}
 use Rattle.std.specs.Option.{option_or}
 use Rattle.mt_family.specs.declared.size.Size.{Size}
@@ -84,8 +84,8 @@ row_of_halves fonts size wanted style halves = do
   pieces ← all_pieces fonts size wanted (opening style) halves
   make_row pieces
 
--- Boundaries have their size at that of the style in which the list begins. They stand at the ends alone, so nothing else is made
--- between the left one and the right one.
+-- Boundaries have their size at that of the style in which the list begins. They stand at the ends alone, so nothing
+-- else is made between the left one and the right one.
 unfoldable pub second_pass_of : SetValue → Style → Halves → Setting (List PieceValue)
 second_pass_of fonts style halves =
     let size = size_of style in

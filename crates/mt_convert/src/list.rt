@@ -1,10 +1,13 @@
 //! The conversion of a math list (The TeXbook, Appendix G; tex.web, sections 726 to 767).
-ghost use Rattle.std.specs.Prelude.{◌≡◌, ◌≤◌, ◌+◌, ◌++◌, ◌∷◌, [], ◌*◌, ◌^◌, ℕ, All, IfOk, OnOk, length};
+ghost use Rattle.std.specs.Prelude.{◌≡◌, ◌≤◌, ◌+◌, ◌++◌, ◌∷◌, [], ◌*◌, ◌^◌, ℕ, All, IfOk, OnOk};
+ghost use Rattle.std.specs.Prelude.{length};
 ghost use Rattle.mt_box.specs.Rows.{piece_values};
 ghost use Rattle.mt_scaled.specs.Number.{Within};
 ghost use Rattle.mt_tfm.specs.Font.{IsSoundFont};
-ghost use Rattle.mt_rules.specs.AtomRow.{accent_inside, overline_part, pack_rows, radical_part, script_box, underline_part, vcenter_part};
-ghost use Rattle.mt_rules.specs.Modest.{IsModestList, element_nesting, list_nesting, part_nesting, rows_nesting};
+ghost use Rattle.mt_rules.specs.AtomRow.{accent_inside, overline_part, pack_rows, radical_part};
+ghost use Rattle.mt_rules.specs.AtomRow.{script_box, underline_part, vcenter_part};
+ghost use Rattle.mt_rules.specs.Modest.{IsModestList, element_nesting, list_nesting, part_nesting};
+ghost use Rattle.mt_rules.specs.Modest.{rows_nesting};
 ghost use Rattle.mt_rules.specs.Nuclei.{SymbolContent, clean_field, clean_list, packed_list};
 ghost use Rattle.mt_rules.specs.View.{atom_element, fraction_element, part_of_field};
 ghost use Rattle.mt_scripts.specs.Levels.{script_level};
@@ -13,12 +16,18 @@ ghost use Rattle.mt_convert.specs.FirstPass;
 ghost use Rattle.mt_convert.specs.Halfway.{HalvesFit, HalfFits, RowFits, count_of};
 ghost use Rattle.mt_convert.specs.Holding.{RowHolds};
 ghost use Rattle.mt_convert.specs.ListRow.{halves_of, list_row, rows_by_style};
-ghost use Rattle.mt_convert.specs.inner.Answers.{HalfReachInRange, ReachInRange, SetsBox, SetsBoxes, SetsHalf, SetsNucleus, SetsOperator, SetsScript};
-ghost use Rattle.mt_convert.specs.inner.Fields.{atom_row_of, field_content, fraction_row_of, list_content};
-ghost use Rattle.mt_convert.specs.inner.AtomSteps.{accent_part, class_nucleus, kind_nucleus, operator_box, row_with_fields, row_with_limits};
-ghost use Rattle.mt_convert.specs.inner.Modest.{IsModestElement, IsModestPart, IsModestRows, ScriptLevels};
+ghost use Rattle.mt_convert.specs.inner.Answers.{HalfReachInRange, ReachInRange, SetsBox};
+ghost use Rattle.mt_convert.specs.inner.Answers.{SetsBoxes, SetsHalf, SetsNucleus, SetsOperator};
+ghost use Rattle.mt_convert.specs.inner.Answers.{SetsScript};
+ghost use Rattle.mt_convert.specs.inner.Fields.{atom_row_of, field_content, fraction_row_of};
+ghost use Rattle.mt_convert.specs.inner.Fields.{list_content};
+ghost use Rattle.mt_convert.specs.inner.AtomSteps.{accent_part, class_nucleus, kind_nucleus};
+ghost use Rattle.mt_convert.specs.inner.AtomSteps.{operator_box, row_with_fields, row_with_limits};
+ghost use Rattle.mt_convert.specs.inner.Modest.{IsModestElement, IsModestPart, IsModestRows};
+ghost use Rattle.mt_convert.specs.inner.Modest.{ScriptLevels};
 ghost use Rattle.mt_convert.specs.inner.Nucleus.{NucleusIsSmall, nucleus_value, operator_value};
-ghost use Rattle.mt_convert.specs.inner.Turns.{element_of_passed, flat_item, passed_value, role_value};
+ghost use Rattle.mt_convert.specs.inner.Turns.{element_of_passed, flat_item, passed_value};
+ghost use Rattle.mt_convert.specs.inner.Turns.{role_value};
 
 use crate::SetFault;
 use crate::flat::current::{Current, kind_class};
@@ -223,7 +232,8 @@ fn set_scripts(
     requires sup { IsModestPart (part_of_field sup) }
     requires sub { IsModestPart (part_of_field sub) }
     ensures is { SetsRow result
-        (row_with_fields fonts.now style (nucleus_value nucleus) (field_content fonts.now sup) (field_content fonts.now sub)) }
+        (row_with_fields fonts.now style (nucleus_value nucleus)
+        (field_content fonts.now sup) (field_content fonts.now sub)) }
     ensures few { IfOk result (λ row. length row ≤ 3) }
     ensures fits { IfOk result (λ row. (n : ℕ) → RowFits n nucleus.row →
         ScriptLevels n (part_of_field sup) (part_of_field sub) → RowFits (n + 2) row) }
@@ -249,7 +259,8 @@ fn set_limits(
     requires sup { IsModestPart (part_of_field sup) }
     requires sub { IsModestPart (part_of_field sub) }
     ensures is { SetsRow result
-        (row_with_limits fonts.now style (operator_value operator) (field_content fonts.now sup) (field_content fonts.now sub)) }
+        (row_with_limits fonts.now style (operator_value operator)
+        (field_content fonts.now sup) (field_content fonts.now sub)) }
     ensures few { IfOk result (λ row. length row ≤ 3) }
     ensures fits { IfOk result (λ row. (n : ℕ) → operator.body.level ≤ n →
         ScriptLevels n (part_of_field sup) (part_of_field sub) → RowFits (n + 3) row) }
@@ -329,7 +340,8 @@ fn set_nucleus(
     has_subscript: bool,
 ) -> Result<SetNucleus, SetFault>
     requires modest { IsModestPart (part_of_field field) }
-    ensures is { SetsNucleus result (kind_nucleus kind fonts.now style (role_value role) (field_content fonts.now field) has_subscript) }
+    ensures is { SetsNucleus result
+        (kind_nucleus kind fonts.now style (role_value role) (field_content fonts.now field) has_subscript) }
     ensures fits { IfOk result (NucleusIsSmall (12 * part_nesting (part_of_field field) + 4)) }
 {
     match kind {
@@ -356,7 +368,8 @@ fn set_plain(
     has_subscript: bool,
 ) -> Result<SetNucleus, SetFault>
     requires modest { IsModestPart (part_of_field field) }
-    ensures is { SetsNucleus result (class_nucleus class fonts.now style (role_value role) (field_content fonts.now field) has_subscript) }
+    ensures is { SetsNucleus result
+        (class_nucleus class fonts.now style (role_value role) (field_content fonts.now field) has_subscript) }
     ensures fits { IfOk result (NucleusIsSmall (12 * part_nesting (part_of_field field) + 4)) }
 {
     match field {
@@ -496,9 +509,11 @@ fn set_accent_inside(
     requires sup { IsModestPart (part_of_field sup) }
     requires sub { IsModestPart (part_of_field sub) }
     ensures is { SetsRow result
-        (accent_inside fonts.now style accent_symbol (SymbolContent symbol) (field_content fonts.now sup) (field_content fonts.now sub)) }
+        (accent_inside fonts.now style accent_symbol (SymbolContent symbol)
+        (field_content fonts.now sup) (field_content fonts.now sub)) }
     ensures few { IfOk result (λ row. length row ≤ 3) }
-    ensures fits { IfOk result (λ row. (n : ℕ) → ScriptLevels n (part_of_field sup) (part_of_field sub) → RowFits (n + 4) row) }
+    ensures fits { IfOk result (λ row. (n : ℕ) →
+        ScriptLevels n (part_of_field sup) (part_of_field sub) → RowFits (n + 4) row) }
     ensures reach { IfOk result ReachInRange }
 {
     let number = find_symbol(fonts, style.size(), accent_symbol)?;

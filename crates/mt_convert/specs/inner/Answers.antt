@@ -1,5 +1,5 @@
--- What the calls inside the crate answer, beside what setting answers (`SetsBox`, `SetsScript`, `SetsBoxes`, `SetsNucleus`, `SetsHalf`): the
--- same value, or the same fault. Want of memory may come in its place.
+-- What the calls inside the crate answer, beside what setting answers (`SetsBox`, `SetsScript`, `SetsBoxes`,
+-- `SetsNucleus`, `SetsHalf`): the same value, or the same fault. Want of memory may come in its place.
 use Rattle.std.specs.Prelude.{◌≡◌, ℕ, ◌≤ℤ◌, pos, List, map, Option, Result, Ok, Err}
 use Rattle.std.specs.Option.{option_map}
 use Rattle.mt_scaled.specs.Number.{max_dimen}

@@ -12,6 +12,7 @@ appended_to there setting = do
   more ← setting
   Ok (there ++ more)
 
-abbrev pub AppendsPieces : {U : Type 0} → Result U SetFault → List Piece → List Piece → Setting (List PieceValue) → Type 0
+abbrev pub AppendsPieces : {U : Type 0} → Result U SetFault → List Piece → List Piece
+    → Setting (List PieceValue) → Type 0
 AppendsPieces (Ok u) old new setting = appended_to (piece_values old) setting ≡ Ok (piece_values new)
 AppendsPieces (Err fault) old new setting = SetFails fault setting

@@ -45,7 +45,8 @@ field_content fonts field = content_of fonts (part_of_field field)
 
 abbrev pub atom_row_of : SetValue → Style → SymbolRole → Atom → Setting (List PieceValue)
 atom_row_of fonts style role a =
-    atom_row fonts style role (atom_content fonts a.kind a.limits (part_of_field a.nucleus) (part_of_field a.sup) (part_of_field a.sub))
+    atom_row fonts style role (atom_content fonts a.kind a.limits
+    (part_of_field a.nucleus) (part_of_field a.sup) (part_of_field a.sub))
 
 abbrev pub fraction_row_of : SetValue → Style → Fraction → Setting (List PieceValue)
 fraction_row_of fonts style f = fraction_row fonts style (fraction_content fonts f.thickness f.left f.right f.num f.den)

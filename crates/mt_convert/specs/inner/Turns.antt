@@ -1,4 +1,5 @@
--- One turn at the front of a list of the code (`turn_of`), and what an item that passes is in the flat list (`flat_items`).
+-- One turn at the front of a list of the code (`turn_of`), and what an item that passes is in the flat list
+-- (`flat_items`).
 use Rattle.std.specs.Prelude.{ℤ, Bool, true, false, ◌&&◌, if◌then◌else◌, List, [], ◌∷◌, Option, Some, None}
 use Rattle.mt_tfm.specs.declared.pair.Pair.{Pair}
 use Rattle.mt_tfm.specs.declared.pair.Pair.TheVariants.{None as NoPair, Kern as KernPair, Join as JoinPair, Smart as RefusedPair}
@@ -37,7 +38,8 @@ use Rattle.mt_convert.specs.inner.Fields.{atom_content, fraction_content}
 -- an item that passes: there are no choices and no conditional spaces among them
 pub data PassedElement : Type 0 where
   -- an atom, what joining makes of its symbol, and the kern between it and the next one
-  PassedAtom : (kind : Kind) (limits : Limits) (nucleus sup sub : Part) (role : SymbolRole) (kern : Option ℤ) → PassedElement
+  PassedAtom : (kind : Kind) (limits : Limits) (nucleus sup sub : Part) (role : SymbolRole)
+      (kern : Option ℤ) → PassedElement
   PassedFraction : (thickness : Option ℤ) (left right : Delim) (num den : Sequence) → PassedElement
   PassedLeft : (delim : Delim) → PassedElement
   PassedRight : (delim : Delim) → PassedElement
@@ -66,7 +68,8 @@ role_value role.Text = TextSymbol
 role_value (role.Smart first second) = SmartPair first second
 
 abbrev pub atom_passed : AtomFields → JoiningRole → Option ℤ → PassedElement
-atom_passed a r kern = PassedAtom a.kind a.limits (part_of_field a.nucleus) (part_of_field a.sup) (part_of_field a.sub) (role_value r) kern
+atom_passed a r kern =
+    PassedAtom a.kind a.limits (part_of_field a.nucleus) (part_of_field a.sup) (part_of_field a.sub) (role_value r) kern
 
 abbrev pub fraction_passed : FractionFields → PassedElement
 fraction_passed f = PassedFraction f.thickness f.left f.right f.num f.den
@@ -94,8 +97,10 @@ kern_of (PassedAtom kind limits nucleus sup sub role kern) = kern
 kern_of _ = None
 
 abbrev pub flat_item : SetValue → PassedElement → FlatItem
-flat_item fonts (PassedAtom kind limits nucleus sup sub role kern) = FlatAtom role (atom_content fonts kind limits nucleus sup sub)
-flat_item fonts (PassedFraction thickness left right num den) = FlatFraction (fraction_content fonts thickness left right num den)
+flat_item fonts (PassedAtom kind limits nucleus sup sub role kern) =
+    FlatAtom role (atom_content fonts kind limits nucleus sup sub)
+flat_item fonts (PassedFraction thickness left right num den) =
+    FlatFraction (fraction_content fonts thickness left right num den)
 flat_item fonts (PassedLeft delim) = FlatLeft delim
 flat_item fonts (PassedRight delim) = FlatRight delim
 flat_item fonts (PassedStyle style) = FlatStyle style
@@ -120,7 +125,8 @@ class_after_passed last (PassedRight delim) = Some Close
 class_after_passed last _ = last
 
 abbrev pub current_after_passed : Current → PassedElement → Current
-current_after_passed current p = record { style = style_after_passed current.style p; last = class_after_passed current.last p }
+current_after_passed current p =
+    record { style = style_after_passed current.style p; last = class_after_passed current.last p }
 
 -- ---- one turn
 
@@ -146,7 +152,8 @@ symbol_before last kind nucleus sup sub =
 
 -- of an atom of the code
 abbrev pub atom_symbol_before : Option Class → AtomFields → Option Symbol
-atom_symbol_before last a = symbol_before last a.kind (part_of_field a.nucleus) (part_of_field a.sup) (part_of_field a.sub)
+atom_symbol_before last a =
+    symbol_before last a.kind (part_of_field a.nucleus) (part_of_field a.sup) (part_of_field a.sub)
 
 abbrev pub symbol_after : Kind → Part → Option Symbol
 symbol_after kind nucleus = if is_any_but_inner kind then part_symbol nucleus else None
@@ -160,7 +167,8 @@ next_symbol_of End = None
 next_symbol_of (More e s) = symbol_of_element e
 
 abbrev pub element_as_symbol : Symbol → Element → Element
-element_as_symbol symbol (AtomElement kind limits nucleus sup sub) = AtomElement (Plain Ord) limits (SymbolPart symbol) sup sub
+element_as_symbol symbol (AtomElement kind limits nucleus sup sub) =
+    AtomElement (Plain Ord) limits (SymbolPart symbol) sup sub
 element_as_symbol symbol e = e
 
 abbrev pub first_element_as : Symbol → Sequence → Sequence
@@ -174,7 +182,8 @@ turn_by_pair p passing s (Some (KernPair amount)) = PassesOne (passing TextSymbo
 turn_by_pair p passing s (Some (JoinPair code)) = RewritesTo (first_element_as (record { fam = p.fam; code = code }) s)
 turn_by_pair p passing s (Some RefusedPair) = PassesOne (passing (SmartPair p.first p.second) None) s
 
-abbrev pub turn_of_atom : SetValue → Size → (SymbolRole → Option ℤ → PassedElement) → Sequence → Option SymbolPair → ListTurn
+abbrev pub turn_of_atom : SetValue → Size → (SymbolRole → Option ℤ → PassedElement) → Sequence
+    → Option SymbolPair → ListTurn
 turn_of_atom fonts size passing s None = PassesOne (passing OrdinarySymbol None) s
 turn_of_atom fonts size passing s (Some p) = turn_by_pair p passing s (pair_of_fonts fonts size p)
 
@@ -201,7 +210,8 @@ abbrev pub turn_of : SetValue → Current → Element → Sequence → ListTurn
 turn_of fonts current (AtomElement kind limits nucleus sup sub) s =
     turn_of_atom fonts (size_of current.style) (PassedAtom kind limits nucleus sup sub) s
     (symbol_pair (symbol_before current.last kind nucleus sup sub) (next_symbol_of s))
-turn_of fonts current (FractionElement thickness left right num den) s = PassesOne (PassedFraction thickness left right num den) s
+turn_of fonts current (FractionElement thickness left right num den) s =
+    PassesOne (PassedFraction thickness left right num den) s
 turn_of fonts current (LeftElement delim) s = PassesOne (PassedLeft delim) s
 turn_of fonts current (RightElement delim) s = PassesOne (PassedRight delim) s
 turn_of fonts current (StyleElement style) s = PassesOne (PassedStyle style) s

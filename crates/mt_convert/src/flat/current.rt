@@ -1,7 +1,8 @@
 //! Where a list has come to.
 ghost use Rattle.std.specs.Prelude.{◌≡◌};
 ghost use Rattle.mt_rules.specs.Classes.{kind_class};
-ghost use Rattle.mt_convert.specs.inner.Turns.{class_after_passed, current_after_passed, passed_value, style_after_passed};
+ghost use Rattle.mt_convert.specs.inner.Turns.{class_after_passed, current_after_passed};
+ghost use Rattle.mt_convert.specs.inner.Turns.{passed_value, style_after_passed};
 
 use crate::flat::passed::Passed;
 use mt_rules::{Class, Kind, Style};

@@ -2,8 +2,10 @@
 ghost use Rattle.std.specs.Prelude.{◌≡◌, Some};
 ghost use Rattle.mt_rules.specs.Styles.{size_of};
 ghost use Rattle.mt_rules.specs.View.{part_of_field};
-ghost use Rattle.mt_convert.specs.Joining.{is_any_but_inner, is_ord_by_now, pair_in_font, pair_of_fonts, symbol_pair};
-ghost use Rattle.mt_convert.specs.inner.Turns.{atom_symbol_before, is_empty_part, part_symbol, symbol_after};
+ghost use Rattle.mt_convert.specs.Joining.{is_any_but_inner, is_ord_by_now, pair_in_font};
+ghost use Rattle.mt_convert.specs.Joining.{pair_of_fonts, symbol_pair};
+ghost use Rattle.mt_convert.specs.inner.Turns.{atom_symbol_before, is_empty_part, part_symbol};
+ghost use Rattle.mt_convert.specs.inner.Turns.{symbol_after};
 
 use mt_family::FontSet;
 use mt_rules::{Atom, Class, Field, Kind, Style, Symbol};

@@ -23,8 +23,10 @@ pub(crate) fn turn(
     front: Item,
     rest: &mut Worklist,
 ) -> Result<Option<Passed>, AllocError>
-    ensures turns { IfOk result (λ passed. turned passed rest.new ≡ turn_of fonts.now current (element_of front) rest.old) }
-    ensures boundaries { IfOk result (λ passed. RestOfList (More (element_of front) rest.old) → TurnLeaves passed rest.new) }
+    ensures turns { IfOk result (λ passed. turned passed rest.new
+        ≡ turn_of fonts.now current (element_of front) rest.old) }
+    ensures boundaries { IfOk result (λ passed.
+        RestOfList (More (element_of front) rest.old) → TurnLeaves passed rest.new) }
 {
     let passed = match front {
         Item::Atom(atom) => return turn_atom(fonts, current, atom, rest),
@@ -61,7 +63,8 @@ fn turn_atom(
     atom: Box<Atom>,
     rest: &mut Worklist,
 ) -> Result<Option<Passed>, AllocError>
-    ensures turns { IfOk result (λ passed. turned passed rest.new ≡ turn_of fonts.now current (atom_element atom.value) rest.old) }
+    ensures turns { IfOk result (λ passed. turned passed rest.new
+        ≡ turn_of fonts.now current (atom_element atom.value) rest.old) }
     ensures boundaries { IfOk result (λ passed. RestOfList rest.old → TurnLeaves passed rest.new) }
 {
     let first = first_symbol(current.last, &atom);

@@ -3,8 +3,10 @@ ghost use Rattle.std.specs.Prelude.{◌≡◌, MatchOption, OnOk};
 ghost use Rattle.mt_rules.specs.Facts.{IsMathList};
 ghost use Rattle.mt_rules.specs.Sequence.{End, More};
 ghost use Rattle.mt_rules.specs.View.{element_of};
-ghost use Rattle.mt_convert.specs.inner.Turns.{append_list, begins_with_space, first_element_as, next_symbol_of};
-ghost use Rattle.mt_convert.specs.inner.Turns.{element_as_symbol, is_space_element, symbol_of_element};
+ghost use Rattle.mt_convert.specs.inner.Turns.{append_list, begins_with_space, first_element_as};
+ghost use Rattle.mt_convert.specs.inner.Turns.{next_symbol_of};
+ghost use Rattle.mt_convert.specs.inner.Turns.{element_as_symbol, is_space_element};
+ghost use Rattle.mt_convert.specs.inner.Turns.{symbol_of_element};
 
 use crate::flat::joining::second_symbol;
 use mt_rules::{Class, Field, Item, Kind, MathList, Symbol};
@@ -26,7 +28,8 @@ impl Model for Worklist {
     ghost use Rattle.std.specs.Prelude.{List};
     ghost use Rattle.std.specs.Coded.{codes, code_by, coded_list};
 
-    ghost coded = { code_by (List BuildStep) (coded_list (Prim.hlevel codes)) build_steps sequence_from sequence_from-steps };
+    ghost coded = { code_by (List BuildStep) (coded_list (Prim.hlevel codes))
+        build_steps sequence_from sequence_from-steps };
 
     ghost use Rattle.mt_convert.specs.inner.Stack.{stack_list};
 
@@ -44,7 +47,8 @@ impl Worklist {
     }
 
     pub(crate) fn pop(&mut self) -> Option<Item>
-        ensures { MatchOption result ((self.old ≡ End) × (self.new ≡ End)) (λ item. self.old ≡ More (element_of item) self.new) }
+        ensures { MatchOption result ((self.old ≡ End) × (self.new ≡ End))
+            (λ item. self.old ≡ More (element_of item) self.new) }
     {
         self.items.pop()
     }

@@ -52,17 +52,10 @@ fn wanted_for(reach: Length) -> Length
     ensures is { result.sp ≡ int_max (int_div reach.sp (pos 500) *ℤ pos 901) ((pos 2 *ℤ reach.sp) -ℤ pos 327680) }
     ensures small { Within (2 ^ 40) result.sp }
 {
-    doubled(reach)
+    reach
+        .twice()
         .minus(Length { sp: 327680 })
         .at_least(share(reach))
-}
-
-#[tactic(auto, using(std::proofs::lemmas::Int::ints))]
-fn doubled(reach: Length) -> Length
-    requires { Within (2 ^ 33) reach.sp }
-    ensures { result.sp ≡ pos 2 *ℤ reach.sp }
-{
-    Length { sp: 2 * reach.sp }
 }
 
 fn share(reach: Length) -> Length
@@ -87,11 +80,9 @@ pub(crate) fn boundary(
     ensures measurable { IfOk result IsMeasurable }
     ensures level { IfOk result (λ p. level_of_piece p ≤ 2) }
 {
-    match delimiter_box(alloc, fonts, delim, frame.size, frame.wanted.sp) {
-        Ok(raised) => Ok(Piece::Boxed {
-            raise: raised.raise,
-            body: raised.body,
-        }),
-        Err(error) => Err(SetFault::from(error)),
-    }
+    let raised = delimiter_box(alloc, fonts, delim, frame.size, frame.wanted.sp)?;
+    Ok(Piece::Boxed {
+        raise: raised.raise,
+        body: raised.body,
+    })
 }

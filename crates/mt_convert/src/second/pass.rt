@@ -2,9 +2,11 @@
 //! rules 19 and 20).
 ghost use Rattle.std.specs.Prelude.{◌≡◌, ◌≤◌, ◌^◌, ℕ, IfOk, length, None};
 ghost use Rattle.mt_scaled.specs.Number.{Within};
-ghost use Rattle.mt_convert.specs.SecondPass.{current_after_half, row_of_halves, second_pass_of, style_after_half};
+ghost use Rattle.mt_convert.specs.SecondPass.{current_after_half, row_of_halves, second_pass_of};
+ghost use Rattle.mt_convert.specs.SecondPass.{style_after_half};
 ghost use Rattle.mt_convert.specs.Calls.{SetsRow};
-ghost use Rattle.mt_convert.specs.Halfway.{half_value, half_values, halves_value, total_of, HalvesFit, AllMeet, RowFits};
+ghost use Rattle.mt_convert.specs.Halfway.{half_value, half_values, halves_value, total_of};
+ghost use Rattle.mt_convert.specs.Halfway.{HalvesFit, AllMeet, RowFits};
 
 use crate::SetFault;
 use crate::flat::current::Current;

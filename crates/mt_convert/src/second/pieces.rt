@@ -4,7 +4,8 @@ ghost use Rattle.mt_scaled.specs.Number.{Within};
 ghost use Rattle.mt_box.specs.Rows.{piece_values};
 ghost use Rattle.mt_convert.specs.declared.fault.SetFault.TheVariants.{OutOfMemory};
 ghost use Rattle.mt_convert.specs.Halves.{class_to_left};
-ghost use Rattle.mt_convert.specs.SecondPass.{boundary_pieces, half_pieces, space_before as space_of};
+ghost use Rattle.mt_convert.specs.SecondPass.{boundary_pieces, half_pieces};
+ghost use Rattle.mt_convert.specs.SecondPass.{space_before as space_of};
 ghost use Rattle.mt_convert.specs.Halfway.{half_value, count_of, HalfFits, RowFits, MayMeet};
 ghost use Rattle.mt_convert.specs.inner.Appending.{AppendsPieces};
 
@@ -30,9 +31,11 @@ pub(crate) fn push_half(
 ) -> Result<(), SetFault>
     requires wanted { Within (2 ^ 40) frame.wanted.sp }
     requires meets { MayMeet current.last (class_to_left (half_value half)) }
-    ensures is { AppendsPieces result pieces.old.items pieces.new.items (half_pieces fonts.now frame.size frame.wanted.sp current (half_value half)) }
+    ensures is { AppendsPieces result pieces.old.items pieces.new.items
+        (half_pieces fonts.now frame.size frame.wanted.sp current (half_value half)) }
     ensures few { OnOk result (length pieces.new.items ≤ length pieces.old.items + count_of half + 2) }
-    ensures fits { OnOk result ((n : ℕ) → 2 ≤ n → HalfFits n half → RowFits n pieces.old.items → RowFits n pieces.new.items) }
+    ensures fits { OnOk result ((n : ℕ) → 2 ≤ n → HalfFits n half
+        → RowFits n pieces.old.items → RowFits n pieces.new.items) }
 {
     match half {
         Half::Set { class, row } => push_row(fonts, current, class, row, pieces),
@@ -62,7 +65,8 @@ fn push_row(
     pieces: &mut Vec<Piece>,
 ) -> Result<(), SetFault>
     requires meets { MayMeet current.last (Some class) }
-    ensures is { OnOk result (piece_values pieces.new.items ≡ piece_values pieces.old.items ++ (space_of fonts.now current class ++ piece_values row)) }
+    ensures is { OnOk result (piece_values pieces.new.items
+        ≡ piece_values pieces.old.items ++ (space_of fonts.now current class ++ piece_values row)) }
     ensures memory { IfErr result (λ e. e ≡ OutOfMemory) }
     ensures few { OnOk result (length pieces.new.items ≤ length pieces.old.items + length row + 1) }
     ensures fits { OnOk result ((n : ℕ) → RowFits n row → RowFits n pieces.old.items → RowFits n pieces.new.items) }
@@ -84,7 +88,8 @@ fn push_boundary(
 ) -> Result<(), SetFault>
     requires wanted { Within (2 ^ 40) frame.wanted.sp }
     requires meets { MayMeet current.last (Some class) }
-    ensures is { AppendsPieces result pieces.old.items pieces.new.items (boundary_pieces fonts.now frame.size frame.wanted.sp current class delim) }
+    ensures is { AppendsPieces result pieces.old.items pieces.new.items
+        (boundary_pieces fonts.now frame.size frame.wanted.sp current class delim) }
     ensures few { OnOk result (length pieces.new.items ≤ length pieces.old.items + 2) }
     ensures fits { OnOk result ((n : ℕ) → 2 ≤ n → RowFits n pieces.old.items → RowFits n pieces.new.items) }
 {
@@ -102,7 +107,8 @@ fn push_space(
     pieces: &mut Vec<Piece>,
 ) -> Result<(), AllocError>
     requires meets { MayMeet current.last (Some class) }
-    ensures is { OnOk result (piece_values pieces.new.items ≡ piece_values pieces.old.items ++ space_of fonts.now current class) }
+    ensures is { OnOk result (piece_values pieces.new.items
+        ≡ piece_values pieces.old.items ++ space_of fonts.now current class) }
     ensures few { OnOk result (length pieces.new.items ≤ length pieces.old.items + 1) }
     ensures fits { OnOk result ((n : ℕ) → RowFits n pieces.old.items → RowFits n pieces.new.items) }
 {

@@ -40,10 +40,7 @@ pub(crate) fn packed(alloc: Global, row: Row) -> Result<Packed, SetFault>
     ensures is { SetsBox result (pack_row (piece_values row)) }
     ensures level { IfOk result (λ b. (n : ℕ) → RowFits n row → b.level ≤ n + 1) }
 {
-    match hpack(alloc, row) {
-        Ok(body) => Ok(body),
-        Err(error) => Err(SetFault::from(error)),
-    }
+    Ok(hpack(alloc, row)?)
 }
 
 // A row as a clean box: where it is a box alone, that box.
@@ -54,10 +51,7 @@ pub(crate) fn cleaned(alloc: Global, row: Row) -> Result<Packed, SetFault>
     ensures in_range { IfOk result (λ b. ExtentsInRange b.extents) }
     ensures level { IfOk result (λ b. (n : ℕ) → RowFits n row → b.level ≤ n + 1) }
 {
-    match clean(alloc, row) {
-        Ok(body) => Ok(body),
-        Err(error) => Err(SetFault::from(error)),
-    }
+    Ok(clean(alloc, row)?)
 }
 
 // The clean box of a list of one ordinary symbol.

@@ -52,8 +52,8 @@ fn uses_limits(limits: Limits, style: Style) -> bool
 
 // The form of an atom in a style.
 pub(crate) fn form_of(style: Style, atom: &Atom) -> AtomForm
-    ensures { result ≡ form_of style atom.now.kind atom.now.limits (part_of_field atom.now.nucleus) (part_of_field atom.now.sup)
-        (part_of_field atom.now.sub) }
+    ensures { result ≡ form_of style atom.now.kind atom.now.limits
+        (part_of_field atom.now.nucleus) (part_of_field atom.now.sup) (part_of_field atom.now.sub) }
 {
     match atom.kind {
         Kind::Plain(Class::Op) if uses_limits(atom.limits, style) => AtomForm::Limits,
@@ -85,7 +85,8 @@ pub(crate) fn class_nucleus(
     symbol: Symbol,
     has_subscript: bool,
 ) -> Result<SetNucleus, SetFault>
-    ensures is { SetsNucleus result (class_nucleus class fonts.now style (role_value role) (SymbolContent symbol) has_subscript) }
+    ensures is { SetsNucleus result
+        (class_nucleus class fonts.now style (role_value role) (SymbolContent symbol) has_subscript) }
     ensures fits { IfOk result (NucleusIsSmall 1) }
 {
     match class {
@@ -102,10 +103,7 @@ pub(crate) fn part_nucleus(
     ensures is { (setting : Setting Layout) → SetsBox part setting → SetsNucleus result (as_nucleus setting) }
     ensures fits { (n : ℕ) → IfOk part (λ b. b.level ≤ n) → IfOk result (NucleusIsSmall n) }
 {
-    match part {
-        Ok(body) => box_nucleus(alloc, body),
-        Err(fault) => Err(fault),
-    }
+    box_nucleus(alloc, part?)
 }
 
 // What is set as a box, as an operator without an italic correction.
@@ -114,11 +112,8 @@ pub(crate) fn part_operator(part: Result<Packed, SetFault>) -> Result<SetOperato
     ensures level { (n : ℕ) → IfOk part (λ b. b.level ≤ n) → IfOk result (λ o. o.body.level ≤ n) }
     ensures delta { IfOk result (λ o. Within (2 ^ 31) o.delta.sp) }
 {
-    match part {
-        Ok(body) => Ok(SetOperator {
-            body,
-            delta: Length { sp: 0 },
-        }),
-        Err(fault) => Err(fault),
-    }
+    Ok(SetOperator {
+        body: part?,
+        delta: Length { sp: 0 },
+    })
 }

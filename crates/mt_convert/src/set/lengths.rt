@@ -3,7 +3,8 @@ ghost use Rattle.std.specs.Prelude.{◌≡◌, ◌^◌, ◌++◌, ◌∷◌, [],
 ghost use Rattle.mt_scaled.specs.Number.{Within};
 ghost use Rattle.mt_rules.specs.Modest.{GlueAmounts, IsAmount};
 ghost use Rattle.mt_convert.specs.declared.half.Half.TheVariants as half_of_list;
-ghost use Rattle.mt_convert.specs.FirstPass.{glue_in_points, in_points, make_kern, make_space, math_unit as unit_of};
+ghost use Rattle.mt_convert.specs.FirstPass.{glue_in_points, in_points, make_kern, make_space};
+ghost use Rattle.mt_convert.specs.FirstPass.{math_unit as unit_of};
 ghost use Rattle.mt_convert.specs.Halfway.{HalfFits};
 ghost use Rattle.mt_convert.specs.inner.Answers.{SetsHalf};
 ghost use Rattle.mt_convert.specs.inner.Lengths.{SetsKern, kern_halves};

@@ -1,6 +1,7 @@
 //! The nucleus of an atom: a symbol's glyph, or a box (The TeXbook, Appendix G, rules 13 and 17;
 //! tex.web, sections 749, 752 and 755).
-ghost use Rattle.std.specs.Prelude.{◌≡◌, ◌≤◌, ◌^◌, ◌-ℤ◌, ◌∷◌, [], IfErr, IfOk, IsTrue, Ok, if◌then◌else◌, pos};
+ghost use Rattle.std.specs.Prelude.{◌≡◌, ◌≤◌, ◌^◌, ◌-ℤ◌, ◌∷◌, [], IfErr, IfOk, IsTrue, Ok};
+ghost use Rattle.std.specs.Prelude.{if◌then◌else◌, pos};
 ghost use Rattle.mt_scaled.specs.Number.{Within, half_of};
 ghost use Rattle.mt_tfm.specs.Font.{exists};
 ghost use Rattle.mt_box.specs.Extents.{ExtentsInRange};
@@ -29,7 +30,7 @@ use mt_box::{Extents, Packed, Piece, Row, first_out};
 use mt_family::{FontSet, Size};
 use mt_rules::parameters::axis_height;
 use mt_rules::{Style, Symbol, with_width};
-use mt_scaled::{Length, half, in_range};
+use mt_scaled::{Length, in_range};
 use mt_tfm::Font;
 use std::alloc::Global;
 
@@ -91,7 +92,8 @@ pub(crate) fn symbol_nucleus(
     role: JoiningRole,
     has_subscript: bool,
 ) -> Result<SetNucleus, SetFault>
-    ensures is { SetsNucleus result (Nuclei.symbol_nucleus fonts.now (size_of style) symbol (role_value role) has_subscript) }
+    ensures is { SetsNucleus result
+        (Nuclei.symbol_nucleus fonts.now (size_of style) symbol (role_value role) has_subscript) }
     ensures fits { IfOk result (NucleusIsSmall 0) }
 {
     let number = find_symbol(fonts, style.size(), symbol)?;
@@ -161,7 +163,8 @@ fn with_italic(
 ) -> Result<SetNucleus, SetFault>
     requires glyph { IsGlyphInRange glyph }
     requires italic { Within (2 ^ 31) italic.sp }
-    ensures is { IfOk result (λ n. nucleus_value n ≡ Nuclei.nucleus_with_italic (piece_value glyph) italic.sp has_subscript) }
+    ensures is { IfOk result (λ n. nucleus_value n
+        ≡ Nuclei.nucleus_with_italic (piece_value glyph) italic.sp has_subscript) }
     ensures fits { IfOk result (NucleusIsSmall 0) }
     ensures memory { IfErr result (λ e. e ≡ OutOfMemory) }
 {
@@ -275,7 +278,8 @@ fn on_axis(
     italic: Length,
 ) -> Result<SetNucleus, SetFault>
     requires { Within (2 ^ 31) italic.sp }
-    ensures is { SetsNucleus result (Ok (record { row = piece_on_axis fonts.now size (layout_of body) ∷ []; delta = italic.sp })) }
+    ensures is { SetsNucleus result
+        (Ok (record { row = piece_on_axis fonts.now size (layout_of body) ∷ []; delta = italic.sp })) }
     ensures fits { IfOk result (NucleusIsSmall body.level) }
 {
     let raise = raise_on_axis(fonts, size, body.extents());
@@ -296,18 +300,7 @@ fn raise_on_axis(fonts: &FontSet, size: Size, extents: Extents) -> Length
     ensures small { Within (2 ^ 32) result.sp }
 {
     let difference = Length { sp: extents.height }.minus(Length { sp: extents.depth });
-    axis_height(fonts, size).minus(half_length(difference))
-}
-
-#[tactic(auto, using(std::proofs::lemmas::Int::ints))]
-fn half_length(length: Length) -> Length
-    requires { Within (2 ^ 31) length.sp }
-    ensures is { result.sp ≡ half_of length.sp }
-    ensures small { Within (2 ^ 31) result.sp }
-{
-    Length {
-        sp: half(length.sp),
-    }
+    axis_height(fonts, size).minus(difference.half())
 }
 
 // An operator under limits that is a symbol.

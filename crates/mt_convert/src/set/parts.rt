@@ -1,5 +1,6 @@
 //! Parts round a nucleus, which is given as a box (The TeXbook, Appendix G, rules 8 to 12 and 15).
-ghost use Rattle.std.specs.Prelude.{◌≡◌, ◌≤◌, ◌+◌, ◌^◌, ℕ, All, IfOk, Ok, length, map, max, unwrap_or};
+ghost use Rattle.std.specs.Prelude.{◌≡◌, ◌≤◌, ◌+◌, ◌^◌, ℕ, All, IfOk, Ok, length, map, max};
+ghost use Rattle.std.specs.Prelude.{unwrap_or};
 ghost use Rattle.mt_scaled.specs.Number.{Within};
 ghost use Rattle.mt_box.specs.Layout.{layout_of};
 ghost use Rattle.mt_box.specs.Extents.{ExtentsInRange};
@@ -41,10 +42,7 @@ pub(crate) fn radical(
     ensures is { SetsBox result (Radicals.radical fonts.now style sign (layout_of body)) }
     ensures level { IfOk result (λ b. b.level ≤ body.level + 2) }
 {
-    match radical_box(alloc, fonts, style, sign, body) {
-        Ok(whole) => Ok(whole),
-        Err(error) => Err(SetFault::from(error)),
-    }
+    Ok(radical_box(alloc, fonts, style, sign, body)?)
 }
 
 pub(crate) fn overline(
@@ -57,10 +55,7 @@ pub(crate) fn overline(
     ensures is { SetsBox result (Lines.overline fonts.now size (layout_of body)) }
     ensures level { IfOk result (λ b. b.level ≤ body.level + 2) }
 {
-    match overline_box(alloc, fonts, size, body) {
-        Ok(whole) => Ok(whole),
-        Err(error) => Err(SetFault::from(error)),
-    }
+    Ok(overline_box(alloc, fonts, size, body)?)
 }
 
 pub(crate) fn underline(
@@ -73,10 +68,7 @@ pub(crate) fn underline(
     ensures is { SetsBox result (Lines.underline fonts.now size (layout_of body)) }
     ensures level { IfOk result (λ b. b.level ≤ body.level + 2) }
 {
-    match underline_box(alloc, fonts, size, body) {
-        Ok(whole) => Ok(whole),
-        Err(error) => Err(SetFault::from(error)),
-    }
+    Ok(underline_box(alloc, fonts, size, body)?)
 }
 
 pub(crate) fn vcenter(
@@ -90,10 +82,7 @@ pub(crate) fn vcenter(
     ensures is { SetsBox result (Vcenter.vcenter fonts.now size (map layout_of rows)) }
     ensures level { IfOk result (λ b. (n : ℕ) → All (λ r. r.level ≤ n) rows → b.level ≤ n + 1) }
 {
-    match vcenter_box(alloc, fonts, size, rows) {
-        Ok(whole) => Ok(whole),
-        Err(error) => Err(SetFault::from(error)),
-    }
+    Ok(vcenter_box(alloc, fonts, size, rows)?)
 }
 
 // The accent over a body. The accent's symbol was found in the font of this number.
@@ -114,10 +103,7 @@ pub(crate) fn accent(
     ensures is { SetsBox result (Accents.accent fonts.now number symbol.code skew.sp plain (layout_of body)) }
     ensures level { IfOk result (λ b. b.level ≤ max body.level 1 + 1) }
 {
-    match accent_box(alloc, fonts, size, symbol, skew.sp, plain, body) {
-        Ok(whole) => Ok(whole),
-        Err(error) => Err(SetFault::from(error)),
-    }
+    Ok(accent_box(alloc, fonts, size, symbol, skew.sp, plain, body)?)
 }
 
 // The skew of a symbol, in the font that its family has at this size.

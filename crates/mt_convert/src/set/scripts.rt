@@ -47,7 +47,7 @@ pub(crate) fn with_scripts(
     tested(row)
 }
 
-// The scripts after a nucleus.
+// A nucleus with its scripts after it.
 fn attached(
     alloc: Global,
     fonts: &FontSet,
@@ -66,10 +66,7 @@ fn attached(
         → script_level above ≤ n → script_level below ≤ n → RowFits (n + 2) row) }
 {
     let SetNucleus { row, delta } = nucleus;
-    match attach_scripts(alloc, fonts, style, row, delta.sp, above, below) {
-        Ok(row) => Ok(row),
-        Err(error) => Err(SetFault::from(error)),
-    }
+    Ok(attach_scripts(alloc, fonts, style, row, delta.sp, above, below)?)
 }
 
 // The row of an operator with its scripts above and below it.
@@ -116,8 +113,5 @@ fn box_between(
     ensures level { IfOk result (λ b. b.level
         ≤ max body.level (max (script_level above) (script_level below)) + 3) }
 {
-    match limits_box(alloc, fonts, size, body, delta.sp, above, below) {
-        Ok(all) => Ok(all),
-        Err(error) => Err(SetFault::from(error)),
-    }
+    Ok(limits_box(alloc, fonts, size, body, delta.sp, above, below)?)
 }

@@ -3,8 +3,10 @@
 ghost use Rattle.std.specs.Prelude.{◌≡◌, ◌≤◌, ◌≤ℤ◌, ◌^◌, ℕ, length, pos, None};
 ghost use Rattle.std.specs.Int.{int_max};
 ghost use Rattle.mt_scaled.specs.Number.{max_dimen};
-ghost use Rattle.mt_convert.specs.Halves.{greatest_depth, greatest_height, half_depth, half_height, settle as settled_list};
-ghost use Rattle.mt_convert.specs.Halfway.{HalvesFit, BoundariesOutside, HalfFits, count_of, half_value, half_values, halves_value, total_of};
+ghost use Rattle.mt_convert.specs.Halves.{greatest_depth, greatest_height, half_depth, half_height};
+ghost use Rattle.mt_convert.specs.Halves.{settle as settled_list};
+ghost use Rattle.mt_convert.specs.Halfway.{HalvesFit, BoundariesOutside, HalfFits, count_of};
+ghost use Rattle.mt_convert.specs.Halfway.{half_value, half_values, halves_value, total_of};
 ghost use Rattle.mt_convert.specs.inner.Settling.{AllCanFollow, settled_item, settled_items};
 
 use crate::half::{Half, HalfList};
