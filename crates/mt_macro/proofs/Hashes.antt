@@ -14,20 +14,31 @@ pub record Looking (params : ℕ) (body : List Token) (at : ℕ) (rest : List To
 pub looking_start : (params : ℕ) (body : List Token) → Looking params body 0 body
 looking_start params body = record { is = shifted_none _; size = omega arith }
 
-bad_here : (params : ℕ) (t : Token) (rest : List Token) → is_hash t && not (begins_with_parameter params rest) ≡ true → first_bad_parameter params (t ∷ rest) ≡ Some 0
+bad_here : (params : ℕ) (t : Token) (rest : List Token) → is_hash t && not (begins_with_parameter params rest) ≡ true
+    → first_bad_parameter params (t ∷ rest) ≡ Some 0
 bad_here params t rest e = rw e refl
 
-bad_later : (params : ℕ) (t : Token) (rest : List Token) → is_hash t && not (begins_with_parameter params rest) ≡ false → first_bad_parameter params (t ∷ rest) ≡ index_after_first (first_bad_parameter params rest)
+bad_later : (params : ℕ) (t : Token) (rest : List Token)
+    → is_hash t && not (begins_with_parameter params rest) ≡ false
+    → first_bad_parameter params (t ∷ rest) ≡ index_after_first (first_bad_parameter params rest)
 bad_later params t rest e = rw e refl
 
-pub looking_bad : (params at : ℕ) (body rest rest' : List Token) (t : Token) → Looking params body at rest → rest ≡ t ∷ rest' → is_hash t && not (begins_with_parameter params rest') ≡ true → Some at ≡ first_bad_parameter params body
-looking_bad params at body rest rest' t g e h = sym (g.is ∙ (ap (λ xs. shifted at (first_bad_parameter params xs)) e ∙ (ap (shifted at) (bad_here params t rest' h) ∙ shifted_here at)))
+pub looking_bad : (params at : ℕ) (body rest rest' : List Token) (t : Token) → Looking params body at rest
+    → rest ≡ t ∷ rest' → is_hash t && not (begins_with_parameter params rest') ≡ true
+    → Some at ≡ first_bad_parameter params body
+looking_bad params at body rest rest' t g e h =
+    sym (g.is ∙ (ap (λ xs. shifted at (first_bad_parameter params xs)) e
+    ∙ (ap (shifted at) (bad_here params t rest' h) ∙ shifted_here at)))
 
-pub looking_more : (params at : ℕ) (body rest rest' : List Token) (t : Token) → Looking params body at rest → rest ≡ t ∷ rest' → is_hash t && not (begins_with_parameter params rest') ≡ false → Looking params body (at + 1) rest'
+pub looking_more : (params at : ℕ) (body rest rest' : List Token) (t : Token) → Looking params body at rest
+    → rest ≡ t ∷ rest' → is_hash t && not (begins_with_parameter params rest') ≡ false
+    → Looking params body (at + 1) rest'
 looking_more params at body rest rest' t g e h = record {
-  is = g.is ∙ (ap (λ xs. shifted at (first_bad_parameter params xs)) e ∙ (ap (shifted at) (bad_later params t rest' h) ∙ shifted_next at _));
+  is = g.is ∙ (ap (λ xs. shifted at (first_bad_parameter params xs)) e
+      ∙ (ap (shifted at) (bad_later params t rest' h) ∙ shifted_next at _));
   size = omega (arith, g.size, ap length e);
 }
 
-pub looking_end : (params at : ℕ) (body rest : List Token) → Looking params body at rest → rest ≡ [] → None ≡ first_bad_parameter params body
+pub looking_end : (params at : ℕ) (body rest : List Token) → Looking params body at rest → rest ≡ []
+    → None ≡ first_bad_parameter params body
 looking_end params at body rest g e = sym (g.is ∙ ap (λ xs. shifted at (first_bad_parameter params xs)) e)

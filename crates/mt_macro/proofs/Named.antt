@@ -1,5 +1,6 @@
 -- Macros by their names.
-use Rattle.std.proofs.Common.{◌≡◌, ℕ, suc, ◌+◌, Bool, true, false, List, [], ◌∷◌, map, refl, sym, ap, subst, ◌∙◌, arith, cond, Bor}
+use Rattle.std.proofs.Common.{◌≡◌, ℕ, suc, ◌+◌, Bool, true, false, List, [], ◌∷◌, map, refl, sym}
+use Rattle.std.proofs.Common.{ap, subst, ◌∙◌, arith, cond, Bor}
 use Rattle.std.specs.Prelude.{Option, Some, None, All, IfSome, sum_by, ◌||◌, ◌&&◌, not, unwrap_or, if◌then◌else◌}
 use Rattle.std.specs.Option.{option_map, option_copied}
 use Rattle.std.specs.Str.{bytes_eq}
@@ -22,26 +23,36 @@ use Rattle.mt_macro.specs.Definition.{HasMacroAt}
 use Rattle.mt_macro.specs.Table.{Table, macro_of, with_macro, is_own, own_count}
 use Rattle.mt_macro.specs.inner.Kept.{HasShortBody, IsKept}
 
-own_found : (o : Option Macro) → ◌≡◌ {A = ℕ} (unwrap_or (option_map (λ (m : Macro). if m.own then 1 else 0) o) 0) (if is_own o then 1 else 0)
+own_found : (o : Option Macro)
+    → ◌≡◌ {A = ℕ} (unwrap_or (option_map (λ (m : Macro). if m.own then 1 else 0) o) 0) (if is_own o then 1 else 0)
 own_found None = refl
 own_found (Some m) = refl
 
-test_some : (b : Bool) (m : Macro) (o : Option Macro) → HasShortBody m → IfSome o HasShortBody → IfSome (cond b (Some m) o) HasShortBody
+test_some : (b : Bool) (m : Macro) (o : Option Macro) → HasShortBody m → IfSome o HasShortBody
+    → IfSome (cond b (Some m) o) HasShortBody
 test_some true m o h k = h
 test_some false m o h k = k
 
-found_short : (test : List ℕ → Bool) (table : Table) → All HasShortBody (values_of table) → IfSome (lookup test table) HasShortBody
+found_short : (test : List ℕ → Bool) (table : Table) → All HasShortBody (values_of table)
+    → IfSome (lookup test table) HasShortBody
 found_short test [] h = tt
-found_short test (e ∷ es) h = test_some (test e.0) e.1 _ (h 0 e.1 (omega arith)) (found_short test es (λ k d l. h (suc k) d (omega (arith, l))))
+found_short test (e ∷ es) h =
+    test_some (test e.0) e.1 _ (h 0 e.1 (omega arith)) (found_short test es (λ k d l. h (suc k) d (omega (arith, l))))
 
-some_copied : (r : Option (Bor Macro)) → IfSome (option_copied r) HasShortBody → IfSome r (λ (m : Bor Macro). HasShortBody m.now)
+some_copied : (r : Option (Bor Macro)) → IfSome (option_copied r) HasShortBody
+    → IfSome r (λ (m : Bor Macro). HasShortBody m.now)
 some_copied None h = tt
 some_copied (Some b) h = h
 
-pub named_short : (table : Table) (name : List ℕ) (r : Option (Bor Macro)) (own : ℕ) → IsKept table own → option_copied r ≡ macro_of table name → IfSome r (λ (m : Bor Macro). HasShortBody m.now)
-named_short table name r own kept e = some_copied r (subst (λ (o : Option Macro). IfSome o HasShortBody) (sym e) (found_short (λ (n : List ℕ). bytes_eq name n) table kept.short))
+pub named_short : (table : Table) (name : List ℕ) (r : Option (Bor Macro)) (own : ℕ) → IsKept table own
+    → option_copied r ≡ macro_of table name → IfSome r (λ (m : Bor Macro). HasShortBody m.now)
+named_short table name r own kept e =
+    some_copied r (subst (λ (o : Option Macro). IfSome o HasShortBody) (sym e)
+    (found_short (λ (n : List ℕ). bytes_eq name n) table kept.short))
 
-count_cases : (makes_own was : Bool) (new old : ℕ) → new + (if was then 1 else 0) ≡ old + (if makes_own || was then 1 else 0) → (if makes_own && not was then old + 1 else old) ≡ new
+count_cases : (makes_own was : Bool) (new old : ℕ)
+    → new + (if was then 1 else 0) ≡ old + (if makes_own || was then 1 else 0)
+    → (if makes_own && not was then old + 1 else old) ≡ new
 count_cases true true new old e = omega (arith, e)
 count_cases true false new old e = omega (arith, e)
 count_cases false true new old e = omega (arith, e)
@@ -52,16 +63,27 @@ module _ {K : Type 0} (name_of : K → List ℕ) where
   abbrev pub named : List (K × Macro) → Table
   named es = map (λ (e : K × Macro). (name_of e.0, e.1)) es
 
-  pub lookup_named : (name : List ℕ) (es : List (K × Macro)) → lookup (is_at (λ (k : K). slice_cmp nat_cmp name (name_of k))) es ≡ macro_of (named es) name
+  pub lookup_named : (name : List ℕ) (es : List (K × Macro))
+      → lookup (is_at (λ (k : K). slice_cmp nat_cmp name (name_of k))) es ≡ macro_of (named es) name
   lookup_named name [] = refl
-  lookup_named name (e ∷ es) = ap (λ b. cond b (Some e.1) (lookup (is_at (λ (k : K). slice_cmp nat_cmp name (name_of k))) es)) (is_eq-slice_cmp name (name_of e.0)) ∙ ap (cond (bytes_eq name (name_of e.0)) (Some e.1)) (lookup_named name es)
+  lookup_named name (e ∷ es) =
+      ap (λ b. cond b (Some e.1) (lookup (is_at (λ (k : K). slice_cmp nat_cmp name (name_of k))) es))
+      (is_eq-slice_cmp name (name_of e.0)) ∙ ap (cond (bytes_eq name (name_of e.0)) (Some e.1)) (lookup_named name es)
 
-  insert_at : (r : Ordering) (k : K) (v : Macro) (e : K × Macro) (es : List (K × Macro)) → named (insert_entry (λ (a b : K). slice_cmp nat_cmp (name_of a) (name_of b)) es k v) ≡ with_macro (named es) (name_of k) v → named (match_ordering r ((k, v) ∷ e ∷ es) ((e.0, v) ∷ es) (e ∷ insert_entry (λ (a b : K). slice_cmp nat_cmp (name_of a) (name_of b)) es k v)) ≡ match_ordering r ((name_of k, v) ∷ named (e ∷ es)) ((name_of e.0, v) ∷ named es) ((name_of e.0, e.1) ∷ with_macro (named es) (name_of k) v)
+  insert_at : (r : Ordering) (k : K) (v : Macro) (e : K × Macro) (es : List (K × Macro))
+      → named (insert_entry (λ (a b : K). slice_cmp nat_cmp (name_of a) (name_of b)) es k v) ≡ with_macro (named es)
+      (name_of k) v → named
+      (match_ordering r ((k, v) ∷ e ∷ es) ((e.0, v) ∷ es)
+      (e ∷ insert_entry (λ (a b : K). slice_cmp nat_cmp (name_of a) (name_of b)) es k v)) ≡ match_ordering r
+      ((name_of k, v) ∷ named (e ∷ es)) ((name_of e.0, v) ∷ named es)
+      ((name_of e.0, e.1) ∷ with_macro (named es) (name_of k) v)
   insert_at Less k v e es h = refl
   insert_at Equal k v e es h = refl
   insert_at Greater k v e es h = ap (λ (t : Table). (name_of e.0, e.1) ∷ t) h
 
-  pub insert_named : (k : K) (v : Macro) (es : List (K × Macro)) → named (insert_entry (λ (a b : K). slice_cmp nat_cmp (name_of a) (name_of b)) es k v) ≡ with_macro (named es) (name_of k) v
+  pub insert_named : (k : K) (v : Macro) (es : List (K × Macro))
+      → named (insert_entry (λ (a b : K). slice_cmp nat_cmp (name_of a) (name_of b)) es k v) ≡ with_macro (named es)
+      (name_of k) v
   insert_named k v [] = refl
   insert_named k v (e ∷ es) = insert_at (slice_cmp nat_cmp (name_of k) (name_of e.0)) k v e es (insert_named k v es)
 
@@ -70,26 +92,54 @@ module _ {K : Type 0} (name_of : K → List ℕ) where
   values_named (e ∷ es) = ap (λ (ms : List Macro). e.1 ∷ ms) (values_named es)
 
   -- the user's own names, after a definition
-  pub own_inserted : (k : K) (v : Macro) (es : List (K × Macro)) → IsStrictlySortedBy (λ (a b : K). slice_cmp nat_cmp (name_of a) (name_of b)) (keys_of es) → own_count (with_macro (named es) (name_of k) v) + (if is_own (macro_of (named es) (name_of k)) then 1 else 0) ≡ own_count (named es) + (if v.own then 1 else 0)
+  pub own_inserted : (k : K) (v : Macro) (es : List (K × Macro))
+      → IsStrictlySortedBy (λ (a b : K). slice_cmp nat_cmp (name_of a) (name_of b)) (keys_of es)
+      → own_count (with_macro (named es) (name_of k) v) + (if is_own (macro_of (named es) (name_of k)) then 1 else 0)
+      ≡ own_count (named es) + (if v.own then 1 else 0)
   own_inserted k v es sorted =
       let own : Macro → ℕ = λ (m : Macro). if m.own then 1 else 0 in
       let total = sum_by-insert_entry own (on_total name_of nat_list_cmp_total) es k v sorted in
-      let after : own_count (with_macro (named es) (name_of k) v) ≡ sum_by own (values_of (insert_entry (λ (a b : K). slice_cmp nat_cmp (name_of a) (name_of b)) es k v)) = ap own_count (sym (insert_named k v es)) ∙ ap (sum_by own) (values_named (insert_entry (λ (a b : K). slice_cmp nat_cmp (name_of a) (name_of b)) es k v)) in
+      let after : own_count (with_macro (named es) (name_of k) v) ≡ sum_by own
+      (values_of (insert_entry (λ (a b : K). slice_cmp nat_cmp (name_of a) (name_of b)) es k v)) = ap own_count
+      (sym (insert_named k v es))
+      ∙ ap (sum_by own) (values_named
+      (insert_entry (λ (a b : K). slice_cmp nat_cmp (name_of a) (name_of b)) es k v)) in
       let before : own_count (named es) ≡ sum_by own (values_of es) = ap (sum_by own) (values_named es) in
-      let found : unwrap_or (option_map own (lookup (is_at (λ (a : K). slice_cmp nat_cmp (name_of k) (name_of a))) es)) 0 ≡ (if is_own (macro_of (named es) (name_of k)) then 1 else 0) = ap (λ (o : Option Macro). unwrap_or (option_map own o) 0) (lookup_named (name_of k) es) ∙ own_found (macro_of (named es) (name_of k)) in
+      let found : unwrap_or
+      (option_map own (lookup (is_at (λ (a : K). slice_cmp nat_cmp (name_of k) (name_of a))) es)) 0 ≡
+      (if is_own (macro_of (named es) (name_of k)) then 1 else 0) = ap
+      (λ (o : Option Macro). unwrap_or (option_map own o) 0) (lookup_named (name_of k) es)
+      ∙ own_found (macro_of (named es) (name_of k)) in
       omega (arith, total, after, before, found)
 
-  pub put_is : (k : K) (v : Macro) (es fs : List (K × Macro)) (name : List ℕ) → fs ≡ insert_entry (λ (a b : K). slice_cmp nat_cmp (name_of a) (name_of b)) es k v → name_of k ≡ name → named fs ≡ with_macro (named es) name v
+  pub put_is : (k : K) (v : Macro) (es fs : List (K × Macro)) (name : List ℕ)
+      → fs ≡ insert_entry (λ (a b : K). slice_cmp nat_cmp (name_of a) (name_of b)) es k v → name_of k ≡ name
+      → named fs ≡ with_macro (named es) name v
   put_is k v es fs name e n = ap named e ∙ (insert_named k v es ∙ ap (λ (x : List ℕ). with_macro (named es) x v) n)
 
-  pub put_kept : (k : K) (v : Macro) (es fs : List (K × Macro)) (name : List ℕ) (makes_own was : Bool) (own own' : ℕ) → IsKept (named es) own → HasShortBody v → fs ≡ insert_entry (λ (a b : K). slice_cmp nat_cmp (name_of a) (name_of b)) es k v → name_of k ≡ name → IsStrictlySortedBy (λ (a b : K). slice_cmp nat_cmp (name_of a) (name_of b)) (keys_of es) → was ≡ is_own (macro_of (named es) name) → v.own ≡ (makes_own || was) → own' ≡ (if makes_own && not was then own + 1 else own) → IsKept (named fs) own'
+  pub put_kept : (k : K) (v : Macro) (es fs : List (K × Macro)) (name : List ℕ) (makes_own was : Bool) (own own' : ℕ)
+      → IsKept (named es) own → HasShortBody v
+      → fs ≡ insert_entry (λ (a b : K). slice_cmp nat_cmp (name_of a) (name_of b)) es k v → name_of k ≡ name
+      → IsStrictlySortedBy (λ (a b : K). slice_cmp nat_cmp (name_of a) (name_of b)) (keys_of es)
+      → was ≡ is_own (macro_of (named es) name) → v.own ≡ (makes_own || was)
+      → own' ≡ (if makes_own && not was then own + 1 else own) → IsKept (named fs) own'
   put_kept k v es fs name makes_own was own own' kept short e n sorted w o is =
       let placed = put_is k v es fs name e n in
-      let total = subst (λ (x : List ℕ). own_count (with_macro (named es) x v) + (if is_own (macro_of (named es) x) then 1 else 0) ≡ own_count (named es) + (if v.own then 1 else 0)) n (own_inserted k v es sorted) in
-      let before : own_count (with_macro (named es) name v) + (if was then 1 else 0) ≡ own_count (named es) + (if makes_own || was then 1 else 0) = ap (λ (b : Bool). own_count (with_macro (named es) name v) + (if b then 1 else 0)) w ∙ (total ∙ ap (λ (b : Bool). own_count (named es) + (if b then 1 else 0)) o) in
+      let total =
+      subst (λ (x : List ℕ). own_count (with_macro (named es) x v) +
+      (if is_own (macro_of (named es) x) then 1 else 0) ≡ own_count (named es) + (if v.own then 1 else 0)) n
+      (own_inserted k v es sorted) in
+      let before : own_count (with_macro (named es) name v) + (if was then 1 else 0) ≡ own_count (named es) +
+      (if makes_own || was then 1 else 0) = ap
+      (λ (b : Bool). own_count (with_macro (named es) name v) + (if b then 1 else 0)) w
+      ∙ (total ∙ ap (λ (b : Bool). own_count (named es) + (if b then 1 else 0)) o) in
       record {
-        counted = is ∙ (ap (λ (n : ℕ). if makes_own && not was then n + 1 else n) kept.counted ∙ (count_cases makes_own was _ _ before ∙ ap own_count (sym placed)));
-        short = subst (λ (t : Table). All HasShortBody (values_of t)) (sym placed) (All-values-insert_entry (slice_cmp nat_cmp) name v HasShortBody (named es) kept.short short);
+        counted =
+            is ∙ (ap (λ (n : ℕ). if makes_own && not was then n + 1 else n) kept.counted
+            ∙ (count_cases makes_own was _ _ before ∙ ap own_count (sym placed)));
+        short =
+            subst (λ (t : Table). All HasShortBody (values_of t)) (sym placed)
+            (All-values-insert_entry (slice_cmp nat_cmp) name v HasShortBody (named es) kept.short short);
       }
 
 -- the new table has the macro, and all others
@@ -102,12 +152,14 @@ equal_names a b e = same_names a b (sym (is_eq-slice_cmp a b) ∙ ap is_eq e)
 name_itself : (a : List ℕ) → is_eq (slice_cmp nat_cmp a a) ≡ true
 name_itself a = is_eq-slice_cmp a a ∙ (bytes_eq-Decides a a).1 refl
 
-not_both : (name other n : List ℕ) → slice_cmp nat_cmp name n ≡ Greater → bytes_eq other name ≡ true → bytes_eq other n ≡ true → ⊥
+not_both : (name other n : List ℕ) → slice_cmp nat_cmp name n ≡ Greater → bytes_eq other name ≡ true
+    → bytes_eq other n ≡ true → ⊥
 not_both name other n g a b =
     let same : name ≡ n = sym (same_names other name a) ∙ same_names other n b in
     true≢false (sym (name_itself name) ∙ (ap (λ (x : List ℕ). is_eq (slice_cmp nat_cmp name x)) same ∙ ap is_eq g))
 
-swapped : (p q : Bool) (x y l : Option Macro) → (p ≡ true → q ≡ true → ⊥) → cond q y (cond p x l) ≡ cond p x (cond q y l)
+swapped : (p q : Bool) (x y l : Option Macro) → (p ≡ true → q ≡ true → ⊥)
+    → cond q y (cond p x l) ≡ cond p x (cond q y l)
 swapped true true x y l h = absurd (h refl refl)
 swapped true false x y l h = refl
 swapped false true x y l h = refl
@@ -117,19 +169,33 @@ hidden : (p : Bool) (x y l : Option Macro) → cond p x l ≡ cond p x (cond p y
 hidden true x y l = refl
 hidden false x y l = refl
 
-put_found_at : (r : Ordering) (name other : List ℕ) (m : Macro) (e : List ℕ × Macro) (es : Table) → slice_cmp nat_cmp name e.0 ≡ r → macro_of (with_macro es name m) other ≡ cond (bytes_eq other name) (Some m) (macro_of es other) → macro_of (match_ordering r ((name, m) ∷ e ∷ es) ((e.0, m) ∷ es) (e ∷ with_macro es name m)) other ≡ cond (bytes_eq other name) (Some m) (macro_of (e ∷ es) other)
+put_found_at : (r : Ordering) (name other : List ℕ) (m : Macro) (e : List ℕ × Macro) (es : Table)
+    → slice_cmp nat_cmp name e.0 ≡ r
+    → macro_of (with_macro es name m) other ≡ cond (bytes_eq other name) (Some m) (macro_of es other)
+    → macro_of (match_ordering r ((name, m) ∷ e ∷ es) ((e.0, m) ∷ es) (e ∷ with_macro es name m)) other ≡ cond
+    (bytes_eq other name) (Some m) (macro_of (e ∷ es) other)
 put_found_at Less name other m e es is h = refl
 put_found_at Equal name other m e es is h =
-    subst (λ (n : List ℕ). cond (bytes_eq other e.0) (Some m) (macro_of es other) ≡ cond (bytes_eq other n) (Some m) (macro_of (e ∷ es) other)) (sym (equal_names name e.0 is)) (hidden (bytes_eq other e.0) (Some m) (Some e.1) (macro_of es other))
+    subst (λ (n : List ℕ). cond (bytes_eq other e.0) (Some m) (macro_of es other) ≡ cond (bytes_eq other n) (Some m)
+    (macro_of (e ∷ es) other)) (sym (equal_names name e.0 is))
+    (hidden (bytes_eq other e.0) (Some m) (Some e.1) (macro_of es other))
 put_found_at Greater name other m e es is h =
-    ap (cond (bytes_eq other e.0) (Some e.1)) h ∙ swapped (bytes_eq other name) (bytes_eq other e.0) (Some m) (Some e.1) (macro_of es other) (λ p q. not_both name other e.0 is p q)
+    ap (cond (bytes_eq other e.0) (Some e.1)) h
+    ∙ swapped (bytes_eq other name) (bytes_eq other e.0) (Some m) (Some e.1) (macro_of es other)
+    (λ p q. not_both name other e.0 is p q)
 
 pub put_found : (table : Table) (name : List ℕ) (m : Macro) → HasMacroAt table (with_macro table name m) name m
 put_found [] name m = λ other. refl
-put_found (e ∷ es) name m = λ other. put_found_at (slice_cmp nat_cmp name e.0) name other m e es refl (put_found es name m other)
+put_found (e ∷ es) name m =
+    λ other. put_found_at (slice_cmp nat_cmp name e.0) name other m e es refl (put_found es name m other)
 
-pub put_has : (table table' : Table) (name : List ℕ) (m : Macro) → table' ≡ with_macro table name m → HasMacroAt table table' name m
+pub put_has : (table table' : Table) (name : List ℕ) (m : Macro) → table' ≡ with_macro table name m
+    → HasMacroAt table table' name m
 put_has table table' name m e = subst (λ (t : Table). HasMacroAt table t name m) (sym e) (put_found table name m)
 
-pub same_macro : (own own' : Bool) (params : ℕ) (body body' : List Token) → own ≡ own' → body ≡ body' → (let m : Macro = record { own = own; params = params; body = body } in m) ≡ record { own = own'; params = params; body = body' }
-same_macro own own' params body body' e f = ap (λ (x : Bool). record { own = x; params = params; body = body }) e ∙ ap (λ (x : List Token). record { own = own'; params = params; body = x }) f
+pub same_macro : (own own' : Bool) (params : ℕ) (body body' : List Token) → own ≡ own' → body ≡ body'
+    → (let m : Macro = record { own = own; params = params; body = body } in m) ≡ record
+    { own = own'; params = params; body = body' }
+same_macro own own' params body body' e f =
+    ap (λ (x : Bool). record { own = x; params = params; body = body }) e
+    ∙ ap (λ (x : List Token). record { own = own'; params = params; body = x }) f

@@ -33,7 +33,9 @@ right_brace = record { kind = Char 125; start = 0; end = 0; ascii = omega arith 
 
 -- \x drops its argument, \y stands for itself
 abbrev table : Table
-table = (codes "x", record { own = true; params = 1; body = [] }) ∷ (codes "y", record { own = true; params = 0; body = control (codes "y") ∷ [] }) ∷ []
+table =
+    (codes "x", record { own = true; params = 1; body = [] }) ∷
+    (codes "y", record { own = true; params = 0; body = control (codes "y") ∷ [] }) ∷ []
 
 -- the argument goes before it is expanded
 dropped : expansion table (control (codes "x") ∷ space ∷ control (codes "y") ∷ []) ≡ Expanded []

@@ -1,5 +1,6 @@
 -- Definitions of macros.
-use Rattle.std.specs.Prelude.{◌≡◌, ℕ, true, not, ◌&&◌, ◌||◌, nat_lt, nat_le, List, Option, Some, None, is_some, Result, Ok, Err, IsOk, if◌then◌else◌}
+use Rattle.std.specs.Prelude.{◌≡◌, ℕ, true, not, ◌&&◌, ◌||◌, nat_lt, nat_le, List, Option, Some}
+use Rattle.std.specs.Prelude.{None, is_some, Result, Ok, Err, IsOk, if◌then◌else◌}
 use Rattle.std.specs.Str.{bytes_eq}
 use Rattle.mt_token.specs.declared.token.Token.{Token}
 use Rattle.mt_macro.specs.declared.definition.MacroError.{MacroError}
@@ -42,4 +43,5 @@ Answers (Err TooMany) new answer = answer ≡ Err TooMany
 
 -- the new table has this macro under this name, and under each other name what the old one has
 abbrev pub HasMacroAt : Table → Table → List ℕ → Macro → Type 0
-HasMacroAt old new name m = (other : List ℕ) → macro_of new other ≡ (if bytes_eq other name then Some m else macro_of old other)
+HasMacroAt old new name m =
+    (other : List ℕ) → macro_of new other ≡ (if bytes_eq other name then Some m else macro_of old other)

@@ -1,9 +1,11 @@
 -- The numbers and places of errors.
 use Rattle.std.specs.Prelude.{ℕ, Option, Some, None}
 use Rattle.mt_macro.specs.declared.definition.MacroError.{MacroError}
-use Rattle.mt_macro.specs.declared.definition.MacroError.TheVariants.{BadParameters, Unbalanced as UnbalancedBody, TooMany, OutOfMemory as NoMacroMemory}
+use Rattle.mt_macro.specs.declared.definition.MacroError.TheVariants.{BadParameters, Unbalanced as UnbalancedBody}
+use Rattle.mt_macro.specs.declared.definition.MacroError.TheVariants.{TooMany, OutOfMemory as NoMacroMemory}
 use Rattle.mt_macro.specs.declared.expansion.ExpandError.{ExpandError}
-use Rattle.mt_macro.specs.declared.expansion.ExpandError.TheVariants.{Budget, MissingArgument, Unbalanced, TooLong, OutOfMemory}
+use Rattle.mt_macro.specs.declared.expansion.ExpandError.TheVariants.{Budget, MissingArgument, Unbalanced, TooLong}
+use Rattle.mt_macro.specs.declared.expansion.ExpandError.TheVariants.{OutOfMemory}
 
 abbrev pub macro_error_number : MacroError → ℕ
 macro_error_number BadParameters = 1

@@ -1,12 +1,14 @@
 -- Expansion, a step at a time (The TeXbook, chapter 20).
-use Rattle.std.specs.Prelude.{◌≡◌, ℕ, zero, suc, ◌+◌, nat_lt, List, [], ◌∷◌, ◌++◌, length, Option, Some, None, if◌then◌else◌, Result, Ok, Err}
+use Rattle.std.specs.Prelude.{◌≡◌, ℕ, zero, suc, ◌+◌, nat_lt, List, [], ◌∷◌, ◌++◌, length, Option}
+use Rattle.std.specs.Prelude.{Some, None, if◌then◌else◌, Result, Ok, Err}
 use Rattle.mt_token.specs.declared.token.Token.{Token}
 use Rattle.mt_macro.specs.declared.table.Macro.{Macro}
 use Rattle.mt_macro.specs.Limits.{max_tokens, max_steps}
 use Rattle.mt_macro.specs.Braces.{first_unmatched}
 use Rattle.mt_macro.specs.Table.{Table, macro_at}
 use Rattle.mt_macro.specs.declared.expansion.ExpandError.{ExpandError}
-use Rattle.mt_macro.specs.declared.expansion.ExpandError.TheVariants.{Budget, MissingArgument, Unbalanced, TooLong, OutOfMemory}
+use Rattle.mt_macro.specs.declared.expansion.ExpandError.TheVariants.{Budget, MissingArgument, Unbalanced, TooLong}
+use Rattle.mt_macro.specs.declared.expansion.ExpandError.TheVariants.{OutOfMemory}
 use Rattle.mt_macro.specs.Arguments.{Arguments, arguments, fill}
 
 -- what one step makes of a list
@@ -59,7 +61,8 @@ within_budget done list answer = if nat_lt max_tokens (length list) then OverBud
 -- the outcome for a list after so many steps, where so many more are allowed
 unfoldable pub run : Table → ℕ → ℕ → List Token → Expansion
 run table zero done list = within_budget done list (at_last done list (macro_step table list))
-run table (suc left) done list = within_budget done list (further list (run table left (done + 1)) (macro_step table list))
+run table (suc left) done list =
+    within_budget done list (further list (run table left (done + 1)) (macro_step table list))
 
 abbrev pub unless_unmatched : Option ℕ → Expansion → Expansion
 unless_unmatched None answer = answer

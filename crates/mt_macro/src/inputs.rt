@@ -1,5 +1,6 @@
 //! The tokens that are left to read.
-ghost use Rattle.std.specs.Prelude.{◌≡◌, ◌<◌, ◌≤◌, ◌+◌, ◌^◌, ◌++◌, [], ◌∷◌, MatchOption, OnOk, OnErr, length, reverse};
+ghost use Rattle.std.specs.Prelude.{◌≡◌, ◌<◌, ◌≤◌, ◌+◌, ◌^◌, ◌++◌, [], ◌∷◌, MatchOption, OnOk};
+ghost use Rattle.std.specs.Prelude.{OnErr, length, reverse};
 ghost use Rattle.mt_macro.specs.inner.Ends.{joined};
 
 use crate::pieces::Piece;

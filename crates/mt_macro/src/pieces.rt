@@ -1,5 +1,6 @@
 //! Pieces of lists of tokens, with the ends of the groups in them.
-ghost use Rattle.std.specs.Prelude.{◌≡◌, ◌<◌, ◌≤◌, ◌+◌, ◌^◌, [], ◌∷◌, ◌==◌, IfSome, MatchOption, length, take, drop, Some, true};
+ghost use Rattle.std.specs.Prelude.{◌≡◌, ◌<◌, ◌≤◌, ◌+◌, ◌^◌, [], ◌∷◌, ◌==◌, IfSome, MatchOption};
+ghost use Rattle.std.specs.Prelude.{length, take, drop, Some, true};
 ghost use Rattle.mt_macro.specs.Braces.{is_open};
 ghost use Rattle.mt_macro.specs.inner.Ends.{end_index, AreEnds};
 ghost use Rattle.mt_macro.specs.inner.Pieces.{Closes};

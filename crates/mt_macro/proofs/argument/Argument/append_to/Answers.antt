@@ -12,7 +12,8 @@ loop-piece-preserved c =
     let next : joined (take (i + 1) xs) ≡ joined (take i xs) ++ c.copied.result =
     ap joined (take_more xs i c.piece-item.result c.loop-piece-test.true)
     ∙ (ap (λ (q : List Token). joined (take i xs ++ q ∷ [])) (sym c.piece-item.is)
-    ∙ (joined_more (take i xs) c.piece-item.result ∙ ap (λ (q : List Token). joined (take i xs) ++ q) (sym c.copied.ensures))) in
+    ∙ (joined_more (take i xs) c.piece-item.result
+    ∙ ap (λ (q : List Token). joined (take i xs) ++ q) (sym c.copied.ensures))) in
     ap joined c.in_ok-push.ensures.items
     ∙ (joined_more c.loop-piece.list.items c.copied.result
     ∙ (ap (λ (r : List Token). r ++ c.copied.result) c.loop-piece.invariant
