@@ -1,9 +1,8 @@
 -- What an action takes of the tokens (`action_here_takes`), and what it carries (`action_here_carries`).
 use Rattle.std.proofs.Common.{◌≡◌, ℕ, ◌+◌, ◌*◌, ◌/◌, ◌<◌, Bool, true, false, nat_lt, List, [], ◌∷◌, length, Option, refl, arith}
-use Rattle.std.specs.Prelude.{⊤, ℤ, if◌then◌else◌}
+use Rattle.std.specs.Prelude.{⊤, if◌then◌else◌}
 use Rattle.mt_token.specs.declared.token.Token.{Token}
 use Rattle.mt_scaled.specs.declared.unit.Units.{Units}
-use Rattle.mt_rules.specs.declared.symbol.Symbol.{Symbol}
 use Rattle.mt_rules.specs.Modest.{IsAmount, GlueAmounts, ElementAmounts}
 use Rattle.mt_plain.specs.CodeTables.{CodeTables}
 use Rattle.mt_scan.specs.Limits.{max_groups, max_math_char, max_delimiter}
@@ -21,7 +20,7 @@ use Rattle.mt_formula.specs.declared.step.action.FieldStart.TheVariants.{Symbol 
 use Rattle.mt_formula.specs.declared.step.action.Action.{Action}
 use Rattle.mt_formula.specs.declared.step.action.Action.TheVariants.{Item, Group, ScriptGroup, LeftRight, Choice, Prime as PrimeAction, Limits as LimitsAction, Stop}
 use Rattle.mt_scan.specs.Role.{role_of, simple_element, is_open_brace, is_left}
-use Rattle.mt_scan.specs.Parts.{Read, Got, Fault, then_read, after_blanks, opening}
+use Rattle.mt_scan.specs.Parts.{Got, Fault, after_blanks, opening}
 use Rattle.mt_scan.specs.Numbers.{math_code, delimiter_number, whole_number}
 use Rattle.mt_scan.specs.Dimensions.{dimension, glue}
 use Rattle.mt_scan.specs.Symbols.{code_symbol, delim_of}

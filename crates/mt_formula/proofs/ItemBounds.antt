@@ -1,36 +1,27 @@
 -- A formula has at most four items for each of its tokens: groups, fields, primes, rows and items.
-use Rattle.std.proofs.Common.{◌≡◌, ℕ, zero, suc, ◌+◌, ◌*◌, ◌/◌, ◌≤◌, refl, Bool, true, false, List, [], ◌∷◌, length, Option, Some, None, arith}
-use Rattle.std.specs.Prelude.{ℤ, drop, ◌==◌, ◌&&◌, ⊤, if◌then◌else◌}
+use Rattle.std.proofs.Common.{◌≡◌, ℕ, zero, suc, ◌+◌, ◌*◌, ◌≤◌, refl, Bool, true, false, List, [], ◌∷◌, length, Option, Some, None, arith}
+use Rattle.std.specs.Prelude.{drop, ◌==◌, ◌&&◌, ⊤, if◌then◌else◌}
 use Rattle.mt_token.specs.declared.token.Token.{Token}
 use Rattle.mt_scaled.specs.declared.unit.Units.{Units}
 use Rattle.mt_macro.specs.Braces.{Taken, is_close, level_after, onto as onto_taken, group as group_taken}
 use Rattle.mt_rules.specs.declared.class.Class.TheVariants.{Ord, Inner}
 use Rattle.mt_rules.specs.declared.kind.Kind.{Kind}
 use Rattle.mt_rules.specs.declared.kind.Kind.TheVariants.{Plain, Vcenter}
-use Rattle.mt_rules.specs.declared.kind.Limits.{Limits as WhereLimits}
 use Rattle.mt_rules.specs.declared.symbol.Delim.{Delim}
-use Rattle.mt_rules.specs.declared.symbol.Glue.{Glue}
-use Rattle.mt_rules.specs.Sequence.{Sequence, Element, Part, Rows, End, More, ChoiceElement, ListPart, RowsPart, SymbolPart, MoreRows, MuSpaceElement, SpaceElement, MuKernElement, KernElement, RightElement}
+use Rattle.mt_rules.specs.Sequence.{Sequence, Element, Part, Rows, End, More, ChoiceElement, ListPart, RowsPart, SymbolPart, MoreRows, RightElement}
 use Rattle.mt_plain.specs.CodeTables.{CodeTables}
-use Rattle.mt_scan.specs.Limits.{max_math_char, max_delimiter}
 use Rattle.mt_scan.specs.declared.fault.ReadCause.TheVariants.{Unbalanced, MissingField}
-use Rattle.mt_scan.specs.declared.role.FieldKind.{FieldKind}
-use Rattle.mt_scan.specs.declared.role.FieldKind.TheVariants.{Radical, Accent}
 use Rattle.mt_scan.specs.declared.role.Role.{Role}
-use Rattle.mt_scan.specs.declared.role.Amount.{Amount}
 use Rattle.mt_scan.specs.declared.role.Side.{Side}
 use Rattle.mt_scan.specs.declared.role.Side.TheVariants.{Up}
-use Rattle.mt_scan.specs.declared.role.Amount.TheVariants.{MuSkip, MuKern, Skip, Kern as AmountKern}
 use Rattle.mt_scan.specs.declared.role.Role.TheVariants.{HboxWord, OpenBrace, CloseBrace}
 use Rattle.mt_scan.specs.declared.role.Simple.{Simple}
 use Rattle.mt_scan.specs.declared.role.Simple.TheVariants.{Style, MuSpace, Space, MuKern as SimpleMuKern, Kern as SimpleKern, Nonscript}
-use Rattle.mt_scan.specs.Role.{role_of, simple_element, nucleus_kind, is_open_brace, is_left, is_math_shift, is_close_brace, is_superscript}
-use Rattle.mt_scan.specs.Parts.{Read, Got, Fault, then_read, after_spaces, after_blanks, opening}
-use Rattle.mt_scan.specs.Numbers.{whole_number, math_code, delimiter_number}
-use Rattle.mt_scan.specs.Dimensions.{dimension, glue}
-use Rattle.mt_scan.specs.Symbols.{code_symbol, current_family, delim_of}
+use Rattle.mt_scan.specs.Role.{role_of, simple_element, nucleus_kind, is_open_brace, is_math_shift, is_close_brace, is_superscript}
+use Rattle.mt_scan.specs.Parts.{Read, Got, Fault, then_read, after_spaces, opening}
+use Rattle.mt_scan.specs.Dimensions.{glue}
 use Rattle.mt_scan.specs.Delimiters.{scan_delimiter}
-use Rattle.mt_formula.specs.Atoms.{nucleus_of, AtomValue, last_atom_items, append, plain_atom, coded_atom, Filling, InSymbol, InGroup, filling_part, group_atom, nucleus_atom, with_script, with_limits, prime_atom, prime_items, is_free, is_op}
+use Rattle.mt_formula.specs.Atoms.{nucleus_of, AtomValue, last_atom_items, append, plain_atom, Filling, InGroup, nucleus_atom, with_script, with_limits, prime_atom, prime_items}
 use Rattle.mt_formula.specs.declared.open.open_list.Ending.TheVariants.{AtEnd, AtBrace, AtRight, AtDollar}
 use Rattle.mt_formula.specs.Lists.{ItemRunReader, list}
 use Rattle.mt_formula.specs.Groups.{between_boundaries, brace_group}
@@ -42,7 +33,7 @@ use Rattle.mt_formula.specs.Items.{put_atom, put_item, put_script, choice_with_n
 use Rattle.mt_formula.specs.Formulas.{item_run, FormulaParts, Reading, Reads, ReadFault, reading_of, is_at_left, body_ending, with_tag, formula, reading}
 use Rattle.mt_rules.specs.Modest.{list_items, element_items, part_items, rows_items}
 use Rattle.mt_formula.specs.Counts.{formula_items}
-use Rattle.mt_formula.proofs.Short.{Within, within_next, within_if, within_more, none, Shortens, spaces_short, blanks_short, drop_short, whole_number_short, number_to_short, delimiter_short, opening_takes, dimension_short, glue_short}
+use Rattle.mt_formula.proofs.Short.{Within, within_next, within_if, within_more, none, Shortens, spaces_short, drop_short, delimiter_short, opening_takes}
 use Rattle.mt_formula.proofs.Acting.{action_four, action_here_takes}
 use Rattle.mt_formula.proofs.Bounds.{append_items, item_run_items, last_atom_count, items_before_within, atom_count, group_count, filling_count, filling_part_count, script_count, limits_count, prime_count, IsBounded, list_after_within, list_within, with_four, brace_group_within}
 

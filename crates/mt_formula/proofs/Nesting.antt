@@ -1,37 +1,29 @@
 -- A formula is nested at most so deep, and its amounts are below 2^30 in size: an induction on the turns of its run of itemses.
-use Rattle.std.proofs.Common.{◌≡◌, ℕ, zero, suc, ◌+◌, ◌*◌, ◌/◌, ◌≤◌, ◌<◌, refl, subst, Bool, true, false, List, [], ◌∷◌, length, Option, Some, None, arith}
-use Rattle.std.specs.Prelude.{ℤ, ◌-◌, nat_lt, drop, ⊤, if◌then◌else◌}
+use Rattle.std.proofs.Common.{◌≡◌, ℕ, zero, suc, ◌+◌, ◌*◌, ◌≤◌, ◌<◌, refl, subst, Bool, true, false, List, [], ◌∷◌, length, Option, Some, None, arith}
+use Rattle.std.specs.Prelude.{◌-◌, drop, ⊤}
 use Rattle.mt_token.specs.declared.token.Token.{Token}
 use Rattle.mt_scaled.specs.declared.unit.Units.{Units}
 use Rattle.mt_macro.specs.Braces.{Taken, group as group_taken}
 use Rattle.mt_rules.specs.declared.class.Class.TheVariants.{Inner}
 use Rattle.mt_rules.specs.declared.kind.Kind.TheVariants.{Plain, Vcenter}
-use Rattle.mt_rules.specs.declared.kind.Limits.{Limits as WhereLimits}
 use Rattle.mt_rules.specs.declared.symbol.Delim.{Delim}
-use Rattle.mt_rules.specs.declared.symbol.Glue.{Glue}
 use Rattle.mt_rules.specs.declared.document.Tag.{Tag}
-use Rattle.mt_rules.specs.Sequence.{Sequence, Element, Part, Rows, End, More, ChoiceElement, RightElement, MuSpaceElement, SpaceElement, MuKernElement, KernElement, SymbolPart, ListPart, RowsPart, MoreRows}
-use Rattle.mt_rules.specs.Modest.{list_items, IsAmount, GlueAmounts, IsModestList}
+use Rattle.mt_rules.specs.Sequence.{Sequence, Element, Part, Rows, End, More, ChoiceElement, RightElement, SymbolPart, ListPart, RowsPart, MoreRows}
+use Rattle.mt_rules.specs.Modest.{list_items, IsModestList}
 use Rattle.mt_plain.specs.CodeTables.{CodeTables}
 use Rattle.mt_scan.specs.Limits.{max_groups}
-use Rattle.mt_scan.specs.declared.fault.ReadCause.TheVariants.{Unbalanced, MissingField, TooDeep}
-use Rattle.mt_scan.specs.declared.role.FieldKind.{FieldKind}
-use Rattle.mt_scan.specs.declared.role.FieldKind.TheVariants.{Radical, Accent}
+use Rattle.mt_scan.specs.declared.fault.ReadCause.TheVariants.{Unbalanced, MissingField}
 use Rattle.mt_scan.specs.declared.role.Role.{Role}
-use Rattle.mt_scan.specs.declared.role.Amount.{Amount}
 use Rattle.mt_scan.specs.declared.role.Side.{Side}
 use Rattle.mt_scan.specs.declared.role.Side.TheVariants.{Up}
-use Rattle.mt_scan.specs.declared.role.Amount.TheVariants.{MuSkip, MuKern, Skip, Kern as AmountKern}
 use Rattle.mt_scan.specs.declared.role.Role.TheVariants.{FractionWord, HboxWord, OpenBrace, CloseBrace, ItemWord}
 use Rattle.mt_scan.specs.declared.role.Simple.{Simple}
 use Rattle.mt_scan.specs.declared.role.Simple.TheVariants.{Style, MuSpace, Space, MuKern as SimpleMuKern, Kern as SimpleKern, Nonscript}
-use Rattle.mt_scan.specs.Role.{role_of, simple_element, nucleus_kind, is_open_brace, is_left, is_math_shift, is_superscript}
-use Rattle.mt_scan.specs.Parts.{Read, Got, Fault, then_read, after_spaces, after_blanks, opening}
-use Rattle.mt_scan.specs.Numbers.{whole_number, math_code, delimiter_number}
-use Rattle.mt_scan.specs.Dimensions.{dimension, glue}
-use Rattle.mt_scan.specs.Symbols.{code_symbol, current_family, delim_of}
+use Rattle.mt_scan.specs.Role.{role_of, simple_element, nucleus_kind, is_open_brace, is_math_shift, is_superscript}
+use Rattle.mt_scan.specs.Parts.{Read, Got, Fault, then_read, after_spaces, opening}
+use Rattle.mt_scan.specs.Dimensions.{glue}
 use Rattle.mt_scan.specs.Delimiters.{scan_delimiter}
-use Rattle.mt_formula.specs.Atoms.{AtomValue, nucleus_of, element_of_atom, last_atom_items, append, plain_atom, coded_atom, Filling, InSymbol, InGroup, filling_part, group_atom, nucleus_atom, with_script, with_limits, prime_atom, prime_items, is_free, is_op}
+use Rattle.mt_formula.specs.Atoms.{AtomValue, nucleus_of, element_of_atom, last_atom_items, append, plain_atom, coded_atom, InGroup, nucleus_atom, with_script, with_limits, prime_atom, prime_items}
 use Rattle.mt_formula.specs.declared.open.open_list.Ending.{Ending}
 use Rattle.mt_formula.specs.declared.open.open_list.Ending.TheVariants.{AtEnd, AtBrace, AtRight, AtDollar}
 use Rattle.mt_formula.specs.declared.open.open_list.FractionHead.{FractionHead}
@@ -48,7 +40,7 @@ use Rattle.mt_formula.proofs.Short.{Within, within_more, none, fraction_head_sho
 use Rattle.mt_formula.proofs.Acting.{Carries, opening_level, action_here_carries}
 use Rattle.mt_formula.proofs.Bounds.{item_run_items, last_atom_count, IsBounded}
 use Rattle.mt_formula.proofs.ItemBounds.{HasAtMost, item_run_within, reading_bound}
-use Rattle.mt_formula.proofs.Fitting.{Holds, holds_next, holds_within, holds_after, holds_if, holds_map, Fits, ElementFits, PartFits, RowsFit, AtomFits, FillingFits, LastAtomFits, fits_more, end_fits, one_fits, append_fits, list_counted, plain_fits, group_fits, filling_fits, nucleus_atom_fits, script_fits, limits_fit, primes_fit, fraction_fits, dimension_amount, glue_amounts, HeadFits, fraction_head_fits, RoleFits, role_fits}
+use Rattle.mt_formula.proofs.Fitting.{Holds, holds_next, holds_within, holds_after, holds_if, holds_map, Fits, ElementFits, PartFits, RowsFit, AtomFits, LastAtomFits, fits_more, end_fits, one_fits, append_fits, list_counted, plain_fits, filling_fits, nucleus_atom_fits, script_fits, limits_fit, primes_fit, fraction_fits, HeadFits, fraction_head_fits, RoleFits}
 
 -- where so many groups are open, an item holds at most so many lists one inside another: two for each group that may
 -- still be opened, its own list and that of a fraction, and what primes and one token after a superscript sign give

@@ -1,38 +1,19 @@
 -- Actions that open a list: a group more may be open there, and the list stands in the one round it.
-use Rattle.std.proofs.Common.{◌≡◌, ℕ, ◌+◌, ◌<◌, Bool, true, false, List, [], ◌∷◌, length, Option, None, refl, sym, ap, subst, arith, true≢false}
-use Rattle.std.specs.Prelude.{⊤, nat_lt, if◌then◌else◌}
-use Rattle.std.proofs.lemmas.Bool.{ltb-true}
+use Rattle.std.proofs.Common.{◌≡◌, ℕ, ◌+◌, ◌<◌, true, List, ◌∷◌, length, Option, None, refl, sym, ap, subst, arith, true≢false}
 use Rattle.mt_token.specs.declared.token.Token.{Token}
 use Rattle.mt_scaled.specs.declared.unit.Units.{Units}
-use Rattle.mt_rules.specs.declared.symbol.Symbol.{Symbol}
 use Rattle.mt_rules.specs.Sequence.{Sequence, End}
 use Rattle.mt_plain.specs.CodeTables.{CodeTables}
 use Rattle.mt_formula.specs.declared.step.action.Action.{Action}
 use Rattle.mt_formula.specs.declared.step.action.Action.TheVariants.{Group, ScriptGroup, LeftRight, Choice}
-use Rattle.mt_formula.specs.declared.step.action.FieldStart.{FieldStart}
-use Rattle.mt_formula.specs.declared.step.action.FieldStart.TheVariants.{Symbol as SymbolStart, Group as GroupStart}
 use Rattle.mt_formula.specs.declared.open.open_list.Frame.{Frame}
 use Rattle.mt_formula.specs.declared.open.open_list.OpenList.{OpenList}
 use Rattle.mt_scan.specs.Limits.{max_groups}
-use Rattle.mt_scan.specs.declared.fault.ReadCause.{ReadCause}
-use Rattle.mt_scan.specs.declared.fault.ReadCause.TheVariants.{DoubleScript, MisplacedLimits, MissingField, TooDeep}
-use Rattle.mt_scan.specs.declared.role.Amount.{Amount}
-use Rattle.mt_scan.specs.declared.role.Amount.TheVariants.{MuSkip, MuKern, Skip, Kern}
-use Rattle.mt_scan.specs.declared.role.FieldKind.{FieldKind}
-use Rattle.mt_scan.specs.declared.role.Side.{Side}
-use Rattle.mt_scan.specs.declared.role.Side.TheVariants.{Up}
-use Rattle.mt_scan.specs.declared.role.Role.{Role}
-use Rattle.mt_scan.specs.declared.role.Role.TheVariants.{Blank, MathCode, CharWord, DelimiterWord, Prime, Script, OpenBrace, Nucleus, RadicalWord, AccentWord, VcenterWord, HboxWord, LeftWord, LimitsWord, ChoiceWord, AmountWord, ItemWord, FamilyWord, Unknown}
-use Rattle.mt_scan.specs.Role.{role_of, is_open_brace, is_left}
-use Rattle.mt_scan.specs.Parts.{Read, Got, Fault, then_read, after_blanks, opening}
-use Rattle.mt_scan.specs.Numbers.{math_code, delimiter_number, whole_number}
-use Rattle.mt_scan.specs.Dimensions.{dimension, glue}
-use Rattle.mt_scan.specs.Delimiters.{scan_delimiter}
-use Rattle.mt_formula.specs.Atoms.{AtomValue, is_free, is_op}
+use Rattle.mt_scan.specs.Parts.{Read, Got, then_read}
+use Rattle.mt_formula.specs.Atoms.{AtomValue}
 use Rattle.mt_formula.specs.Lists.{ItemRunReader, list}
 use Rattle.mt_formula.specs.machine.OpenLists.{last_atom_of, Begins}
-use Rattle.mt_formula.specs.Fields.{field_start_at, field_start_here, field_start}
-use Rattle.mt_formula.specs.Items.{filled, script_filled, nucleus_action, script_action, amount_action, action, action_here, follows}
+use Rattle.mt_formula.specs.Items.{action_here, follows}
 use Rattle.mt_formula.specs.machine.Frames.{owned, tokens_after, left_after, shifted}
 use Rattle.mt_formula.specs.machine.Openings.{opens_list, opened_owner, opened_ending}
 use Rattle.mt_formula.specs.machine.Stands.{Stands}
