@@ -30,7 +30,7 @@ use Rattle.mt_reader.specs.declared.outside_role.OutsideRole.{OutsideRole}
 use Rattle.mt_reader.specs.declared.outside_role.OutsideRole.TheVariants.{Passed, Defines, SetsMathCode, SetsDelimiterCode, BeginsFormula, EndsPage, EndsDocument, Misplaced}
 use Rattle.mt_reader.specs.documents.Assignments.{math_code_assignment, delcode_assignment}
 use Rattle.mt_reader.specs.documents.Definitions.{MacroDefinition, macro_definition}
-use Rattle.mt_reader.specs.documents.Documents.{DocumentState, DocumentAnswer, Turn, Goes, Ends, Stops, StopsOutside, after_assignment, after_definition, after_expansion, after_reading, formula_in, formula_turn, is_page_limit, outside_role, pages_from, start_state, turn_answer, turn_by, with_table}
+use Rattle.mt_reader.specs.documents.Documents.{DocumentState, DocumentAnswer, DocumentTurn, Goes, Ends, Stops, StopsOutside, after_assignment, after_definition, after_expansion, after_reading, formula_in, formula_turn, is_page_limit, outside_role, pages_from, start_state, turn_answer, turn_by, with_table}
 use Rattle.mt_reader.specs.documents.Dollars.{begins_display, between_dollars, up_to_end}
 use Rattle.mt_reader.specs.documents.Sources.{document_by}
 use Rattle.mathset.specs.Documents.{document_from, document_of, document_refusal, reading_refusal, token_refusal}
@@ -134,7 +134,7 @@ between_matched table rest taken h = between_by table rest taken (begins_display
 -- ---- turns
 
 -- a turn that is not refused for want of memory
-abbrev TurnAvoids : Turn → Type 0
+abbrev TurnAvoids : DocumentTurn → Type 0
 TurnAvoids (Goes state rest) = ⊤
 TurnAvoids (Ends state) = ⊤
 TurnAvoids (Stops refusal) = document_refusal refusal ≡ OutOfMemory → ⊥
@@ -207,7 +207,7 @@ turn_by_avoids units s rest Misplaced = tt
 abbrev AnswerAvoids : DocumentAnswer → Type 0
 AnswerAvoids answer = Avoids OutOfMemory (document_from answer)
 
-turn_answer_avoids : (units : Units) (whole : ℕ) (again : DocumentState → List Token → DocumentAnswer) (turn : Turn)
+turn_answer_avoids : (units : Units) (whole : ℕ) (again : DocumentState → List Token → DocumentAnswer) (turn : DocumentTurn)
     → ((s : DocumentState) (rest : List Token) → AnswerAvoids (again s rest)) → TurnAvoids turn → AnswerAvoids (turn_answer units whole again turn)
 turn_answer_avoids units whole again (Goes s rest) more h = more s rest
 turn_answer_avoids units whole again (Ends s) more h = λ same. cc

@@ -10,6 +10,7 @@ use Rattle.mt_scan.specs.declared.fault.ReadCause.TheVariants.{TooDeep as TooMan
 use Rattle.mt_scan.specs.Errors.{cause_number}
 use Rattle.mt_rules.specs.declared.document.Formula.{Formula}
 use Rattle.mt_reader.specs.documents.Documents.{DocumentAnswer, DocumentFault, NotLexed, Outside, NotExpanded, NotRead, TooManyTokens, TooManyPages}
+use Rattle.mt_reader.specs.documents.Causes.{outside_number}
 use Rattle.mt_reader.specs.documents.Sources.{source_document}
 use Rattle.mathset.specs.declared.status.Much.TheVariants.{Pages}
 use Rattle.mathset.specs.declared.status.Status.{Status}
@@ -40,7 +41,7 @@ reading_refusal n cause place = BadFormula n place (cause_number cause)
 -- a document that is refused
 abbrev pub document_refusal : DocumentFault → Status
 document_refusal (NotLexed cause) = token_refusal cause
-document_refusal (Outside n cause place) = BadFormula n place cause
+document_refusal (Outside n cause place) = BadFormula n place (outside_number cause)
 document_refusal (NotExpanded n outcome) = expansion_refusal n outcome
 document_refusal (NotRead n cause place) = reading_refusal n cause place
 document_refusal (TooManyTokens n count) = Budget n

@@ -11,197 +11,198 @@ use Rattle.mt_plain.specs.Names.{control}
 use Rattle.mt_plain.specs.MacroTexts.{macro_texts, accent_macros, delimiter_macros, other_macros, family_macros, function_macros, limit_macros}
 use Rattle.mt_plain.specs.PlainMacros.{plain_table, body_of as plain_body}
 use Rattle.mt_formula.specs.Formulas.{item_run}
+use Rattle.mt_reader.specs.declared.outside_cause.OutsideCause.TheVariants.{Misplaced, OpenFormula, BadDefinition, OpenBody, TooManyNames, BadAssignment}
 
 -- cause 31
-case_1 : read (codes "a") ≡ Err (Outside 1 31 0)
+case_1 : read (codes "a") ≡ Err (Outside 1 Misplaced 0)
 unfolding item_run run pages_from control plain_codes plain_table macro_texts accent_macros delimiter_macros other_macros family_macros function_macros limit_macros plain_body
 case_1 = refl
 
-case_2 : read (codes "\\foo") ≡ Err (Outside 1 31 0)
+case_2 : read (codes "\\foo") ≡ Err (Outside 1 Misplaced 0)
 unfolding item_run run pages_from control plain_codes plain_table macro_texts accent_macros delimiter_macros other_macros family_macros function_macros limit_macros plain_body
 case_2 = refl
 
-case_3 : read (codes "$a$ b") ≡ Err (Outside 2 31 4)
+case_3 : read (codes "$a$ b") ≡ Err (Outside 2 Misplaced 4)
 unfolding item_run run pages_from control plain_codes plain_table macro_texts accent_macros delimiter_macros other_macros family_macros function_macros limit_macros plain_body
 case_3 = refl
 
-case_4 : read (codes "{") ≡ Err (Outside 1 31 0)
+case_4 : read (codes "{") ≡ Err (Outside 1 Misplaced 0)
 unfolding item_run run pages_from control plain_codes plain_table macro_texts accent_macros delimiter_macros other_macros family_macros function_macros limit_macros plain_body
 case_4 = refl
 
-case_5 : read (codes "\\alpha") ≡ Err (Outside 1 31 0)
+case_5 : read (codes "\\alpha") ≡ Err (Outside 1 Misplaced 0)
 unfolding item_run run pages_from control plain_codes plain_table macro_texts accent_macros delimiter_macros other_macros family_macros function_macros limit_macros plain_body
 case_5 = refl
 
-case_6 : read (codes "\\sqrt") ≡ Err (Outside 1 31 0)
+case_6 : read (codes "\\sqrt") ≡ Err (Outside 1 Misplaced 0)
 unfolding item_run run pages_from control plain_codes plain_table macro_texts accent_macros delimiter_macros other_macros family_macros function_macros limit_macros plain_body
 case_6 = refl
 
-case_7 : read (codes "$a$}") ≡ Err (Outside 2 31 3)
+case_7 : read (codes "$a$}") ≡ Err (Outside 2 Misplaced 3)
 unfolding item_run run pages_from control plain_codes plain_table macro_texts accent_macros delimiter_macros other_macros family_macros function_macros limit_macros plain_body
 case_7 = refl
 
-case_8 : read (codes "\\def\\x{}\\x") ≡ Err (Outside 1 31 4)
+case_8 : read (codes "\\def\\x{}\\x") ≡ Err (Outside 1 Misplaced 4)
 unfolding item_run run pages_from control plain_codes plain_table macro_texts accent_macros delimiter_macros other_macros family_macros function_macros limit_macros plain_body
 case_8 = refl
 
-case_9 : read (codes "#") ≡ Err (Outside 1 31 0)
+case_9 : read (codes "#") ≡ Err (Outside 1 Misplaced 0)
 unfolding item_run run pages_from control plain_codes plain_table macro_texts accent_macros delimiter_macros other_macros family_macros function_macros limit_macros plain_body
 case_9 = refl
 
 -- cause 32
-case_10 : read (codes "$a") ≡ Err (Outside 1 32 0)
+case_10 : read (codes "$a") ≡ Err (Outside 1 OpenFormula 0)
 unfolding item_run run pages_from control plain_codes plain_table macro_texts accent_macros delimiter_macros other_macros family_macros function_macros limit_macros plain_body
 case_10 = refl
 
-case_11 : read (codes "$a}$") ≡ Err (Outside 1 32 0)
+case_11 : read (codes "$a}$") ≡ Err (Outside 1 OpenFormula 0)
 unfolding item_run run pages_from control plain_codes plain_table macro_texts accent_macros delimiter_macros other_macros family_macros function_macros limit_macros plain_body
 case_11 = refl
 
-case_12 : read (codes "$$a$") ≡ Err (Outside 1 32 0)
+case_12 : read (codes "$$a$") ≡ Err (Outside 1 OpenFormula 0)
 unfolding item_run run pages_from control plain_codes plain_table macro_texts accent_macros delimiter_macros other_macros family_macros function_macros limit_macros plain_body
 case_12 = refl
 
-case_13 : read (codes "$a$ $$b") ≡ Err (Outside 2 32 4)
+case_13 : read (codes "$a$ $$b") ≡ Err (Outside 2 OpenFormula 4)
 unfolding item_run run pages_from control plain_codes plain_table macro_texts accent_macros delimiter_macros other_macros family_macros function_macros limit_macros plain_body
 case_13 = refl
 
-case_14 : read (codes "${$") ≡ Err (Outside 1 32 0)
+case_14 : read (codes "${$") ≡ Err (Outside 1 OpenFormula 0)
 unfolding item_run run pages_from control plain_codes plain_table macro_texts accent_macros delimiter_macros other_macros family_macros function_macros limit_macros plain_body
 case_14 = refl
 
-case_15 : read (codes "$") ≡ Err (Outside 1 32 0)
+case_15 : read (codes "$") ≡ Err (Outside 1 OpenFormula 0)
 unfolding item_run run pages_from control plain_codes plain_table macro_texts accent_macros delimiter_macros other_macros family_macros function_macros limit_macros plain_body
 case_15 = refl
 
-case_16 : read (codes "$$") ≡ Err (Outside 1 32 0)
+case_16 : read (codes "$$") ≡ Err (Outside 1 OpenFormula 0)
 unfolding item_run run pages_from control plain_codes plain_table macro_texts accent_macros delimiter_macros other_macros family_macros function_macros limit_macros plain_body
 case_16 = refl
 
-case_17 : read (codes "$\\hbox{$a}") ≡ Err (Outside 1 32 0)
+case_17 : read (codes "$\\hbox{$a}") ≡ Err (Outside 1 OpenFormula 0)
 unfolding item_run run pages_from control plain_codes plain_table macro_texts accent_macros delimiter_macros other_macros family_macros function_macros limit_macros plain_body
 case_17 = refl
 
 -- cause 33
-case_18 : read (codes "\\def") ≡ Err (Outside 1 33 1)
+case_18 : read (codes "\\def") ≡ Err (Outside 1 BadDefinition 1)
 unfolding item_run run pages_from control plain_codes plain_table macro_texts accent_macros delimiter_macros other_macros family_macros function_macros limit_macros plain_body
 case_18 = refl
 
-case_19 : read (codes "\\def a") ≡ Err (Outside 1 33 1)
+case_19 : read (codes "\\def a") ≡ Err (Outside 1 BadDefinition 1)
 unfolding item_run run pages_from control plain_codes plain_table macro_texts accent_macros delimiter_macros other_macros family_macros function_macros limit_macros plain_body
 case_19 = refl
 
-case_20 : read (codes "$a$\\def{}") ≡ Err (Outside 2 33 4)
+case_20 : read (codes "$a$\\def{}") ≡ Err (Outside 2 BadDefinition 4)
 unfolding item_run run pages_from control plain_codes plain_table macro_texts accent_macros delimiter_macros other_macros family_macros function_macros limit_macros plain_body
 case_20 = refl
 
-case_21 : read (codes "\\def\\x#2{}") ≡ Err (Outside 1 33 3)
+case_21 : read (codes "\\def\\x#2{}") ≡ Err (Outside 1 BadDefinition 3)
 unfolding item_run run pages_from control plain_codes plain_table macro_texts accent_macros delimiter_macros other_macros family_macros function_macros limit_macros plain_body
 case_21 = refl
 
-case_22 : read (codes "\\def\\x#") ≡ Err (Outside 1 33 3)
+case_22 : read (codes "\\def\\x#") ≡ Err (Outside 1 BadDefinition 3)
 unfolding item_run run pages_from control plain_codes plain_table macro_texts accent_macros delimiter_macros other_macros family_macros function_macros limit_macros plain_body
 case_22 = refl
 
-case_23 : read (codes "\\def\\x a{}") ≡ Err (Outside 1 33 2)
+case_23 : read (codes "\\def\\x a{}") ≡ Err (Outside 1 BadDefinition 2)
 unfolding item_run run pages_from control plain_codes plain_table macro_texts accent_macros delimiter_macros other_macros family_macros function_macros limit_macros plain_body
 case_23 = refl
 
-case_24 : read (codes "\\def\\x#1 {}") ≡ Err (Outside 1 33 4)
+case_24 : read (codes "\\def\\x#1 {}") ≡ Err (Outside 1 BadDefinition 4)
 unfolding item_run run pages_from control plain_codes plain_table macro_texts accent_macros delimiter_macros other_macros family_macros function_macros limit_macros plain_body
 case_24 = refl
 
-case_25 : read (codes "\\def\\x#1#2#3#4#5#6#7#8#9#{}") ≡ Err (Outside 1 33 20)
+case_25 : read (codes "\\def\\x#1#2#3#4#5#6#7#8#9#{}") ≡ Err (Outside 1 BadDefinition 20)
 unfolding item_run run pages_from control plain_codes plain_table macro_texts accent_macros delimiter_macros other_macros family_macros function_macros limit_macros plain_body
 case_25 = refl
 
-case_26 : read (codes "\\def\\x") ≡ Err (Outside 1 33 2)
+case_26 : read (codes "\\def\\x") ≡ Err (Outside 1 BadDefinition 2)
 unfolding item_run run pages_from control plain_codes plain_table macro_texts accent_macros delimiter_macros other_macros family_macros function_macros limit_macros plain_body
 case_26 = refl
 
-case_27 : read (codes "\\def\\x#1") ≡ Err (Outside 1 33 4)
+case_27 : read (codes "\\def\\x#1") ≡ Err (Outside 1 BadDefinition 4)
 unfolding item_run run pages_from control plain_codes plain_table macro_texts accent_macros delimiter_macros other_macros family_macros function_macros limit_macros plain_body
 case_27 = refl
 
-case_28 : read (codes "\\def\\x#1#1{}") ≡ Err (Outside 1 33 5)
+case_28 : read (codes "\\def\\x#1#1{}") ≡ Err (Outside 1 BadDefinition 5)
 unfolding item_run run pages_from control plain_codes plain_table macro_texts accent_macros delimiter_macros other_macros family_macros function_macros limit_macros plain_body
 case_28 = refl
 
-case_29 : read (codes "\\def\\x{#1}") ≡ Err (Outside 1 33 3)
+case_29 : read (codes "\\def\\x{#1}") ≡ Err (Outside 1 BadDefinition 3)
 unfolding item_run run pages_from control plain_codes plain_table macro_texts accent_macros delimiter_macros other_macros family_macros function_macros limit_macros plain_body
 case_29 = refl
 
-case_30 : read (codes "\\def\\x#1{#2}") ≡ Err (Outside 1 33 5)
+case_30 : read (codes "\\def\\x#1{#2}") ≡ Err (Outside 1 BadDefinition 5)
 unfolding item_run run pages_from control plain_codes plain_table macro_texts accent_macros delimiter_macros other_macros family_macros function_macros limit_macros plain_body
 case_30 = refl
 
-case_31 : read (codes "\\def\\x#1{a#}") ≡ Err (Outside 1 33 6)
+case_31 : read (codes "\\def\\x#1{a#}") ≡ Err (Outside 1 BadDefinition 6)
 unfolding item_run run pages_from control plain_codes plain_table macro_texts accent_macros delimiter_macros other_macros family_macros function_macros limit_macros plain_body
 case_31 = refl
 
-case_32 : read (codes "\\def\\x#1{a##1}") ≡ Err (Outside 1 33 6)
+case_32 : read (codes "\\def\\x#1{a##1}") ≡ Err (Outside 1 BadDefinition 6)
 unfolding item_run run pages_from control plain_codes plain_table macro_texts accent_macros delimiter_macros other_macros family_macros function_macros limit_macros plain_body
 case_32 = refl
 
-case_33 : read (codes "\\def\\x}") ≡ Err (Outside 1 33 2)
+case_33 : read (codes "\\def\\x}") ≡ Err (Outside 1 BadDefinition 2)
 unfolding item_run run pages_from control plain_codes plain_table macro_texts accent_macros delimiter_macros other_macros family_macros function_macros limit_macros plain_body
 case_33 = refl
 
 -- cause 34
-case_34 : read (codes "\\def\\x{a") ≡ Err (Outside 1 34 2)
+case_34 : read (codes "\\def\\x{a") ≡ Err (Outside 1 OpenBody 2)
 unfolding item_run run pages_from control plain_codes plain_table macro_texts accent_macros delimiter_macros other_macros family_macros function_macros limit_macros plain_body
 case_34 = refl
 
-case_35 : read (codes "\\def\\x{{}") ≡ Err (Outside 1 34 2)
+case_35 : read (codes "\\def\\x{{}") ≡ Err (Outside 1 OpenBody 2)
 unfolding item_run run pages_from control plain_codes plain_table macro_texts accent_macros delimiter_macros other_macros family_macros function_macros limit_macros plain_body
 case_35 = refl
 
-case_36 : read (codes "\\def\\x#1{#2{") ≡ Err (Outside 1 34 4)
+case_36 : read (codes "\\def\\x#1{#2{") ≡ Err (Outside 1 OpenBody 4)
 unfolding item_run run pages_from control plain_codes plain_table macro_texts accent_macros delimiter_macros other_macros family_macros function_macros limit_macros plain_body
 case_36 = refl
 
-case_37 : read (codes "$a$\\def\\y#1{") ≡ Err (Outside 2 34 7)
+case_37 : read (codes "$a$\\def\\y#1{") ≡ Err (Outside 2 OpenBody 7)
 unfolding item_run run pages_from control plain_codes plain_table macro_texts accent_macros delimiter_macros other_macros family_macros function_macros limit_macros plain_body
 case_37 = refl
 
 -- cause 36
-case_38 : read (codes "\\mathcode128=0") ≡ Err (Outside 1 36 0)
+case_38 : read (codes "\\mathcode128=0") ≡ Err (Outside 1 BadAssignment 0)
 unfolding item_run run pages_from control plain_codes plain_table macro_texts accent_macros delimiter_macros other_macros family_macros function_macros limit_macros plain_body
 case_38 = refl
 
-case_39 : read (codes "\\mathcode`a=-1 ") ≡ Err (Outside 1 36 0)
+case_39 : read (codes "\\mathcode`a=-1 ") ≡ Err (Outside 1 BadAssignment 0)
 unfolding item_run run pages_from control plain_codes plain_table macro_texts accent_macros delimiter_macros other_macros family_macros function_macros limit_macros plain_body
 case_39 = refl
 
-case_40 : read (codes "\\mathcode`a=32769 ") ≡ Err (Outside 1 36 0)
+case_40 : read (codes "\\mathcode`a=32769 ") ≡ Err (Outside 1 BadAssignment 0)
 unfolding item_run run pages_from control plain_codes plain_table macro_texts accent_macros delimiter_macros other_macros family_macros function_macros limit_macros plain_body
 case_40 = refl
 
-case_41 : read (codes "$a$\\mathcode") ≡ Err (Outside 2 36 3)
+case_41 : read (codes "$a$\\mathcode") ≡ Err (Outside 2 BadAssignment 3)
 unfolding item_run run pages_from control plain_codes plain_table macro_texts accent_macros delimiter_macros other_macros family_macros function_macros limit_macros plain_body
 case_41 = refl
 
-case_42 : read (codes "\\mathcode`a=") ≡ Err (Outside 1 36 0)
+case_42 : read (codes "\\mathcode`a=") ≡ Err (Outside 1 BadAssignment 0)
 unfolding item_run run pages_from control plain_codes plain_table macro_texts accent_macros delimiter_macros other_macros family_macros function_macros limit_macros plain_body
 case_42 = refl
 
-case_43 : read (codes "\\mathcode`a==1") ≡ Err (Outside 1 36 0)
+case_43 : read (codes "\\mathcode`a==1") ≡ Err (Outside 1 BadAssignment 0)
 unfolding item_run run pages_from control plain_codes plain_table macro_texts accent_macros delimiter_macros other_macros family_macros function_macros limit_macros plain_body
 case_43 = refl
 
-case_44 : read (codes "\\delcode`a=16777216 ") ≡ Err (Outside 1 36 0)
+case_44 : read (codes "\\delcode`a=16777216 ") ≡ Err (Outside 1 BadAssignment 0)
 unfolding item_run run pages_from control plain_codes plain_table macro_texts accent_macros delimiter_macros other_macros family_macros function_macros limit_macros plain_body
 case_44 = refl
 
-case_45 : read (codes "\\delcode-1=0 ") ≡ Err (Outside 1 36 0)
+case_45 : read (codes "\\delcode-1=0 ") ≡ Err (Outside 1 BadAssignment 0)
 unfolding item_run run pages_from control plain_codes plain_table macro_texts accent_macros delimiter_macros other_macros family_macros function_macros limit_macros plain_body
 case_45 = refl
 
-case_46 : read (codes "\\delcode`a==\"0") ≡ Err (Outside 1 36 0)
+case_46 : read (codes "\\delcode`a==\"0") ≡ Err (Outside 1 BadAssignment 0)
 unfolding item_run run pages_from control plain_codes plain_table macro_texts accent_macros delimiter_macros other_macros family_macros function_macros limit_macros plain_body
 case_46 = refl
 
-case_47 : read (codes "\\mathcode\\alpha=0") ≡ Err (Outside 1 36 0)
+case_47 : read (codes "\\mathcode\\alpha=0") ≡ Err (Outside 1 BadAssignment 0)
 unfolding item_run run pages_from control plain_codes plain_table macro_texts accent_macros delimiter_macros other_macros family_macros function_macros limit_macros plain_body
 case_47 = refl
 
@@ -290,7 +291,7 @@ unfolding item_run run pages_from control plain_codes plain_table macro_texts ac
 case_67 = refl
 
 -- page 5,000 may have more formulas
-case_68 : after_pages 4999 (entry 7 (ord (sym 1 97) ∷ []) ∷ []) (codes "$a") ≡ Err (Outside 8 32 0)
+case_68 : after_pages 4999 (entry 7 (ord (sym 1 97) ∷ []) ∷ []) (codes "$a") ≡ Err (Outside 8 OpenFormula 0)
 unfolding item_run run pages_from control plain_codes plain_table macro_texts accent_macros delimiter_macros other_macros family_macros function_macros limit_macros plain_body
 case_68 = refl
 
@@ -305,24 +306,24 @@ unfolding item_run run pages_from control plain_codes plain_table macro_texts ac
 case_70 = refl
 
 -- one million may be
-case_71 : after_tokens (codes "$a$$b$\\foo") ≡ Err (Outside 10 31 6)
+case_71 : after_tokens (codes "$a$$b$\\foo") ≡ Err (Outside 10 Misplaced 6)
 unfolding item_run run pages_from control plain_codes plain_table macro_texts accent_macros delimiter_macros other_macros family_macros function_macros limit_macros plain_body
 case_71 = refl
 
 -- cause 35: name 1,001
-case_72 : after_definitions 1000 (codes "\\def\\xy{}") ≡ Err (Outside 8 35 0)
+case_72 : after_definitions 1000 (codes "\\def\\xy{}") ≡ Err (Outside 8 TooManyNames 0)
 unfolding item_run run pages_from control plain_codes plain_table macro_texts accent_macros delimiter_macros other_macros family_macros function_macros limit_macros plain_body
 case_72 = refl
 
-case_73 : after_definitions 1000 (codes "$a$\\def\\xy{}") ≡ Err (Outside 9 35 3)
+case_73 : after_definitions 1000 (codes "$a$\\def\\xy{}") ≡ Err (Outside 9 TooManyNames 3)
 unfolding item_run run pages_from control plain_codes plain_table macro_texts accent_macros delimiter_macros other_macros family_macros function_macros limit_macros plain_body
 case_73 = refl
 
 -- a name that is there may be defined anew; a bad body comes first
-case_74 : after_definitions 1000 (codes " \\def\\x{}\\def\\xy{#1}") ≡ Err (Outside 8 33 7)
+case_74 : after_definitions 1000 (codes " \\def\\x{}\\def\\xy{#1}") ≡ Err (Outside 8 BadDefinition 7)
 unfolding item_run run pages_from control plain_codes plain_table macro_texts accent_macros delimiter_macros other_macros family_macros function_macros limit_macros plain_body
 case_74 = refl
 
-case_75 : after_definitions 999 (codes "\\def\\xy{}\\def\\xz{}") ≡ Err (Outside 8 35 4)
+case_75 : after_definitions 999 (codes "\\def\\xy{}\\def\\xz{}") ≡ Err (Outside 8 TooManyNames 4)
 unfolding item_run run pages_from control plain_codes plain_table macro_texts accent_macros delimiter_macros other_macros family_macros function_macros limit_macros plain_body
 case_75 = refl

@@ -22,16 +22,18 @@ use Rattle.mt_formula.specs.Formulas.{Reading, Reads, ReadFault, reading}
 use Rattle.mt_reader.specs.documents.Definitions.{MacroDefinition, macro_definition}
 use Rattle.mt_reader.specs.documents.Assignments.{math_code_assignment, delcode_assignment}
 use Rattle.mt_reader.specs.documents.Dollars.{begins_display, between_dollars}
-use Rattle.mt_reader.specs.documents.Documents.{DocumentState, DocumentAnswer, Turn, Goes, Ends, Stops, StopsOutside, TooManyTokens, start_state, with_page, with_table, after_definition, after_assignment, is_page_limit, after_reading, after_expansion, formula_in, formula_turn, turn_by, turn_answer, outside_role, pages_from, document}
+use Rattle.mt_reader.specs.documents.Documents.{DocumentState, DocumentAnswer, DocumentTurn, Goes, Ends, Stops, StopsOutside, TooManyTokens, start_state, with_page, with_table, after_definition, after_assignment, is_page_limit, after_reading, after_expansion, formula_in, formula_turn, turn_by, turn_answer, outside_role, pages_from, document}
 use Rattle.mt_reader.specs.documents.Refusals.{IsDocument}
 use Rattle.mt_reader.specs.documents.Weights.{HasFewItems, HaveFewItems, HasModestLists, IsModestDocument}
 use Rattle.mt_formula.proofs.ItemBounds.{HasAtMost, reading_bound}
 use Rattle.mt_formula.proofs.Nesting.{formula_modest}
 use Rattle.mt_reader.proofs.Expanding.{expanded_short}
+use Rattle.mt_reader.specs.documents.Limits.{max_total_tokens}
+use Rattle.mt_macro.specs.Limits.{max_tokens}
 
 module _ (P : Formula → Type 0) (units : Units) where
   abbrev pub HoldsOfRead : Type 0
-  HoldsOfRead = (tables : CodeTables) (display : Bool) (list : List Token) (body : Sequence) (tag : Option Tag) (n : ℕ) → length list ≤ 50000 → reading tables units display list ≡ Reads body tag → P (record { number = n; display = display; body = body; tag = tag })
+  HoldsOfRead = (tables : CodeTables) (display : Bool) (list : List Token) (body : Sequence) (tag : Option Tag) (n : ℕ) → length list ≤ max_tokens → reading tables units display list ≡ Reads body tag → P (record { number = n; display = display; body = body; tag = tag })
 
   abbrev pub OfPages : List (List Formula) → Type 0
   OfPages pages = All (All P) pages
@@ -40,7 +42,7 @@ module _ (P : Formula → Type 0) (units : Units) where
     pub pages : All (All P) s.pages
     pub page : All P s.page
 
-  abbrev OfTurn : Turn → Type 0
+  abbrev OfTurn : DocumentTurn → Type 0
   OfTurn (Goes s rest) = OfState s
   OfTurn (Ends s) = OfState s
   OfTurn (Stops refusal) = ⊤
@@ -67,7 +69,7 @@ module _ (P : Formula → Type 0) (units : Units) where
   assigned s left (Fault cause at) h = tt
 
   module _ (reads : HoldsOfRead) where
-    formula_put : (s : DocumentState) (display : Bool) (total : ℕ) (rest list : List Token) (r : Reading) → OfState s → length list ≤ 50000 → reading s.tables units display list ≡ r → OfTurn (after_reading units s display total rest r)
+    formula_put : (s : DocumentState) (display : Bool) (total : ℕ) (rest list : List Token) (r : Reading) → OfState s → length list ≤ max_tokens → reading s.tables units display list ≡ r → OfTurn (after_reading units s display total rest r)
     formula_put s display total rest list (ReadFault cause place) h few e = tt
     formula_put s display total rest list (Reads body tag) h few e = record {
       pages = h.pages;
@@ -76,7 +78,7 @@ module _ (P : Formula → Type 0) (units : Units) where
 
     expanded : (s : DocumentState) (display : Bool) (rest given : List Token) (e : Expansion) → OfState s → expansion s.macros given ≡ e → OfTurn (after_expansion units s display rest e)
     expanded s display rest given (Expanded list) h e =
-        elim (nat_lt 1000000 (s.total + length list)) as (λ b. OfTurn (elim b [ true ↦ Stops (TooManyTokens (s.count + 1) (s.total + length list)) | false ↦ after_reading units s display (s.total + length list) rest (reading s.tables units display list) ]))
+        elim (nat_lt max_total_tokens (s.total + length list)) as (λ b. OfTurn (elim b [ true ↦ Stops (TooManyTokens (s.count + 1) (s.total + length list)) | false ↦ after_reading units s display (s.total + length list) rest (reading s.tables units display list) ]))
         [ true ↦ tt | false ↦ formula_put s display (s.total + length list) rest list (reading s.tables units display list) h (expanded_short s.macros given list e) refl ]
     expanded s display rest given (OverBudget steps size) h e = tt
     expanded s display rest given (NoArgument place) h e = tt
@@ -101,7 +103,7 @@ module _ (P : Formula → Type 0) (units : Units) where
     turned s rest EndsDocument h = h
     turned s rest Misplaced h = tt
 
-    answered : (whole : ℕ) (again : DocumentState → List Token → DocumentAnswer) (turn : Turn) → ((s : DocumentState) (rest : List Token) → OfState s → OfAnswer (again s rest)) → OfTurn turn → OfAnswer (turn_answer units whole again turn)
+    answered : (whole : ℕ) (again : DocumentState → List Token → DocumentAnswer) (turn : DocumentTurn) → ((s : DocumentState) (rest : List Token) → OfState s → OfAnswer (again s rest)) → OfTurn turn → OfAnswer (turn_answer units whole again turn)
     answered whole again (Goes s rest) more h = more s rest h
     answered whole again (Ends s) more h = page_ended s.pages s.page h.pages h.page
     answered whole again (Stops refusal) more h = tt

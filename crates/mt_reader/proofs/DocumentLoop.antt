@@ -11,9 +11,10 @@ use Rattle.mt_macro.specs.declared.expansion.ExpandError.TheVariants.{Budget, Mi
 use Rattle.mt_formula.specs.Errors.{PlacedCause, read_error_fault}
 use Rattle.mt_reader.specs.declared.document_error.DocError.{DocError}
 use Rattle.mt_reader.specs.declared.document_error.DocError.TheVariants.{Source, Outside, Expand, Read, Total, Pages, OutOfMemory}
-use Rattle.mt_reader.specs.documents.Documents.{DocumentState, DocumentFault, DocumentAnswer, Turn, Goes, Ends, Stops, StopsOutside, state_pages, turn_by, outside_role, turn_answer, pages_from, document}
+use Rattle.mt_reader.specs.documents.Documents.{DocumentState, DocumentFault, DocumentAnswer, DocumentTurn, Goes, Ends, Stops, StopsOutside, state_pages, turn_by, outside_role, turn_answer, pages_from, document}
 use Rattle.mt_reader.specs.documents.Refusals.{IsExpandRefusal, IsNotRead, IsRefusal}
-use Rattle.mt_reader.specs.documents.Turns.{state_of, turn_refusal, IsSpent, state_weight}
+use Rattle.mt_reader.specs.documents.DocumentTurns.{state_of, turn_refusal, IsSpent, state_weight}
+use Rattle.mt_reader.specs.documents.Limits.{max_total_tokens}
 
 -- these tokens are left of a document's
 pub record Progress (units : Units) (tokens : List Token) (state : StateFields) (rest : List Token) : Type 0 where
@@ -22,7 +23,7 @@ pub record Progress (units : Units) (tokens : List Token) (state : StateFields) 
   pub is : document units plain_codes plain_table tokens ≡ pages_from units (length tokens) turns (state_of state) rest
   pub falls : length rest ≤ length tokens
   pub count : state.count + length rest ≤ length tokens
-  pub total : state.total ≤ 1000000
+  pub total : state.total ≤ max_total_tokens
   pub weight : 2 * state_weight state + length rest ≤ length tokens
 
 at_end : (units : Units) (whole turns : ℕ) (s : DocumentState) → pages_from units whole turns s [] ≡ Ok (state_pages s)
@@ -67,24 +68,24 @@ module _ (units : Units) (tokens rest after : List Token) (state : StateFields) 
       let at = turn_at p.turns p.enough p.is e in
       at.1 ∙ ap (turn_answer units (length tokens) (pages_from units (length tokens) at.0)) turn
 
-  same_refusal : (again : DocumentState → List Token → DocumentAnswer) (turn : Turn) (f : DocumentFault) → turn_refusal (length tokens) turn ≡ Err f → turn_answer units (length tokens) again turn ≡ Err f
+  same_refusal : (again : DocumentState → List Token → DocumentAnswer) (turn : DocumentTurn) (f : DocumentFault) → turn_refusal (length tokens) turn ≡ Err f → turn_answer units (length tokens) again turn ≡ Err f
   same_refusal again (Goes s left) f e = absurd (cc)
   same_refusal again (Ends s) f e = absurd (cc)
   same_refusal again (Stops refusal) f e = e
   same_refusal again (StopsOutside n cause left) f e = e
 
-  refused_expand : (again : DocumentState → List Token → DocumentAnswer) (turn : Turn) (n : ℕ) (cause : ExpandError) → IsExpandRefusal n cause (turn_refusal (length tokens) turn) → IsExpandRefusal n cause (turn_answer units (length tokens) again turn)
+  refused_expand : (again : DocumentState → List Token → DocumentAnswer) (turn : DocumentTurn) (n : ℕ) (cause : ExpandError) → IsExpandRefusal n cause (turn_refusal (length tokens) turn) → IsExpandRefusal n cause (turn_answer units (length tokens) again turn)
   refused_expand again turn n (Budget steps size) e = same_refusal again turn _ e
   refused_expand again turn n (MissingArgument place) e = same_refusal again turn _ e
   refused_expand again turn n (UnbalancedList place) e = same_refusal again turn _ e
   refused_expand again turn n TooLong e = same_refusal again turn _ e
   refused_expand again turn n NoMemoryToExpand e = e
 
-  refused_read_of : (again : DocumentState → List Token → DocumentAnswer) (turn : Turn) (n : ℕ) (fault : Option PlacedCause) → IsNotRead n fault (turn_refusal (length tokens) turn) → IsNotRead n fault (turn_answer units (length tokens) again turn)
+  refused_read_of : (again : DocumentState → List Token → DocumentAnswer) (turn : DocumentTurn) (n : ℕ) (fault : Option PlacedCause) → IsNotRead n fault (turn_refusal (length tokens) turn) → IsNotRead n fault (turn_answer units (length tokens) again turn)
   refused_read_of again turn n (Some fault) e = same_refusal again turn _ e
   refused_read_of again turn n None e = e
 
-  refused : (again : DocumentState → List Token → DocumentAnswer) (turn : Turn) (error : DocError) → IsRefusal error (turn_refusal (length tokens) turn) → IsRefusal error (turn_answer units (length tokens) again turn)
+  refused : (again : DocumentState → List Token → DocumentAnswer) (turn : DocumentTurn) (error : DocError) → IsRefusal error (turn_refusal (length tokens) turn) → IsRefusal error (turn_answer units (length tokens) again turn)
   refused again turn (Source cause) e = same_refusal again turn _ e
   refused again turn (Outside n place cause) e = same_refusal again turn _ e
   refused again turn (Expand n cause) e = refused_expand again turn n cause e

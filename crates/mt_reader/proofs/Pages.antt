@@ -19,24 +19,25 @@ use Rattle.mt_formula.specs.Formulas.{Reading, Reads, ReadFault, reading}
 use Rattle.mt_reader.specs.documents.Definitions.{MacroDefinition, macro_definition}
 use Rattle.mt_reader.specs.documents.Assignments.{math_code_assignment, delcode_assignment}
 use Rattle.mt_reader.specs.documents.Dollars.{begins_display, between_dollars}
-use Rattle.mt_reader.specs.documents.Documents.{DocumentState, DocumentAnswer, start_state, Turn, Goes, Ends, Stops, StopsOutside, TooManyTokens, outside_role, with_page, state_pages, with_table, after_definition, after_assignment, is_empty_page, is_page_limit, after_reading, after_expansion, formula_in, formula_turn, turn_by, turn_answer, pages_from, document}
+use Rattle.mt_reader.specs.documents.Documents.{DocumentState, DocumentAnswer, start_state, DocumentTurn, Goes, Ends, Stops, StopsOutside, TooManyTokens, outside_role, with_page, state_pages, with_table, after_definition, after_assignment, is_empty_page, is_page_limit, after_reading, after_expansion, formula_in, formula_turn, turn_by, turn_answer, pages_from, document}
 use Rattle.mt_reader.specs.documents.Refusals.{IsDocument}
+use Rattle.mt_reader.specs.documents.Limits.{max_total_tokens, max_document_pages}
 
 -- what has been read makes at most so many pages
 abbrev FewPages : DocumentState → Type 0
-FewPages s = length (state_pages s) ≤ 5000
+FewPages s = length (state_pages s) ≤ max_document_pages
 
 push_length : (pages : List (List Formula)) (page : List Formula) → length (pages ++ page ∷ []) ≡ length pages + 1
 push_length [] page = refl
 push_length (p ∷ ps) page = omega (arith, push_length ps page)
 
 -- a formula begins no page after the last one
-push_page : (pages : List (List Formula)) (page : List Formula) (f : Formula) → length (with_page pages page) ≤ 5000 → (is_empty_page page && (length pages == 5000)) ≡ false → length (with_page pages (page ++ f ∷ [])) ≤ 5000
+push_page : (pages : List (List Formula)) (page : List Formula) (f : Formula) → length (with_page pages page) ≤ max_document_pages → (is_empty_page page && (length pages == max_document_pages)) ≡ false → length (with_page pages (page ++ f ∷ [])) ≤ max_document_pages
 push_page pages [] f h e = grind (arith, push_length pages (f ∷ []), h, e)
 push_page pages (p ∷ ps) f h e = omega (arith, h, push_length pages (p ∷ ps), push_length pages (p ∷ ps ++ f ∷ []))
 
 -- what a turn goes on with, or ends with, has few pages
-abbrev TurnFits : Turn → Type 0
+abbrev TurnFits : DocumentTurn → Type 0
 TurnFits (Goes s rest) = FewPages s
 TurnFits (Ends s) = FewPages s
 TurnFits (Stops refusal) = ⊤
@@ -55,7 +56,7 @@ assignment_fits s left (Fault cause at) f = tt
 assignment_fits s left (Got tables rest) f = f
 
 abbrev AnswerFits : DocumentAnswer → Type 0
-AnswerFits (Ok pages) = length pages ≤ 5000
+AnswerFits (Ok pages) = length pages ≤ max_document_pages
 AnswerFits (Err refusal) = ⊤
 
 abbrev AgainFits : (DocumentState → List Token → DocumentAnswer) → Type 0
@@ -67,7 +68,7 @@ module _ (units : Units) where
   reading_fits s display total rest (Reads body tag) f room = push_page s.pages s.page (record { number = s.count + 1; display = display; body = body; tag = tag }) f room
 
   expansion_fits : (s : DocumentState) (display : Bool) (rest : List Token) (o : Expansion) → FewPages s → is_page_limit s ≡ false → TurnFits (after_expansion units s display rest o)
-  expansion_fits s display rest (Expanded list) f room = by_total (nat_lt 1000000 (s.total + length list))
+  expansion_fits s display rest (Expanded list) f room = by_total (nat_lt max_total_tokens (s.total + length list))
     where
       by_total : (b : Bool) → TurnFits (elim b [ true ↦ Stops (TooManyTokens (s.count + 1) (s.total + length list)) | false ↦ after_reading units s display (s.total + length list) rest (reading s.tables units display list) ])
       by_total true = tt
@@ -96,7 +97,7 @@ module _ (units : Units) where
   turn_by_fits s rest Misplaced f = tt
 
   module _ (whole : ℕ) where
-    turn_answer_fits : (again : DocumentState → List Token → DocumentAnswer) → AgainFits again → (turn : Turn) → TurnFits turn → AnswerFits (turn_answer units whole again turn)
+    turn_answer_fits : (again : DocumentState → List Token → DocumentAnswer) → AgainFits again → (turn : DocumentTurn) → TurnFits turn → AnswerFits (turn_answer units whole again turn)
     turn_answer_fits again h (Goes s rest) f = h s rest f
     turn_answer_fits again h (Ends s) f = f
     turn_answer_fits again h (Stops refusal) f = tt
@@ -108,6 +109,6 @@ module _ (units : Units) where
     pages_fit (suc n) s [] f = f
     pages_fit (suc n) s (t ∷ rest) f = turn_answer_fits (pages_from units whole n) (pages_fit n) (turn_by units s rest (outside_role t.kind)) (turn_by_fits s rest (outside_role t.kind) f)
 
-  pub pages_few : (tables : CodeTables) (macros : Table) (tokens : List Token) (result : Result (List (List Formula)) DocError) → IsDocument result (document units tables macros tokens) → IfOk result (λ pages. length pages ≤ 5000)
+  pub pages_few : (tables : CodeTables) (macros : Table) (tokens : List Token) (result : Result (List (List Formula)) DocError) → IsDocument result (document units tables macros tokens) → IfOk result (λ pages. length pages ≤ max_document_pages)
   pages_few tables macros tokens (Ok pages) e = subst AnswerFits e (pages_fit (length tokens) (length tokens) (start_state tables macros) tokens (omega arith))
   pages_few tables macros tokens (Err error) e = tt

@@ -6,6 +6,8 @@ pub mod Assignments
 pub mod Dollars
 -- documents
 pub mod Documents
+-- the most tokens and pages of a document
+pub mod Limits
 -- the document of a source
 pub mod Sources
 -- the numbers of causes outside of formulas
@@ -16,4 +18,4 @@ pub mod Refusals
 pub mod Weights
 -- lent tokens, and what a turn leaves: only inner contracts cite these
 pub mod Lent
-pub mod Turns
+pub mod DocumentTurns

@@ -6,15 +6,12 @@ ghost use Rattle.mt_reader.specs.documents.Assignments.{math_code_assignment, de
 ghost use Rattle.mt_reader.specs.documents.Lent.{Assigns};
 ghost use Rattle.mt_scan.specs.Meets.{Meets};
 
-use mt_plain::Codes;
+use mt_plain::{Codes, MAX_MATH_CODE};
 use mt_scan::{Fault, ReadCause, Scanned, after_spaces, number_to, whole_number};
 use mt_token::{Token, character_code};
 
 /// The greatest character.
 const MAX_CHARACTER: u32 = 127;
-
-/// The greatest math code.
-const MAX_MATH_CODE: u32 = 32_768;
 
 /// The greatest delimiter code.
 const MAX_DELCODE: i64 = 16_777_215;
@@ -60,10 +57,8 @@ fn delimiter_value<'a>(tokens: &'a [Token]) -> Result<Scanned<'a, Option<u32>>, 
     ensures falls { IfOk result (λ part. length part.rest.now ≤ length tokens.now) }
     ensures code { IfOk result (λ part. is_delcode part.value ≡ true) }
 {
-    match whole_number(tokens) {
-        Ok(part) => code_or_none(tokens.len(), part.value, part.rest),
-        Err(fault) => Err(fault),
-    }
+    let number = whole_number(tokens)?;
+    code_or_none(tokens.len(), number.value, number.rest)
 }
 
 /// Gives a character a math code, by the tokens after `\\mathcode`, and hands out those after it.
@@ -71,19 +66,11 @@ pub fn assign_math_code<'a>(codes: &mut Codes, tokens: &'a [Token]) -> Result<&'
     ensures is { Assigns result codes.new (math_code_assignment codes.old tokens.now) }
     ensures falls { IfOk result (λ rest. length rest.now ≤ length tokens.now) }
 {
-    match number_to(MAX_CHARACTER, tokens) {
-        Ok(character) => {
-            let code = after_equals(after_spaces(character.rest));
-            match number_to(MAX_MATH_CODE, code) {
-                Ok(value) => {
-                    codes.set_math_code(character.value as u8, value.value as u16);
-                    Ok(value.rest)
-                }
-                Err(fault) => Err(fault),
-            }
-        }
-        Err(fault) => Err(fault),
-    }
+    let character = number_to(MAX_CHARACTER, tokens)?;
+    let code = after_equals(after_spaces(character.rest));
+    let value = number_to(u32::from(MAX_MATH_CODE), code)?;
+    codes.set_math_code(character.value as u8, value.value as u16);
+    Ok(value.rest)
 }
 
 /// Gives a character a delimiter code or none, by the tokens after `\\delcode`, and hands out those after it.
@@ -91,16 +78,12 @@ pub fn assign_delcode<'a>(codes: &mut Codes, tokens: &'a [Token]) -> Result<&'a 
     ensures is { Assigns result codes.new (delcode_assignment codes.old tokens.now) }
     ensures falls { IfOk result (λ rest. length rest.now ≤ length tokens.now) }
 {
-    match number_to(MAX_CHARACTER, tokens) {
-        Ok(character) => {
-            let code = after_equals(after_spaces(character.rest));
-            match delimiter_value(code) {
-                Ok(value) => {
-                    codes.set_delcode(character.value as u8, value.value);
-                    Ok(value.rest)
-                }
-                Err(fault) => Err(fault),
-            }
+    let character = number_to(MAX_CHARACTER, tokens)?;
+    let code = after_equals(after_spaces(character.rest));
+    match delimiter_value(code) {
+        Ok(value) => {
+            codes.set_delcode(character.value as u8, value.value);
+            Ok(value.rest)
         }
         Err(fault) => Err(fault),
     }

@@ -154,10 +154,8 @@ fn definition_of_name<'a>(
     ensures falls { IfOk result (λ part. length part.rest.now ≤ length tokens.now) }
     ensures short { IfOk result (λ part. length part.value.body.now ≤ length tokens.now) }
 {
-    match parameters(tokens) {
-        Ok(part) => definition_body(name, part.value, part.rest),
-        Err(fault) => Err(fault),
-    }
+    let params = parameters(tokens)?;
+    definition_body(name, params.value, params.rest)
 }
 
 /// What follows `\def`: a control sequence, parameters, and a body between braces.

@@ -10,7 +10,9 @@ ghost use Rattle.mt_formula.specs.Formulas.{reading};
 ghost use Rattle.mt_reader.specs.documents.Assignments.{math_code_assignment, delcode_assignment};
 ghost use Rattle.mt_reader.specs.documents.Documents.{start_state, state_pages, after_page_end};
 ghost use Rattle.mt_reader.specs.documents.Documents.{is_page_limit, with_formula};
-ghost use Rattle.mt_reader.specs.documents.Turns.{state_of, SetsTables, changes_macros};
+ghost use Rattle.mt_reader.specs.documents.DocumentTurns.{state_of, SetsTables, changes_macros};
+ghost use Rattle.mt_reader.specs.documents.Limits.{max_total_tokens};
+ghost use Rattle.mt_macro.specs.Limits.{max_tokens};
 
 use crate::assignments::{assign_delcode, assign_math_code};
 use crate::definitions::MacroDefinition;
@@ -25,7 +27,7 @@ use std::alloc::{AllocError, Global};
 use std::mem;
 
 /// The greatest number of pages.
-const MAX_PAGES: usize = 5_000;
+pub const MAX_DOCUMENT_PAGES: u32 = 5_000;
 
 /// What has been read of a document: the codes and macros, the pages that are ended, the formulas of the page that is
 /// not, how many formulas there are, and how many tokens they had after expansion.
@@ -68,7 +70,7 @@ impl DocumentState {
     pub fn is_page_limit(&self) -> bool
         ensures { result ≡ is_page_limit (state_of self.now) }
     {
-        self.page.is_empty() && self.pages.len() == MAX_PAGES
+        self.page.is_empty() && self.pages.len() == MAX_DOCUMENT_PAGES as usize
     }
 
     /// Puts in a definition. After an error all is as before.
@@ -103,15 +105,15 @@ impl DocumentState {
     /// The tokens of a formula without macros.
     pub fn expand(&self, alloc: Global, tokens: &[Token]) -> Result<TokenList, ExpandError>
         ensures is { Expands result (expansion self.now.macros tokens.now) }
-        ensures short { IfOk result (λ list. length list ≤ 50000) }
+        ensures short { IfOk result (λ list. length list ≤ max_tokens) }
     {
         expand(alloc, &self.macros, tokens)
     }
 
     /// How many tokens all formulas have after expansion, with these.
     pub fn total_with(&self, list: &TokenList) -> u64
-        requires total { self.now.total ≤ 1000000 }
-        requires list { length list.now ≤ 50000 }
+        requires total { self.now.total ≤ max_total_tokens }
+        requires list { length list.now ≤ max_tokens }
         ensures { result ≡ self.now.total + length list.now }
     {
         self.total + list.len() as u64

@@ -8,11 +8,13 @@ ghost use Rattle.mt_reader.specs.documents.Documents.{after_expansion, formula_t
 ghost use Rattle.mt_reader.specs.documents.Documents.{is_page_limit, turn_by, outside_role, Goes};
 ghost use Rattle.mt_macro.specs.Expansion.{Expanded, expansion};
 ghost use Rattle.mt_formula.specs.Formulas.{reading};
-ghost use Rattle.mt_reader.specs.documents.Turns.{state_of, Turns, Spends, ReadsOne, expand_error, read_error};
+ghost use Rattle.mt_reader.specs.documents.DocumentTurns.{state_of, MeetsTurn, Spends, ReadsOne, expand_error, read_error};
+ghost use Rattle.mt_reader.specs.documents.Limits.{max_total_tokens};
+ghost use Rattle.mt_macro.specs.Limits.{max_tokens};
 
 use crate::definitions::macro_definition;
 use crate::document_error::DocError;
-use crate::document_state::DocumentState;
+use crate::document_state::{DocumentState, MAX_DOCUMENT_PAGES};
 use crate::dollars::{begins_display, between_dollars};
 use crate::outside_cause::OutsideCause;
 use crate::outside_role::{OutsideRole, outside_role};
@@ -24,10 +26,10 @@ use mt_token::{Token, TokenList};
 use std::alloc::Global;
 
 /// The greatest number of tokens of all formulas after expansion.
-const MAX_TOTAL: u64 = 1_000_000;
+const MAX_TOTAL_TOKENS: u64 = 1_000_000;
 
 /// The page that no formula begins.
-const PAGE_TOO_MANY: u32 = 5_001;
+const PAGE_TOO_MANY: u32 = MAX_DOCUMENT_PAGES + 1;
 
 /// What is left after a turn.
 #[derive(Clone, Copy)]
@@ -58,10 +60,10 @@ fn definition_turn<'a>(
     tokens: &'a [Token],
 ) -> Result<AfterTurn<'a>, DocError>
     requires count { state.old.count < 2 ^ 32 - 1 }
-    requires total { state.old.total ≤ 1000000 }
+    requires total { state.old.total ≤ max_total_tokens }
     requires whole { whole < 2 ^ 32 }
     requires tokens { length tokens.now < whole }
-    ensures is { Turns result state.new whole
+    ensures is { MeetsTurn result state.new whole
         (after_definition (state_of state.old) (length tokens.now + 1) (macro_definition tokens.now)) }
     ensures spends { Spends result state.old state.new tokens.now }
 {
@@ -85,10 +87,10 @@ fn math_code_turn<'a>(
     tokens: &'a [Token],
 ) -> Result<AfterTurn<'a>, DocError>
     requires count { state.old.count < 2 ^ 32 - 1 }
-    requires total { state.old.total ≤ 1000000 }
+    requires total { state.old.total ≤ max_total_tokens }
     requires whole { whole < 2 ^ 32 }
     requires tokens { length tokens.now < whole }
-    ensures is { Turns result state.new whole (after_assignment (state_of state.old) (length tokens.now + 1)
+    ensures is { MeetsTurn result state.new whole (after_assignment (state_of state.old) (length tokens.now + 1)
         (math_code_assignment state.old.codes tokens.now)) }
     ensures spends { Spends result state.old state.new tokens.now }
 {
@@ -108,10 +110,10 @@ fn delcode_turn<'a>(
     tokens: &'a [Token],
 ) -> Result<AfterTurn<'a>, DocError>
     requires count { state.old.count < 2 ^ 32 - 1 }
-    requires total { state.old.total ≤ 1000000 }
+    requires total { state.old.total ≤ max_total_tokens }
     requires whole { whole < 2 ^ 32 }
     requires tokens { length tokens.now < whole }
-    ensures is { Turns result state.new whole (after_assignment (state_of state.old) (length tokens.now + 1)
+    ensures is { MeetsTurn result state.new whole (after_assignment (state_of state.old) (length tokens.now + 1)
         (delcode_assignment state.old.codes tokens.now)) }
     ensures spends { Spends result state.old state.new tokens.now }
 {
@@ -157,9 +159,9 @@ fn read_expanded<'a>(
     requires em { Within (2 ^ 31) units.em }
     requires ex { Within (2 ^ 31) units.ex }
     requires count { state.old.count < 2 ^ 32 - 1 }
-    requires list { length list.now ≤ 50000 }
-    requires total { total ≤ 1000000 }
-    ensures is { (whole : ℕ) → Turns result state.new whole (after_reading units (state_of state.old) display total
+    requires list { length list.now ≤ max_tokens }
+    requires total { total ≤ max_total_tokens }
+    ensures is { (whole : ℕ) → MeetsTurn result state.new whole (after_reading units (state_of state.old) display total
         rest.now (reading state.old.codes units display list.now)) }
     ensures reads { ReadsOne result state.old state.new display rest.now }
 {
@@ -184,14 +186,14 @@ fn count_expanded<'a>(
     requires em { Within (2 ^ 31) units.em }
     requires ex { Within (2 ^ 31) units.ex }
     requires count { state.old.count < 2 ^ 32 - 1 }
-    requires total { state.old.total ≤ 1000000 }
-    requires list { length list.now ≤ 50000 }
-    ensures is { (whole : ℕ) → Turns result state.new whole
+    requires total { state.old.total ≤ max_total_tokens }
+    requires list { length list.now ≤ max_tokens }
+    ensures is { (whole : ℕ) → MeetsTurn result state.new whole
         (after_expansion units (state_of state.old) display rest.now (Expanded list.now)) }
     ensures reads { ReadsOne result state.old state.new display rest.now }
 {
     let total = state.total_with(list);
-    if total > MAX_TOTAL {
+    if total > MAX_TOTAL_TOKENS {
         return Err(DocError::Total {
             n: state.next(),
             count: total,
@@ -211,8 +213,8 @@ fn formula_between<'a>(
     requires em { Within (2 ^ 31) units.em }
     requires ex { Within (2 ^ 31) units.ex }
     requires count { state.old.count < 2 ^ 32 - 1 }
-    requires total { state.old.total ≤ 1000000 }
-    ensures is { (whole : ℕ) → Turns result state.new whole (after_expansion units (state_of state.old) display
+    requires total { state.old.total ≤ max_total_tokens }
+    ensures is { (whole : ℕ) → MeetsTurn result state.new whole (after_expansion units (state_of state.old) display
         taken.entry.after.now (expansion state.old.macros taken.entry.argument.now)) }
     ensures reads { ReadsOne result state.old state.new display taken.entry.after.now }
 {
@@ -233,10 +235,10 @@ fn formula_turn<'a>(
     requires em { Within (2 ^ 31) units.em }
     requires ex { Within (2 ^ 31) units.ex }
     requires count { state.old.count < 2 ^ 32 - 1 }
-    requires total { state.old.total ≤ 1000000 }
+    requires total { state.old.total ≤ max_total_tokens }
     requires whole { whole < 2 ^ 32 }
     requires tokens { length tokens.now < whole }
-    ensures is { Turns result state.new whole
+    ensures is { MeetsTurn result state.new whole
         (formula_turn units (state_of state.old) tokens.now (is_page_limit (state_of state.old))) }
     ensures spends { Spends result state.old state.new tokens.now }
 {
@@ -258,8 +260,8 @@ fn page_turn<'a>(
     state: &mut DocumentState,
     tokens: &'a [Token],
 ) -> Result<AfterTurn<'a>, DocError>
-    requires total { state.old.total ≤ 1000000 }
-    ensures is { (whole : ℕ) → Turns result state.new whole
+    requires total { state.old.total ≤ max_total_tokens }
+    ensures is { (whole : ℕ) → MeetsTurn result state.new whole
         (Goes (after_page_end (state_of state.old)) tokens.now) }
     ensures spends { Spends result state.old state.new tokens.now }
 {
@@ -279,10 +281,10 @@ pub fn document_turn<'a>(
     requires em { Within (2 ^ 31) units.em }
     requires ex { Within (2 ^ 31) units.ex }
     requires count { state.old.count < 2 ^ 32 - 1 }
-    requires total { state.old.total ≤ 1000000 }
+    requires total { state.old.total ≤ max_total_tokens }
     requires whole { whole < 2 ^ 32 }
     requires tokens { length tokens.now < whole }
-    ensures is { Turns result state.new whole
+    ensures is { MeetsTurn result state.new whole
         (turn_by units (state_of state.old) tokens.now (outside_role token.now.kind)) }
     ensures spends { Spends result state.old state.new tokens.now }
 {

@@ -7,6 +7,7 @@ ghost use Rattle.mt_reader.specs.documents.Documents.{document};
 ghost use Rattle.mt_reader.specs.documents.Sources.{source_document};
 ghost use Rattle.mt_reader.specs.documents.Refusals.{IsDocument};
 ghost use Rattle.mt_reader.specs.documents.Weights.{pages_weight, HaveFewItems, IsModestDocument};
+ghost use Rattle.mt_reader.specs.documents.Limits.{max_document_pages};
 
 use crate::document_error::DocError;
 use crate::document_state::DocumentState;
@@ -51,7 +52,7 @@ pub fn read_document(alloc: Global, units: Units, bytes: &[u8]) -> Result<Docume
     ensures is { IsDocument result (source_document units bytes.now) }
     ensures few { IfOk result (λ pages. pages_weight pages ≤ 2 ^ 21) }
     ensures items { IfOk result HaveFewItems }
-    ensures pages { IfOk result (λ pages. length pages ≤ 5000) }
+    ensures pages { IfOk result (λ pages. length pages ≤ max_document_pages) }
     ensures modest { IfOk result IsModestDocument }
 {
     match tokens(alloc, bytes) {

@@ -18,7 +18,8 @@ pub record MacroDefinition : Type 0 where
 -- a { must follow so many parameters; it is left
 abbrev pub after_parameters : ℕ → List Token → ReadOr OutsideCause ℕ
 after_parameters count [] = Fault BadDefinition 0
-after_parameters count (t ∷ rest) = if is_open t then Got count (t ∷ rest) else Fault BadDefinition (length rest + 1)
+after_parameters count (t ∷ rest) =
+    if is_open t then Got count (t ∷ rest) else Fault BadDefinition (length rest + 1)
 
 -- # where fewer than nine parameters stand before
 abbrev pub is_parameter : ℕ → Token → Bool
@@ -30,7 +31,10 @@ parameters count [] = Fault BadDefinition 0
 parameters count (t ∷ []) = if is_parameter count t then Fault BadDefinition 0 else after_parameters count (t ∷ [])
 parameters count (t ∷ u ∷ rest) =
     elim (is_parameter count t) [
-      | true ↦ elim (character_code u.kind == 49 + count) [ true ↦ parameters (count + 1) rest | false ↦ Fault BadDefinition (length rest + 1) ]
+      | true ↦ elim (character_code u.kind == 49 + count) [
+        | true ↦ parameters (count + 1) rest
+        | false ↦ Fault BadDefinition (length rest + 1)
+      ]
       | false ↦ after_parameters count (t ∷ u ∷ rest)
     ]
 

@@ -15,7 +15,8 @@ use Rattle.mt_plain.specs.CodeTables.{CodeTables}
 use Rattle.mt_scan.specs.declared.fault.ReadCause.{ReadCause}
 use Rattle.mt_scan.specs.Parts.{Read, ReadOr, Got, Fault}
 use Rattle.mt_reader.specs.declared.outside_cause.OutsideCause.{OutsideCause}
-use Rattle.mt_reader.specs.documents.Causes.{outside_number}
+use Rattle.mt_reader.specs.declared.outside_cause.OutsideCause.{OutsideCause}
+use Rattle.mt_reader.specs.declared.outside_cause.OutsideCause.TheVariants as causes
 use Rattle.mt_reader.specs.declared.outside_role.OutsideRole.{OutsideRole}
 use Rattle.mt_reader.specs.declared.outside_role.OutsideRole.TheVariants.{Passed, Defines, SetsMathCode, SetsDelimiterCode, BeginsFormula, EndsPage, EndsDocument, Misplaced}
 use Rattle.mt_rules.specs.Sequence.{Sequence}
@@ -25,8 +26,10 @@ use Rattle.mt_formula.specs.Formulas.{Reading, Reads, ReadFault, reading}
 use Rattle.mt_reader.specs.documents.Definitions.{MacroDefinition, macro_definition}
 use Rattle.mt_reader.specs.documents.Assignments.{math_code_assignment, delcode_assignment}
 use Rattle.mt_reader.specs.documents.Dollars.{begins_display, between_dollars}
+use Rattle.mt_reader.specs.documents.Limits.{max_total_tokens, max_document_pages}
 
--- what has been read: the pages that are ended, the formulas of the page that is not, how many formulas there are, and how many tokens they had after expansion
+-- what has been read: the pages that are ended, the formulas of the page that is not, how many formulas there are, and
+-- how many tokens they had after expansion
 pub record DocumentState : Type 0 where
   pub tables : CodeTables
   pub macros : Table
@@ -44,7 +47,7 @@ pub data DocumentFault : Type 0 where
   -- the source has no tokens
   NotLexed : (cause : TokenError) → DocumentFault
   -- a token outside of formulas, by its place
-  Outside : (n : ℕ) (cause : ℕ) (place : ℕ) → DocumentFault
+  Outside : (n : ℕ) (cause : OutsideCause) (place : ℕ) → DocumentFault
   NotExpanded : (n : ℕ) (outcome : Expansion) → DocumentFault
   NotRead : (n : ℕ) (cause : ReadCause) (place : ℕ) → DocumentFault
   TooManyTokens : (n : ℕ) (count : ℕ) → DocumentFault
@@ -54,12 +57,12 @@ abbrev pub DocumentAnswer : Type 0
 DocumentAnswer = Result (List (List Formula)) DocumentFault
 
 -- what becomes of a token and those after it
-pub data Turn : Type 0 where
-  Goes : (state : DocumentState) (rest : List Token) → Turn
-  Ends : (state : DocumentState) → Turn
-  Stops : (refusal : DocumentFault) → Turn
+pub data DocumentTurn : Type 0 where
+  Goes : (state : DocumentState) (rest : List Token) → DocumentTurn
+  Ends : (state : DocumentState) → DocumentTurn
+  Stops : (refusal : DocumentFault) → DocumentTurn
   -- a token outside of formulas is at fault: so many are left from it on
-  StopsOutside : (n : ℕ) (cause : ℕ) (left : ℕ) → Turn
+  StopsOutside : (n : ℕ) (cause : OutsideCause) (left : ℕ) → DocumentTurn
 
 -- what a token is outside of formulas, whatever its name is defined as
 abbrev pub outside_name_role : List ℕ → OutsideRole
@@ -89,29 +92,29 @@ after_page_end s = record s { pages = with_page s.pages s.page; page = [] }
 abbrev pub state_pages : DocumentState → List (List Formula)
 state_pages s = with_page s.pages s.page
 
-abbrev pub outside_fault : DocumentState → ℕ → ℕ → Turn
+abbrev pub outside_fault : DocumentState → OutsideCause → ℕ → DocumentTurn
 outside_fault s cause left = StopsOutside (s.count + 1) cause left
 
-abbrev pub with_table : DocumentState → ℕ → List Token → Result Table MacroError → Turn
+abbrev pub with_table : DocumentState → ℕ → List Token → Result Table MacroError → DocumentTurn
 with_table s left rest (Ok macros) = Goes (record s { macros = macros }) rest
-with_table s left rest (Err e) = outside_fault s 35 left
+with_table s left rest (Err e) = outside_fault s causes.TooManyNames left
 
 -- a definition, and then whether there is room for it
-abbrev pub after_definition : DocumentState → ℕ → ReadOr OutsideCause MacroDefinition → Turn
-after_definition s left (Fault cause at) = outside_fault s (outside_number cause) at
+abbrev pub after_definition : DocumentState → ℕ → ReadOr OutsideCause MacroDefinition → DocumentTurn
+after_definition s left (Fault cause at) = outside_fault s cause at
 after_definition s left (Got d rest) = with_table s left rest (define s.macros d.name d.params d.body)
 
-abbrev pub after_assignment : DocumentState → ℕ → Read CodeTables → Turn
-after_assignment s left (Fault cause at) = outside_fault s 36 left
+abbrev pub after_assignment : DocumentState → ℕ → Read CodeTables → DocumentTurn
+after_assignment s left (Fault cause at) = outside_fault s causes.BadAssignment left
 after_assignment s left (Got tables rest) = Goes (record s { tables = tables }) rest
 
 abbrev pub is_empty_page : List Formula → Bool
 is_empty_page [] = true
 is_empty_page (e ∷ es) = false
 
--- the next formula would begin page 5,001
+-- the next formula would begin a page too many
 abbrev pub is_page_limit : DocumentState → Bool
-is_page_limit s = is_empty_page s.page && (length s.pages == 5000)
+is_page_limit s = is_empty_page s.page && (length s.pages == max_document_pages)
 
 -- after a formula, with which so many tokens are read
 abbrev pub with_formula : DocumentState → Bool → ℕ → Sequence → Option Tag → DocumentState
@@ -120,14 +123,14 @@ with_formula s display total body tag =
     record s { page = s.page ++ formula ∷ []; count = s.count + 1; total = total }
 
 module _ (units : Units) where
-  abbrev pub after_reading : DocumentState → Bool → ℕ → List Token → Reading → Turn
+  abbrev pub after_reading : DocumentState → Bool → ℕ → List Token → Reading → DocumentTurn
   after_reading s display total rest (ReadFault cause place) = Stops (NotRead (s.count + 1) cause place)
   after_reading s display total rest (Reads body tag) = Goes (with_formula s display total body tag) rest
 
-  abbrev pub after_expansion : DocumentState → Bool → List Token → Expansion → Turn
+  abbrev pub after_expansion : DocumentState → Bool → List Token → Expansion → DocumentTurn
   after_expansion s display rest (Expanded list) =
       let total = s.total + length list in
-      elim (nat_lt 1000000 total) [
+      elim (nat_lt max_total_tokens total) [
         | true ↦ Stops (TooManyTokens (s.count + 1) total)
         | false ↦ after_reading s display total rest (reading s.tables units display list)
       ]
@@ -136,16 +139,16 @@ module _ (units : Units) where
   after_expansion s display rest (NoPartner place) = Stops (NotExpanded (s.count + 1) (NoPartner place))
   after_expansion s display rest ListTooLong = Stops (NotExpanded (s.count + 1) ListTooLong)
 
-  abbrev pub formula_in : DocumentState → Bool → ℕ → Option Taken → Turn
-  formula_in s display left None = outside_fault s 32 left
+  abbrev pub formula_in : DocumentState → Bool → ℕ → Option Taken → DocumentTurn
+  formula_in s display left None = outside_fault s causes.OpenFormula left
   formula_in s display left (Some taken) = after_expansion s display taken.after (expansion s.macros taken.argument)
 
   -- a formula after its first dollar: it is expanded, counted and read
-  abbrev pub formula_turn : DocumentState → List Token → Bool → Turn
-  formula_turn s rest true = Stops (TooManyPages 5001)
+  abbrev pub formula_turn : DocumentState → List Token → Bool → DocumentTurn
+  formula_turn s rest true = Stops (TooManyPages (max_document_pages + 1))
   formula_turn s rest false = formula_in s (begins_display rest) (length rest + 1) (between_dollars rest)
 
-  abbrev pub turn_by : DocumentState → List Token → OutsideRole → Turn
+  abbrev pub turn_by : DocumentState → List Token → OutsideRole → DocumentTurn
   turn_by s rest Passed = Goes s rest
   turn_by s rest Defines = after_definition s (length rest + 1) (macro_definition rest)
   turn_by s rest SetsMathCode = after_assignment s (length rest + 1) (math_code_assignment s.tables rest)
@@ -153,16 +156,17 @@ module _ (units : Units) where
   turn_by s rest BeginsFormula = formula_turn s rest (is_page_limit s)
   turn_by s rest EndsPage = Goes (after_page_end s) rest
   turn_by s rest EndsDocument = Ends s
-  turn_by s rest Misplaced = outside_fault s 31 (length rest + 1)
+  turn_by s rest Misplaced = outside_fault s causes.Misplaced (length rest + 1)
 
   module _ (length_of_all : ℕ) where
-    abbrev pub turn_answer : (DocumentState → List Token → DocumentAnswer) → Turn → DocumentAnswer
+    abbrev pub turn_answer : (DocumentState → List Token → DocumentAnswer) → DocumentTurn → DocumentAnswer
     turn_answer again (Goes s rest) = again s rest
     turn_answer again (Ends s) = Ok (state_pages s)
     turn_answer again (Stops refusal) = Err refusal
     turn_answer again (StopsOutside n cause left) = Err (Outside n cause (length_of_all - left))
 
-    abbrev pub document_turn : (DocumentState → List Token → DocumentAnswer) → DocumentState → List Token → DocumentAnswer
+    abbrev pub document_turn : (DocumentState → List Token → DocumentAnswer)
+        → DocumentState → List Token → DocumentAnswer
     document_turn again s [] = Ok (state_pages s)
     document_turn again s (t ∷ rest) = turn_answer again (turn_by s rest (outside_role t.kind))
 

@@ -19,7 +19,8 @@ ends_formula display t rest = is_math_shift_token t && (not display || begins_wi
 abbrev pub after_end : Bool → List Token → List Token
 after_end display rest = if display then drop 1 rest else rest
 
--- a formula up to its end outside of all groups, where so many groups are open; none without an end, or where a } closes no group
+-- a formula up to its end outside of all groups, where so many groups are open; none without an end, or where a }
+-- closes no group
 abbrev pub up_to_end : Bool → ℕ → List Token → Option Taken
 up_to_end display level [] = None
 up_to_end display level (t ∷ rest) =

@@ -29,7 +29,8 @@ abbrev pub MeetsOutside : {A : Type 0} → Result (Scanned A) OutsideFault → R
 MeetsOutside (Ok part) read = read ≡ Got part.value part.rest.now
 MeetsOutside (Err fault) read = read ≡ Fault fault.cause fault.left
 
-abbrev pub MeetsDefinition : Result (Scanned LentDefinition) OutsideFault → ReadOr OutsideCause MacroDefinition → Type 0
+abbrev pub MeetsDefinition : Result (Scanned LentDefinition) OutsideFault → ReadOr OutsideCause MacroDefinition
+    → Type 0
 MeetsDefinition (Ok part) read = read ≡ Got (definition_value part.value) part.rest.now
 MeetsDefinition (Err fault) read = read ≡ Fault fault.cause fault.left
 

@@ -8,7 +8,6 @@ use Rattle.mt_formula.specs.declared.read_error.ReadError.{ReadError}
 use Rattle.mt_formula.specs.Errors.{PlacedCause, read_error_fault}
 use Rattle.mt_reader.specs.declared.document_error.DocError.{DocError}
 use Rattle.mt_reader.specs.declared.document_error.DocError.TheVariants.{Source, Outside, Expand, Read, Total, Pages, OutOfMemory}
-use Rattle.mt_reader.specs.documents.Causes.{outside_number}
 use Rattle.mt_reader.specs.documents.Documents.{DocumentAnswer, NotLexed, Outside as RefusedOutside, NotExpanded, NotRead, TooManyTokens, TooManyPages}
 
 -- formula n is not expanded, for this cause
@@ -31,7 +30,7 @@ IsReadRefusal n error answer = IsNotRead n (read_error_fault error) answer
 -- the answer is this refusal, or memory ran out
 abbrev pub IsRefusal : DocError → DocumentAnswer → Type 0
 IsRefusal (Source cause) answer = answer ≡ Err (NotLexed cause)
-IsRefusal (Outside n place cause) answer = answer ≡ Err (RefusedOutside n (outside_number cause) place)
+IsRefusal (Outside n place cause) answer = answer ≡ Err (RefusedOutside n cause place)
 IsRefusal (Expand n cause) answer = IsExpandRefusal n cause answer
 IsRefusal (Read n cause) answer = IsReadRefusal n cause answer
 IsRefusal (Total n count) answer = answer ≡ Err (TooManyTokens n count)

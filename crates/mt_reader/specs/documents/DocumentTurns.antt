@@ -15,10 +15,11 @@ use Rattle.mt_reader.specs.declared.document_turn.AfterTurn.TheVariants.{Left, E
 use Rattle.mt_reader.specs.declared.document_error.DocError.{DocError}
 use Rattle.mt_reader.specs.declared.document_error.DocError.TheVariants.{Expand, Read as NotReadError, OutOfMemory}
 use Rattle.mt_reader.specs.declared.document_state.DocumentState.{DocumentState as StateFields}
-use Rattle.mt_reader.specs.documents.Documents.{DocumentState, DocumentAnswer, Turn, Goes, Ends, Stops, StopsOutside, Outside}
+use Rattle.mt_reader.specs.documents.Documents.{DocumentState, DocumentAnswer, DocumentTurn, Goes, Ends, Stops, StopsOutside, Outside}
 use Rattle.mt_reader.specs.documents.Refusals.{IsRefusal}
 use Rattle.mt_reader.specs.documents.Lent.{Assigns}
 use Rattle.mt_reader.specs.documents.Weights.{dollars, page_weight, pages_weight}
+use Rattle.mt_reader.specs.documents.Limits.{max_total_tokens}
 
 -- what has been read
 abbrev pub state_of : StateFields → DocumentState
@@ -38,21 +39,22 @@ abbrev pub changes_tables : DocumentState → CodeTables → DocumentState
 changes_tables s tables = record s { tables = tables }
 
 -- the new state and the tokens after the assignment are what is read, and nothing but the codes changes
-abbrev pub SetsTables : Result (Bor (List Token)) FaultFields → DocumentState → DocumentState → Read CodeTables → Type 0
+abbrev pub SetsTables : Result (Bor (List Token)) FaultFields → DocumentState → DocumentState
+    → Read CodeTables → Type 0
 SetsTables result old new read = Assigns result new.tables read × (new ≡ changes_tables old new.tables)
 
 -- the refusal of a turn, where a source has so many tokens
-abbrev pub turn_refusal : ℕ → Turn → DocumentAnswer
+abbrev pub turn_refusal : ℕ → DocumentTurn → DocumentAnswer
 turn_refusal whole (Goes s rest) = Ok []
 turn_refusal whole (Ends s) = Ok []
 turn_refusal whole (Stops refusal) = Err refusal
 turn_refusal whole (StopsOutside n cause left) = Err (Outside n cause (whole - left))
 
 -- the result and the new state are those of this turn
-abbrev pub Turns : Result AfterTurn DocError → StateFields → ℕ → Turn → Type 0
-Turns (Ok (Left rest)) new whole turn = turn ≡ Goes (state_of new) rest.now
-Turns (Ok Ended) new whole turn = turn ≡ Ends (state_of new)
-Turns (Err e) new whole turn = IsRefusal e (turn_refusal whole turn)
+abbrev pub MeetsTurn : Result AfterTurn DocError → StateFields → ℕ → DocumentTurn → Type 0
+MeetsTurn (Ok (Left rest)) new whole turn = turn ≡ Goes (state_of new) rest.now
+MeetsTurn (Ok Ended) new whole turn = turn ≡ Ends (state_of new)
+MeetsTurn (Err e) new whole turn = IsRefusal e (turn_refusal whole turn)
 
 -- why formula n is not expanded; want of memory is no cause of its own
 abbrev pub expand_error : ℕ → ExpandError → DocError
@@ -71,14 +73,14 @@ state_weight s = pages_weight s.pages.items + page_weight s.page.items
 pub record IsSpent (old new : StateFields) (tokens rest : List Token) : Type 0 where
   pub falls : length rest ≤ length tokens
   pub count : new.count ≤ old.count + 1
-  pub total : new.total ≤ 1000000
+  pub total : new.total ≤ max_total_tokens
   pub weight : 2 * state_weight new + length rest ≤ 2 * state_weight old + length tokens + 1
 
 -- one more formula, and these tokens after it
 pub record IsReadOne (old new : StateFields) (display : Bool) (tokens left : List Token) : Type 0 where
   pub rest : left ≡ tokens
   pub count : new.count ≡ old.count + 1
-  pub total : new.total ≤ 1000000
+  pub total : new.total ≤ max_total_tokens
   pub weight : state_weight new ≡ state_weight old + dollars display
 
 abbrev pub ReadsOne : Result AfterTurn DocError → StateFields → StateFields → Bool → List Token → Type 0
