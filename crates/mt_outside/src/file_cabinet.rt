@@ -49,15 +49,11 @@ impl<'a, R: Files> FileCabinet<'a, R> {
         ensures raises { result ≡ Err FetchError.Failed
             → self.new.faults ≡ next_count self.old.faults }
     {
-        match read {
-            Ok(bytes) => Ok(Bytes::from_vec(bytes)),
-            Err(FetchError::Failed) => {
-                self.faults = self.faults.saturating_add(1);
-                self.lost = Some(name);
-                Err(FetchError::Failed)
-            }
-            Err(error) => Err(error),
+        if let Err(FetchError::Failed) = &read {
+            self.faults = self.faults.saturating_add(1);
+            self.lost = Some(name);
         }
+        Ok(Bytes::from_vec(read?))
     }
 }
 
