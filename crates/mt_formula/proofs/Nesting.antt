@@ -1,4 +1,4 @@
--- A formula is nested at most so deep, and its amounts are below 2^30 in size: an induction on the turns of its run of itemses.
+-- A formula is nested at most so deep, and its amounts are below 2^30 in size: an induction on the turns of its runs of items.
 use Rattle.std.proofs.Common.{◌≡◌, ℕ, zero, suc, ◌+◌, ◌*◌, ◌≤◌, ◌<◌, refl, subst, Bool, true, false, List, [], ◌∷◌, length, Option, Some, None, arith}
 use Rattle.std.specs.Prelude.{◌-◌, drop, ⊤}
 use Rattle.mt_token.specs.declared.token.Token.{Token}
@@ -126,7 +126,7 @@ module _ (tables : CodeTables) where
     IsFitting again = (level : ℕ) (family : Option ℕ) (last : Option AtomValue) (ts : List Token) → LastAtomFits (room level + 1) last → Holds (ItemRunFits (room level + 1)) (again level family last ts)
 
     module _ (again : ItemRunReader) where
-      -- where no atom is at hand, so many tokens give a run of items that fits
+      -- where there is no last atom, so many tokens give a run of items that fits
       abbrev NewFit : ℕ → ℕ → ℕ → Type 0
       NewFit level n k = (family : Option ℕ) (ts : List Token) → length ts ≤ k → Holds (ItemRunFits n) (again level family None ts)
 

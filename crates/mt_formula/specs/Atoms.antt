@@ -39,7 +39,7 @@ plain_atom kind nucleus =
 abbrev pub coded_atom : Option ℕ → ℕ → AtomValue
 coded_atom family code = plain_atom (Plain (class_of code)) (SymbolPart (code_symbol family code))
 
--- the atom that scripts here belong to: the one at hand, or else a new one with an empty nucleus
+-- the atom that scripts here belong to: the last one, or else a new one with an empty nucleus
 abbrev pub scripted_atom : Option AtomValue → AtomValue
 scripted_atom None = plain_atom (Plain Ord) EmptyPart
 scripted_atom (Some a) = a

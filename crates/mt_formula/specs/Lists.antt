@@ -99,7 +99,7 @@ module _ (tables : CodeTables) (units : Units) where
     after_item_run ending level item_run [] = list_end ending item_run.items []
     after_item_run ending level item_run (t ∷ rest) = after_item_run_at ending level item_run t rest (role_of tables t)
 
-    -- a list that begins with some items, the last of them at hand
+    -- a list that begins with some items and a last atom
     abbrev pub list_after : Sequence → Option AtomValue → Ending → ℕ → Option ℕ → List Token → Read Sequence
     list_after items last ending level family tokens =
         then_read (again level family last tokens)

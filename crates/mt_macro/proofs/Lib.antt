@@ -8,7 +8,7 @@ pub mod Named
 pub mod Hashes
 -- where groups end, and the tokens of pieces
 pub mod Ending
--- groups and arguments, taken a token at a time
+-- groups and arguments that are taken
 pub mod Taking
 -- how far a list is expanded
 pub mod Running

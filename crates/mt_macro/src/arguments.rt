@@ -15,7 +15,7 @@ use std::alloc::{AllocError, Global};
 use std::slice;
 
 // Takes the rest of a group, with the brace that closes it; the brace is left out of what it gives.
-// Where the end is known in the first piece, no token is looked at.
+// A group in it of which the end is known is passed over at once.
 fn take_group<'a>(
     spare: &mut SpareLists<'a>,
     rest: &mut Inputs<'a>,

@@ -5,7 +5,7 @@ use Rattle.std.specs.Prelude.{ℕ, List, [], ◌∷◌, ◌++◌, codes}
 abbrev pub MacroTexts : Type 0
 MacroTexts = List (List ℕ × List ℕ)
 
--- accent_macros
+-- accents
 unfoldable pub accent_macros : MacroTexts
 accent_macros =
     (codes "acute", codes "\\mathaccent\"7013 ") ∷
@@ -22,7 +22,7 @@ accent_macros =
     (codes "widehat", codes "\\mathaccent\"0362 ") ∷
     []
 
--- delimiter_macros
+-- delimiters
 unfoldable pub delimiter_macros : MacroTexts
 delimiter_macros =
     (codes "|", codes "\\delimiter\"26B30D ") ∷
@@ -65,7 +65,7 @@ other_macros =
     (codes "qquad", codes "\\hskip2em\\relax") ∷
     []
 
--- family_macros
+-- families
 unfoldable pub family_macros : MacroTexts
 family_macros =
     (codes "rm", codes "\\fam 0 ") ∷

@@ -80,7 +80,7 @@ fn prime_last_atom(alloc: Global) -> Result<LastAtom, AllocError>
     plain_last_atom(alloc, FieldKind::Class(Class::Ord), Field::Sym(prime))
 }
 
-// A list that begins with so many primes and one more, which is at hand.
+// A list that begins with so many primes and one more, which is its last atom.
 fn prime_list(
     alloc: Global,
     level: usize,
@@ -204,9 +204,9 @@ fn open_argument<'a>(
     })
 }
 
-/// What becomes of a list after a prime: adjacent primes follow, and then perhaps directly `^` with its argument,
-/// taken as for macros and read in the same superscript (The TeXbook, chapter 18). `Stop::Fault` where no argument
-/// stands after `^`, or where its group is one too many.
+/// What becomes of a list after a prime: adjacent primes follow, and then perhaps directly `^` with
+/// its argument, taken as for macros and read in the same superscript (The TeXbook, chapter 18).
+/// `Stop::Fault` where no argument stands after `^`, or where its group is one too many.
 pub fn put_primes<'a>(
     alloc: Global,
     codes: &Codes,

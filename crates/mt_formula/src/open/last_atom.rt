@@ -46,7 +46,7 @@ fn plain_atom(kind: Kind, nucleus: Field) -> Atom
     }
 }
 
-/// An atom of a kind without scripts, at hand.
+/// An atom of a kind without scripts, as the last atom.
 pub fn plain_last_atom(
     alloc: Global,
     kind: FieldKind,
@@ -60,7 +60,7 @@ pub fn plain_last_atom(
     Ok(LastAtom { atom })
 }
 
-/// A vcenter atom without scripts, at hand.
+/// A vcenter atom without scripts, as the last atom.
 pub fn vcenter_last_atom(alloc: Global, rows: RowList) -> Result<LastAtom, AllocError>
     ensures { IfOk result (λ last. last_atom_value last ≡ plain_atom Vcenter (RowsPart rows)) }
 {

@@ -106,7 +106,8 @@ pub enum Owner<'a> {
     Choice(ChoiceLists),
     /// A row of a vcenter atom, after these rows.
     Row(Vec<MathList>),
-    /// The argument of a superscript that primes begin, with the tokens after it and their number, with the brace.
+    /// The argument of a superscript that primes begin, with the tokens after it and their number,
+    /// with the brace.
     Argument(&'a [Token], usize),
     /// Such an argument without its closing brace.
     OpenArgument,
