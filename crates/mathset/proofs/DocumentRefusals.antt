@@ -23,8 +23,8 @@ use Rattle.mt_family.specs.SetValue.{SetValue}
 use Rattle.mt_family.specs.Sets.{units_of}
 use Rattle.mt_scan.specs.declared.fault.ReadCause.{ReadCause}
 use Rattle.mt_scan.specs.declared.fault.ReadCause.TheVariants.{UnknownName, DoubleScript, TwoFractions, BadDelimiter, Unbalanced, MisplacedLimits, MissingField, BadNumber, BadDimension, MisplacedNumber, TooDeep as TooManyGroups}
-use Rattle.mt_scan.specs.Parts.{Read, ReadOr, Got, Fault}
-use Rattle.mt_formula.specs.Formulas.{Reading, Reads, ReadFault, reading}
+use Rattle.mt_scan.specs.Parts.{Read, ReadOr, Got, Fault, NoTurn}
+use Rattle.mt_formula.specs.Formulas.{Reading, Reads, ReadFault, NotReadInTurns, reading}
 use Rattle.mt_reader.specs.declared.outside_cause.OutsideCause.{OutsideCause}
 use Rattle.mt_reader.specs.declared.outside_role.OutsideRole.{OutsideRole}
 use Rattle.mt_reader.specs.declared.outside_role.OutsideRole.TheVariants.{Passed, Defines, SetsMathCode, SetsDelimiterCode, BeginsFormula, EndsPage, EndsDocument, Misplaced}
@@ -146,10 +146,12 @@ table_avoids s left rest (Err e) = tt
 
 definition_avoids : (s : DocumentState) (left : ℕ) (read : ReadOr OutsideCause MacroDefinition) → TurnAvoids (after_definition s left read)
 definition_avoids s left (Fault cause at) = tt
+definition_avoids s left NoTurn = λ same. cc
 definition_avoids s left (Got d rest) = table_avoids s left rest (define s.macros d.name d.params d.body)
 
 assignment_avoids : (s : DocumentState) (left : ℕ) (read : Read CodeTables) → TurnAvoids (after_assignment s left read)
 assignment_avoids s left (Fault cause at) = tt
+assignment_avoids s left NoTurn = λ same. cc
 assignment_avoids s left (Got tables rest) = tt
 
 cause_avoids : (n : ℕ) (cause : ReadCause) (place : ℕ) → reading_refusal n cause place ≡ OutOfMemory → ⊥
@@ -167,6 +169,7 @@ cause_avoids n TooManyGroups place h = cc
 
 reading_avoids : (units : Units) (s : DocumentState) (display : Bool) (total : ℕ) (rest : List Token) (read : Reading) → TurnAvoids (after_reading units s display total rest read)
 reading_avoids units s display total rest (ReadFault cause place) = cause_avoids (s.count + 1) cause place
+reading_avoids units s display total rest NotReadInTurns = λ same. cc
 reading_avoids units s display total rest (Reads body tag) = tt
 
 expanded_avoids : (units : Units) (s : DocumentState) (display : Bool) (rest list : List Token) (b : Bool) → nat_lt 1000000 (s.total + length list) ≡ b

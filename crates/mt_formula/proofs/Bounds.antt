@@ -14,7 +14,7 @@ use Rattle.mt_scan.specs.declared.role.Role.TheVariants.{FractionWord}
 use Rattle.mt_scan.specs.Role.{role_of, is_open_brace}
 use Rattle.mt_scan.specs.declared.role.Side.{Side}
 use Rattle.mt_scan.specs.declared.role.Side.TheVariants.{Up, Down}
-use Rattle.mt_scan.specs.Parts.{Read, Got, Fault, then_read, opening}
+use Rattle.mt_scan.specs.Parts.{Read, Got, Fault, NoTurn, then_read, opening}
 use Rattle.mt_formula.specs.Atoms.{AtomValue, element_of_atom, last_atom_items, append, plain_atom, is_bare_ord, is_accent_kind, Filling, InSymbol, InGroup, nucleus_of, nucleus_of_atom, filling_part, group_atom, group_atom_of, with_script, with_limits, prime_items}
 use Rattle.mt_formula.specs.declared.open.open_list.Ending.{Ending}
 use Rattle.mt_formula.specs.declared.open.open_list.Ending.TheVariants.{AtBrace}
@@ -38,6 +38,7 @@ last_atom_count last = list_items (last_atom_items last)
 pub items_before_within : (items : Sequence) (b c : ℕ) (r : Read ItemRun) → Within item_run_items b r → list_items items + b ≤ c → Within item_run_items c (items_before items r)
 items_before_within items b c (Got more rest) w h = omega (arith, w, h, append_items items more.items)
 items_before_within items b c (Fault cause left) w h = tt
+items_before_within items b c NoTurn w h = tt
 
 pub nucleus_count_of : (list : Sequence) (a : AtomValue) → part_items a.nucleus ≤ list_items list → part_items (nucleus_of_atom (Some a) list) ≤ list_items list
 nucleus_count_of list a h = by_bare (is_bare_ord a)

@@ -31,7 +31,7 @@ use Rattle.mt_scan.specs.declared.role.Bar.{Bar}
 use Rattle.mt_scan.specs.declared.role.Bar.TheVariants.{Own as OwnBar, None as NoBar, Given as GivenBar}
 use Rattle.mt_scan.specs.declared.decimals.Decimal.{Decimal}
 use Rattle.mt_formula.specs.declared.open.open_list.FractionHead.{FractionHead}
-use Rattle.mt_scan.specs.Parts.{Read, Got, Fault, then_read, after_spaces}
+use Rattle.mt_scan.specs.Parts.{Read, Got, Fault, NoTurn, then_read, after_spaces}
 use Rattle.mt_scan.specs.Numbers.{signs, with_sign}
 use Rattle.mt_scan.specs.Dimensions.{measure, factor, length_of, is_dimension, dimension_in_range, dimension_of, dimension_from, dimension, after_letters, amount_after, amount, glue}
 use Rattle.mt_scan.specs.Symbols.{null_delim}
@@ -45,20 +45,24 @@ use Rattle.mt_formula.proofs.Inside.{second_true}
 abbrev pub Holds : {A : Type 0} → (A → Type 0) → Read A → Type 0
 Holds P (Got part rest) = P part
 Holds P (Fault cause left) = ⊤
+Holds P NoTurn = ⊤
 
 pub holds_next : {A B : Type 0} (P : A → Type 0) (Q : B → Type 0) (r : Read A) (f : A → List Token → Read B) → Holds P r → ((part : A) (rest : List Token) → P part → Holds Q (f part rest)) → Holds Q (then_read r f)
 holds_next P Q (Got part rest) f w h = h part rest w
 holds_next P Q (Fault cause left) f w h = tt
+holds_next P Q NoTurn f w h = tt
 
 -- the same, where it matters how much was taken
 pub holds_within : {A B : Type 0} (P : A → Type 0) (Q : B → Type 0) (m : A → ℕ) (b : ℕ) (r : Read A) (f : A → List Token → Read B) → Holds P r → Within m b r → ((part : A) (rest : List Token) → P part → m part + 4 * length rest ≤ b → Holds Q (f part rest)) → Holds Q (then_read r f)
 holds_within P Q m b (Got part rest) f w v h = h part rest w v
 holds_within P Q m b (Fault cause left) f w v h = tt
+holds_within P Q m b NoTurn f w v h = tt
 
 -- the same, where nothing matters of the first part
 pub holds_after : {A B : Type 0} (Q : B → Type 0) (r : Read A) (f : A → List Token → Read B) → ((part : A) (rest : List Token) → Holds Q (f part rest)) → Holds Q (then_read r f)
 holds_after Q (Got part rest) f h = h part rest
 holds_after Q (Fault cause left) f h = tt
+holds_after Q NoTurn f h = tt
 
 pub holds_if : {A : Type 0} (P : A → Type 0) (test : Bool) (x y : Read A) → (test ≡ true → Holds P x) → Holds P y → Holds P (if test then x else y)
 holds_if P true x y hx hy = hx refl
@@ -67,6 +71,7 @@ holds_if P false x y hx hy = hy
 pub holds_map : {A : Type 0} (P Q : A → Type 0) (r : Read A) → ((part : A) → P part → Q part) → Holds P r → Holds Q r
 holds_map P Q (Got part rest) h w = h part w
 holds_map P Q (Fault cause left) h w = tt
+holds_map P Q NoTurn h w = tt
 
 -- bounded lists
 pub record Fits (n : ℕ) (list : Sequence) : Type 0 where

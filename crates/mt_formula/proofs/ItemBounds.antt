@@ -18,7 +18,7 @@ use Rattle.mt_scan.specs.declared.role.Role.TheVariants.{HboxWord, OpenBrace, Cl
 use Rattle.mt_scan.specs.declared.role.Simple.{Simple}
 use Rattle.mt_scan.specs.declared.role.Simple.TheVariants.{Style, MuSpace, Space, MuKern as SimpleMuKern, Kern as SimpleKern, Nonscript}
 use Rattle.mt_scan.specs.Role.{role_of, simple_element, nucleus_kind, is_open_brace, is_math_shift, is_close_brace, is_superscript}
-use Rattle.mt_scan.specs.Parts.{Read, Got, Fault, then_read, after_spaces, opening}
+use Rattle.mt_scan.specs.Parts.{Read, Got, Fault, NoTurn, then_read, after_spaces, opening}
 use Rattle.mt_scan.specs.Dimensions.{glue}
 use Rattle.mt_scan.specs.Delimiters.{scan_delimiter}
 use Rattle.mt_formula.specs.Atoms.{nucleus_of, AtomValue, last_atom_items, append, plain_atom, Filling, InGroup, nucleus_atom, with_script, with_limits, prime_atom, prime_items}
@@ -30,7 +30,7 @@ use Rattle.mt_formula.specs.Rows.{closing, row, RowsReader, next_row_at, next_ro
 use Rattle.mt_formula.specs.declared.step.action.Action.{Action}
 use Rattle.mt_formula.specs.declared.step.action.Action.TheVariants.{Skip as SkipAction, Atom, Script, Item, Family, Limits, Prime as PrimeAction, Rows as RowsAction, Group, ScriptGroup, LeftRight, Choice, Stop}
 use Rattle.mt_formula.specs.Items.{put_atom, put_item, put_script, choice_with_none, choice_with_one, choice_with_two, choice_with_three, action_here, follows, turn}
-use Rattle.mt_formula.specs.Formulas.{item_run, FormulaParts, Reading, Reads, ReadFault, reading_of, is_at_left, body_ending, with_tag, formula, reading}
+use Rattle.mt_formula.specs.Formulas.{item_run, FormulaParts, Reading, Reads, ReadFault, NotReadInTurns, reading_of, is_at_left, body_ending, with_tag, formula, reading}
 use Rattle.mt_rules.specs.Modest.{list_items, element_items, part_items, rows_items}
 use Rattle.mt_formula.specs.Counts.{formula_items}
 use Rattle.mt_formula.proofs.Short.{Within, within_next, within_if, within_more, none, Shortens, spaces_short, drop_short, delimiter_short, opening_takes}
@@ -57,6 +57,7 @@ group_fits level (t ∷ rest) = fits_if ((level == 0) && is_close t) (suc (lengt
 pub followed_within : (after : List Token) (n b c : ℕ) (r : Read Sequence) → Within list_items b r → b + 4 * length after ≤ c → Within list_items c (followed_by after n r)
 followed_within after n b c (Got inner rest) w h = omega (arith, w, h)
 followed_within after n b c (Fault cause left) w h = tt
+followed_within after n b c NoTurn w h = tt
 
 pub nucleus_atom_count : (kind : Kind) (f : Filling) → atom_count (nucleus_atom kind f) ≤ filling_count f + 1
 nucleus_atom_count (Plain Ord) (InGroup inner) = group_count inner
@@ -248,10 +249,12 @@ module _ (tables : CodeTables) where
 abbrev pub HasAtMost : ℕ → Reading → Type 0
 HasAtMost n (Reads body tag) = formula_items (body, tag) ≤ n
 HasAtMost n (ReadFault cause place) = ⊤
+HasAtMost n NotReadInTurns = ⊤
 
 pub reading_of_bound : (count n : ℕ) (r : Read FormulaParts) → Within formula_items n r → HasAtMost n (reading_of count r)
 reading_of_bound count n (Got f rest) w = omega (arith, w)
 reading_of_bound count n (Fault cause left) w = tt
+reading_of_bound count n NoTurn w = tt
 
 -- at most four items for each token
 pub reading_bound : (tables : CodeTables) (units : Units) (display : Bool) (tokens : List Token) → HasAtMost (4 * length tokens) (reading tables units display tokens)

@@ -20,7 +20,7 @@ use Rattle.mt_scan.specs.declared.role.Role.TheVariants.{FractionWord, HboxWord,
 use Rattle.mt_scan.specs.declared.role.Simple.{Simple}
 use Rattle.mt_scan.specs.declared.role.Simple.TheVariants.{Style, MuSpace, Space, MuKern as SimpleMuKern, Kern as SimpleKern, Nonscript}
 use Rattle.mt_scan.specs.Role.{role_of, simple_element, nucleus_kind, is_open_brace, is_math_shift, is_superscript}
-use Rattle.mt_scan.specs.Parts.{Read, Got, Fault, then_read, after_spaces, opening}
+use Rattle.mt_scan.specs.Parts.{Read, Got, Fault, NoTurn, then_read, after_spaces, opening}
 use Rattle.mt_scan.specs.Dimensions.{glue}
 use Rattle.mt_scan.specs.Delimiters.{scan_delimiter}
 use Rattle.mt_formula.specs.Atoms.{AtomValue, nucleus_of, element_of_atom, last_atom_items, append, plain_atom, coded_atom, InGroup, nucleus_atom, with_script, with_limits, prime_atom, prime_items}
@@ -34,7 +34,7 @@ use Rattle.mt_formula.specs.Rows.{closing, row, RowsReader, next_row_at, next_ro
 use Rattle.mt_formula.specs.declared.step.action.Action.{Action}
 use Rattle.mt_formula.specs.declared.step.action.Action.TheVariants.{Skip as SkipAction, Atom, Script, Item, Family, Limits, Prime as PrimeAction, Rows as RowsAction, Group, ScriptGroup, LeftRight, Choice, Stop}
 use Rattle.mt_formula.specs.Items.{put_atom, put_item, put_script, choice_with_none, choice_with_one, choice_with_two, choice_with_three, action_here, follows, turn}
-use Rattle.mt_formula.specs.Formulas.{item_run, FormulaParts, Reading, Reads, ReadFault, reading_of, is_at_left, body_ending, with_tag, formula, reading}
+use Rattle.mt_formula.specs.Formulas.{item_run, FormulaParts, Reading, Reads, ReadFault, NotReadInTurns, reading_of, is_at_left, body_ending, with_tag, formula, reading}
 use Rattle.mt_formula.specs.Counts.{tag_items, IsModestTag, IsModestFormula}
 use Rattle.mt_formula.proofs.Short.{Within, within_more, none, fraction_head_short}
 use Rattle.mt_formula.proofs.Acting.{Carries, opening_level, action_here_carries}
@@ -81,15 +81,18 @@ FormulaFits n f = Fits n f.0 × TagFits n f.1
 items_before_fits : (n : ℕ) (items : Sequence) (r : Read ItemRun) → Fits n items → Holds (ItemRunFits n) r → Holds (ItemRunFits n) (items_before items r)
 items_before_fits n items (Got more rest) f w = append_fits n items more.items f w
 items_before_fits n items (Fault cause left) f w = tt
+items_before_fits n items NoTurn f w = tt
 
 followed_fits : (n : ℕ) (after : List Token) (count : ℕ) (r : Read Sequence) → Holds (Fits n) r → Holds (Fits n) (followed_by after count r)
 followed_fits n after count (Got inner rest) w = w
 followed_fits n after count (Fault cause left) w = tt
+followed_fits n after count NoTurn w = tt
 
 -- a run of items of few items
 few_items : (n b m : ℕ) (r : Read ItemRun) → b + 1 ≤ n → Holds (ItemRunFits m) r → Within item_run_items b r → Holds (ItemRunFits n) r
 few_items n b m (Got s rest) h f w = record { nesting = omega (arith, h, w, list_counted s.items); amounts = f.amounts }
 few_items n b m (Fault cause left) h f w = tt
+few_items n b m NoTurn h f w = tt
 
 between_fit : (n : ℕ) (left right : Delim) (inner : Sequence) → 1 ≤ n → Fits n inner → Fits n (between_boundaries left inner right)
 between_fit n left right inner h f = all (append_fits n inner (More (RightElement right) End) f (record { nesting = omega (arith, h); amounts = (tt, tt) }))
@@ -357,6 +360,7 @@ module _ (tables : CodeTables) where
 abbrev pub IsModestReading : Reading → Type 0
 IsModestReading (Reads body tag) = IsModestFormula (body, tag)
 IsModestReading (ReadFault cause place) = ⊤
+IsModestReading NotReadInTurns = ⊤
 
 modest_list : (s : Sequence) → Fits (room 0 + 1 + 1) s → list_items s ≤ 200000 → IsModestList s
 modest_list s f h = record { nesting = omega (arith, f.nesting, room_start); items = omega (arith, h); amounts = f.amounts }
@@ -368,6 +372,7 @@ modest_tag (Some t) f h = modest_list t.body f h
 modest_of : (n count : ℕ) (r : Read FormulaParts) → Holds (FormulaFits (room 0 + 1 + 1)) r → HasAtMost n (reading_of count r) → n ≤ 200000 → IsModestReading (reading_of count r)
 modest_of n count (Got f rest) g b h = (modest_list f.0 g.0 (omega (arith, b, h)), modest_tag f.1 g.1 (omega (arith, b, h)))
 modest_of n count (Fault cause left) g b h = tt
+modest_of n count NoTurn g b h = tt
 
 -- at most 50,000 tokens make modest lists
 pub reading_modest : (tables : CodeTables) (units : Units) (display : Bool) (tokens : List Token) → length tokens ≤ 50000 → IsModestReading (reading tables units display tokens)

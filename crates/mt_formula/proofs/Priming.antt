@@ -25,7 +25,7 @@ use Rattle.mt_scan.specs.declared.role.Side.TheVariants.{Up}
 use Rattle.mt_scan.specs.declared.role.Role.{Role}
 use Rattle.mt_scan.specs.declared.role.Role.TheVariants.{OpenBrace, CloseBrace}
 use Rattle.mt_scan.specs.Role.{role_of, is_open_brace, is_superscript}
-use Rattle.mt_scan.specs.Parts.{Read, Got, Fault, then_read, after_spaces}
+use Rattle.mt_scan.specs.Parts.{Read, Got, Fault, NoTurn, then_read, after_spaces}
 use Rattle.mt_formula.specs.Atoms.{AtomValue, append, element_of_atom, prime_atom, prime_items, last_atom_items, with_script}
 use Rattle.mt_formula.specs.Lists.{ItemRunReader, ItemRun}
 use Rattle.mt_formula.specs.Primes.{followed_by, after_primes, braced_argument, argument_at, argument_after, primes, prime_script, prime_script_of, prime_script_at}
@@ -95,10 +95,12 @@ module _ (tables : CodeTables) (units : Units) (again : ItemRunReader) (level : 
   followed : (after : Bor (List Token)) (count : ℕ) (r : Read Sequence) → then_read (followed_by after.now count r) (put_superscript tables units again level family last) ≡ then_read (shifted count r) (owned tables units again level family last k (ArgumentOwner after count))
   followed after count (Got inner rest) = refl
   followed after count (Fault cause left) = refl
+  followed after count NoTurn = refl
 
   unclosed : (r : Read Sequence) → then_read (then_read r (λ (inner : Sequence) (rest : List Token). Fault Unbalanced 0)) (put_superscript tables units again level family last) ≡ then_read (shifted 0 r) (owned tables units again level family last k OpenArgument)
   unclosed (Got inner rest) = refl
   unclosed (Fault cause left) = ap (λ x. Fault cause x) (omega arith)
+  unclosed NoTurn = refl
 
   -- an argument between braces, or one that lacks its }
   pub braced_closed : (tokens : List Token) (inside after : Bor (List Token)) (index : ℕ) → group 0 tokens ≡ Some (record { argument = take index tokens; after = drop (index + 1) tokens }) → inside.now ≡ take index tokens → after.now ≡ drop (index + 1) tokens

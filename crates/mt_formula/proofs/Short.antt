@@ -14,7 +14,7 @@ use Rattle.mt_scan.specs.declared.role.Bar.{Bar}
 use Rattle.mt_scan.specs.declared.role.Bar.TheVariants.{Own as OwnBar, None as NoBar, Given as GivenBar}
 use Rattle.mt_scan.specs.declared.role.Role.TheVariants.{DelimiterWord}
 use Rattle.mt_scan.specs.Role.{role_of}
-use Rattle.mt_scan.specs.Parts.{Read, Got, Fault, then_read, after_spaces, after_one_space, after_blanks, opening}
+use Rattle.mt_scan.specs.Parts.{Read, Got, Fault, NoTurn, then_read, after_spaces, after_one_space, after_blanks, opening}
 use Rattle.mt_scan.specs.Numbers.{Signs, signs, at_sign, turns_sign, sign_after, with_sign, Whole, digits, at_digit, digit_of, digits_in, first_digit, quoted_code, quoted_value, quoted_kind, unsigned_number, in_bound, whole_number, at_most, number_to, delimiter_number}
 use Rattle.mt_scan.specs.declared.decimals.Decimal.{Decimal}
 use Rattle.mt_scan.specs.Dimensions.{measures, measure_of, begins_measure, letter, second_letter, after_first_letter, measure, Digits, at_decimal, before_digits, decimals, with_decimals, is_point, after_whole, factor, length_of, dimension_in_range, dimension_of, dimension_from, dimension, after_letters, amount_after, amount, glue}
@@ -26,10 +26,12 @@ use Rattle.mt_scan.specs.Symbols.{null_delim, delim_of}
 abbrev pub Within : {A : Type 0} → (A → ℕ) → ℕ → Read A → Type 0
 Within items budget (Got part rest) = items part + 4 * length rest ≤ budget
 Within items budget (Fault cause left) = ⊤
+Within items budget NoTurn = ⊤
 
 pub within_next : {A B : Type 0} (m : A → ℕ) (k : B → ℕ) (b c : ℕ) (r : Read A) (f : A → List Token → Read B) → Within m b r → ((part : A) (rest : List Token) → m part + 4 * length rest ≤ b → Within k c (f part rest)) → Within k c (then_read r f)
 within_next m k b c (Got part rest) f w h = h part rest w
 within_next m k b c (Fault cause left) f w h = tt
+within_next m k b c NoTurn f w h = tt
 
 pub within_if : {A : Type 0} (m : A → ℕ) (b : ℕ) (test : Bool) (x y : Read A) → Within m b x → Within m b y → Within m b (if test then x else y)
 within_if m b true x y hx hy = hx
@@ -95,6 +97,7 @@ quoted_short (t ∷ rest) = quoted_value_short (quoted_kind t.kind) rest (4 * le
 pub within_more : {A : Type 0} (m : A → ℕ) (b c : ℕ) (r : Read A) → b ≤ c → Within m b r → Within m c r
 within_more m b c (Got part rest) h w = omega (arith, h, w)
 within_more m b c (Fault cause left) h w = tt
+within_more m b c NoTurn h w = tt
 
 pub unsigned_short : (ts : List Token) → Shortens ts (unsigned_number ts)
 unsigned_short [] = tt

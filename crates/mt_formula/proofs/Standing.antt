@@ -10,7 +10,7 @@ use Rattle.mt_formula.specs.declared.open.open_list.Owner.{Owner}
 use Rattle.mt_formula.specs.declared.open.open_list.Owner.TheVariants.{Nucleus, Script, LeftRight, Choice, Row, Argument, OpenArgument}
 use Rattle.mt_formula.specs.declared.open.open_list.OpenList.{OpenList}
 use Rattle.mt_scan.specs.declared.fault.ReadCause.{ReadCause}
-use Rattle.mt_scan.specs.Parts.{Read, Got, Fault, then_read}
+use Rattle.mt_scan.specs.Parts.{Read, Got, Fault, NoTurn, then_read}
 use Rattle.mt_formula.specs.Atoms.{AtomValue, append, last_atom_items}
 use Rattle.mt_formula.specs.declared.open.open_list.FractionHead.{FractionHead}
 use Rattle.mt_formula.specs.Lists.{ItemRunReader, ItemRun, items_before, list_after, after_item_run, list_end, fraction_list, denominator}
@@ -27,14 +27,17 @@ use Rattle.mt_formula.proofs.Inside.{append_append}
 pub then_same : {A B : Type 0} (r : Read A) (f g : A → List Token → Read B) → ((part : A) (rest : List Token) → f part rest ≡ g part rest) → then_read r f ≡ then_read r g
 then_same (Got part rest) f g h = h part rest
 then_same (Fault cause left) f g h = refl
+then_same NoTurn f g h = refl
 
 pub then_then : {A B C : Type 0} (r : Read A) (f : A → List Token → Read B) (g : B → List Token → Read C) → then_read (then_read r f) g ≡ then_read r (λ (part : A) (rest : List Token). then_read (f part rest) g)
 then_then (Got part rest) f g = refl
 then_then (Fault cause left) f g = refl
+then_then NoTurn f g = refl
 
 pub not_shifted : {A : Type 0} (r : Read A) → shifted 0 r ≡ r
 not_shifted (Got part rest) = refl
 not_shifted (Fault cause left) = ap (λ at. Fault cause at) (omega arith)
+not_shifted NoTurn = refl
 
 left_lower : (owner : Owner) (left less : ℕ) → less ≤ left → left_after owner less ≤ left_after owner left
 left_lower (Argument after count) left less h = omega arith
@@ -91,6 +94,7 @@ module _ (tables : CodeTables) (units : Units) where
   items_then : (again : ItemRunReader) (l : OpenList) (items : Sequence) (r : Read ItemRun) → then_read (items_before items r) (list_with tables units again l) ≡ then_read r (λ (s : ItemRun) (rest : List Token). list_with tables units again l (record { items = append items s.items; family = s.family }) rest)
   items_then again l items (Got s rest) = refl
   items_then again l items (Fault cause left) = refl
+  items_then again l items NoTurn = refl
 
   list_same : (again : ItemRunReader) (items : Sequence) (last : Option AtomValue) (family : Option ℕ) (l new : OpenList) → Becomes items last family l new → (s : ItemRun) (rest : List Token) → list_with tables units again l (record { items = append items s.items; family = s.family }) rest ≡ list_with tables units again new s rest
   list_same again items last family l new b s rest =
@@ -190,3 +194,4 @@ module _ (tables : CodeTables) (units : Units) where
 pub no_items : (r : Read ItemRun) → items_before End r ≡ r
 no_items (Got s rest) = refl
 no_items (Fault cause left) = refl
+no_items NoTurn = refl

@@ -6,11 +6,10 @@ use Rattle.mt_rules.specs.Sequence.{Sequence}
 use Rattle.mt_rules.specs.declared.document.Tag.{Tag}
 use Rattle.mt_plain.specs.CodeTables.{CodeTables}
 use Rattle.mt_scan.specs.declared.fault.ReadCause.{ReadCause}
-use Rattle.mt_scan.specs.declared.fault.ReadCause.TheVariants.{Unbalanced}
 use Rattle.mt_scan.specs.declared.role.Role.{Role}
 use Rattle.mt_scan.specs.declared.role.Role.TheVariants.{NumberWord}
 use Rattle.mt_scan.specs.Role.{role_of}
-use Rattle.mt_scan.specs.Parts.{Read, Got, Fault, then_read}
+use Rattle.mt_scan.specs.Parts.{Read, Got, Fault, NoTurn, then_read}
 use Rattle.mt_formula.specs.Atoms.{AtomValue}
 use Rattle.mt_formula.specs.declared.open.open_list.Ending.{Ending}
 use Rattle.mt_formula.specs.declared.open.open_list.Ending.TheVariants.{AtEnd, AtNumber}
@@ -21,14 +20,17 @@ use Rattle.mt_formula.specs.Items.{turn}
 abbrev pub FormulaParts : Type 0
 FormulaParts = Sequence × Option Tag
 
--- a formula as it is read, or the cause and the place of its fault, counted from 0
+-- a formula as it is read, or the cause and the place of its fault, counted from 0, or that the turns were too few,
+-- which no answer of the code fits
 pub data Reading : Type 0 where
   Reads : (body : Sequence) (tag : Option Tag) → Reading
   ReadFault : (cause : ReadCause) (place : ℕ) → Reading
+  NotReadInTurns : Reading
 
 abbrev pub reading_of : ℕ → Read FormulaParts → Reading
 reading_of count (Got formula rest) = Reads formula.0 formula.1
 reading_of count (Fault cause left) = ReadFault cause (count - left)
+reading_of count NoTurn = NotReadInTurns
 
 abbrev pub is_at_left : Role → Bool
 is_at_left (NumberWord left) = left
@@ -40,9 +42,9 @@ body_ending true = AtNumber
 body_ending false = AtEnd
 
 module _ (tables : CodeTables) (units : Units) where
-  -- a run of items, by at most so many turns; the fault without any never comes
+  -- a run of items, by at most so many turns
   unfoldable pub item_run : ℕ → ItemRunReader
-  item_run zero = λ (level : ℕ) (family : Option ℕ) (last : Option AtomValue) (tokens : List Token). Fault Unbalanced 0
+  item_run zero = λ (level : ℕ) (family : Option ℕ) (last : Option AtomValue) (tokens : List Token). NoTurn
   item_run (suc n) = turn tables units (item_run n)
 
   module _ (again : ItemRunReader) where

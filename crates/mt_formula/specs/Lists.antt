@@ -15,7 +15,7 @@ use Rattle.mt_formula.specs.declared.open.open_list.Ending.{Ending}
 use Rattle.mt_formula.specs.declared.open.open_list.Ending.TheVariants.{AtEnd, AtNumber, AtBrace, AtRight, AtDollar}
 use Rattle.mt_formula.specs.declared.open.open_list.FractionHead.{FractionHead}
 use Rattle.mt_scan.specs.Role.{role_of}
-use Rattle.mt_scan.specs.Parts.{Read, Got, Fault, then_read}
+use Rattle.mt_scan.specs.Parts.{Read, Got, Fault, NoTurn, then_read}
 use Rattle.mt_scan.specs.Dimensions.{dimension}
 use Rattle.mt_scan.specs.Symbols.{null_delim}
 use Rattle.mt_scan.specs.Delimiters.{scan_delimiter}
@@ -51,6 +51,7 @@ pub record ItemRun : Type 0 where
 abbrev pub items_before : Sequence → Read ItemRun → Read ItemRun
 items_before items (Got more rest) = Got (record { items = append items more.items; family = more.family }) rest
 items_before items (Fault cause left) = Fault cause left
+items_before items NoTurn = NoTurn
 
 -- what reads a run of items where so many groups are open, by the current family and the last atom
 abbrev pub ItemRunReader : Type 0

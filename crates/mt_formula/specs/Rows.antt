@@ -4,11 +4,11 @@ use Rattle.mt_token.specs.declared.token.Token.{Token}
 use Rattle.mt_scaled.specs.declared.unit.Units.{Units}
 use Rattle.mt_rules.specs.Sequence.{Sequence, Rows, NoRows, MoreRows}
 use Rattle.mt_plain.specs.CodeTables.{CodeTables}
-use Rattle.mt_scan.specs.declared.fault.ReadCause.TheVariants.{Unbalanced, MissingField}
+use Rattle.mt_scan.specs.declared.fault.ReadCause.TheVariants.{MissingField}
 use Rattle.mt_scan.specs.declared.role.Role.{Role}
 use Rattle.mt_scan.specs.declared.role.Role.TheVariants.{CloseBrace, HboxWord}
 use Rattle.mt_scan.specs.Role.{role_of, is_open_brace, is_close_brace, is_math_shift}
-use Rattle.mt_scan.specs.Parts.{Read, Got, Fault, then_read, opening, after_spaces}
+use Rattle.mt_scan.specs.Parts.{Read, Got, Fault, NoTurn, then_read, opening, after_spaces}
 use Rattle.mt_formula.specs.declared.open.open_list.Ending.TheVariants.{AtDollar}
 use Rattle.mt_formula.specs.Lists.{ItemRunReader, list}
 
@@ -57,9 +57,9 @@ module _ (tables : CodeTables) (units : Units) (again : ItemRunReader) where
     later_rows [] = Fault MissingField 0
     later_rows (t ∷ rest) = rows_here_at rest (next_row (after_spaces (t ∷ rest))) (role_of tables t)
 
-  -- by at most so many rows; the fault without any never comes
+  -- by at most so many rows
   abbrev pub rows_from : ℕ → ℕ → RowsReader
-  rows_from zero level = λ (tokens : List Token). Fault Unbalanced 0
+  rows_from zero level = λ (tokens : List Token). NoTurn
   rows_from (suc n) level =
       λ (tokens : List Token). then_read (row level tokens)
       (λ (inner : Sequence) (after : List Token). then_read (later_rows (rows_from n level) after)

@@ -17,8 +17,8 @@ use Rattle.mt_reader.specs.declared.outside_cause.OutsideCause.{OutsideCause}
 use Rattle.mt_reader.specs.declared.outside_role.OutsideRole.{OutsideRole}
 use Rattle.mt_reader.specs.declared.outside_role.OutsideRole.TheVariants.{Passed, Defines, SetsMathCode, SetsDelimiterCode, BeginsFormula, EndsPage, EndsDocument, Misplaced}
 use Rattle.mt_reader.specs.declared.document_error.DocError.{DocError}
-use Rattle.mt_scan.specs.Parts.{Read, ReadOr, Got, Fault}
-use Rattle.mt_formula.specs.Formulas.{Reading, Reads, ReadFault, reading}
+use Rattle.mt_scan.specs.Parts.{Read, ReadOr, Got, Fault, NoTurn}
+use Rattle.mt_formula.specs.Formulas.{Reading, Reads, ReadFault, NotReadInTurns, reading}
 use Rattle.mt_reader.specs.documents.Definitions.{MacroDefinition, macro_definition}
 use Rattle.mt_reader.specs.documents.Assignments.{math_code_assignment, delcode_assignment}
 use Rattle.mt_reader.specs.documents.Dollars.{begins_display, between_dollars}
@@ -63,14 +63,17 @@ module _ (P : Formula → Type 0) (units : Units) where
   definition_read : (s : DocumentState) (left : ℕ) (r : ReadOr OutsideCause MacroDefinition) → OfState s → OfTurn (after_definition s left r)
   definition_read s left (Got d rest) h = defined s left rest (define s.macros d.name d.params d.body) h
   definition_read s left (Fault cause at) h = tt
+  definition_read s left NoTurn h = tt
 
   assigned : (s : DocumentState) (left : ℕ) (r : Read CodeTables) → OfState s → OfTurn (after_assignment s left r)
   assigned s left (Got tables rest) h = record { pages = h.pages; page = h.page }
   assigned s left (Fault cause at) h = tt
+  assigned s left NoTurn h = tt
 
   module _ (reads : HoldsOfRead) where
     formula_put : (s : DocumentState) (display : Bool) (total : ℕ) (rest list : List Token) (r : Reading) → OfState s → length list ≤ max_tokens → reading s.tables units display list ≡ r → OfTurn (after_reading units s display total rest r)
     formula_put s display total rest list (ReadFault cause place) h few e = tt
+    formula_put s display total rest list NotReadInTurns h few e = tt
     formula_put s display total rest list (Reads body tag) h few e = record {
       pages = h.pages;
       page = All-append P s.page (record { number = s.count + 1; display = display; body = body; tag = tag } ∷ []) h.page (All-cons P _ [] (reads s.tables display list body tag (s.count + 1) few e) (All-nil P));

@@ -14,8 +14,8 @@ use Rattle.mt_reader.specs.declared.outside_cause.OutsideCause.{OutsideCause}
 use Rattle.mt_reader.specs.declared.document_error.DocError.{DocError}
 use Rattle.mt_reader.specs.declared.outside_role.OutsideRole.{OutsideRole}
 use Rattle.mt_reader.specs.declared.outside_role.OutsideRole.TheVariants.{Passed, Defines, SetsMathCode, SetsDelimiterCode, BeginsFormula, EndsPage, EndsDocument, Misplaced}
-use Rattle.mt_scan.specs.Parts.{Read, ReadOr, Got, Fault}
-use Rattle.mt_formula.specs.Formulas.{Reading, Reads, ReadFault, reading}
+use Rattle.mt_scan.specs.Parts.{Read, ReadOr, Got, Fault, NoTurn}
+use Rattle.mt_formula.specs.Formulas.{Reading, Reads, ReadFault, NotReadInTurns, reading}
 use Rattle.mt_reader.specs.documents.Definitions.{MacroDefinition, macro_definition}
 use Rattle.mt_reader.specs.documents.Assignments.{math_code_assignment, delcode_assignment}
 use Rattle.mt_reader.specs.documents.Dollars.{begins_display, between_dollars}
@@ -49,10 +49,12 @@ with_table_fits s left rest (Err e) f = tt
 
 definition_fits : (s : DocumentState) (left : ℕ) (d : ReadOr OutsideCause MacroDefinition) → FewPages s → TurnFits (after_definition s left d)
 definition_fits s left (Fault cause at) f = tt
+definition_fits s left NoTurn f = tt
 definition_fits s left (Got d rest) f = with_table_fits s left rest (define s.macros d.name d.params d.body) f
 
 assignment_fits : (s : DocumentState) (left : ℕ) (r : Read CodeTables) → FewPages s → TurnFits (after_assignment s left r)
 assignment_fits s left (Fault cause at) f = tt
+assignment_fits s left NoTurn f = tt
 assignment_fits s left (Got tables rest) f = f
 
 abbrev AnswerFits : DocumentAnswer → Type 0
@@ -65,6 +67,7 @@ AgainFits again = (s : DocumentState) (tokens : List Token) → FewPages s → A
 module _ (units : Units) where
   reading_fits : (s : DocumentState) (display : Bool) (total : ℕ) (rest : List Token) (r : Reading) → FewPages s → is_page_limit s ≡ false → TurnFits (after_reading units s display total rest r)
   reading_fits s display total rest (ReadFault cause place) f room = tt
+  reading_fits s display total rest NotReadInTurns f room = tt
   reading_fits s display total rest (Reads body tag) f room = push_page s.pages s.page (record { number = s.count + 1; display = display; body = body; tag = tag }) f room
 
   expansion_fits : (s : DocumentState) (display : Bool) (rest : List Token) (o : Expansion) → FewPages s → is_page_limit s ≡ false → TurnFits (after_expansion units s display rest o)

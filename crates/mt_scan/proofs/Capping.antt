@@ -6,7 +6,7 @@ use Rattle.std.proofs.lemmas.Bool.{cases_lt}
 use Rattle.std.proofs.lemmas.Bool.Decides.{nat_tests}
 use Rattle.mt_token.specs.declared.token.Token.{Token}
 use Rattle.mt_scan.specs.declared.fault.ReadCause.TheVariants.{BadNumber, BadDimension}
-use Rattle.mt_scan.specs.Parts.{Read, Got, Fault, then_read, after_spaces}
+use Rattle.mt_scan.specs.Parts.{Read, Got, Fault, NoTurn, then_read, after_spaces}
 use Rattle.mt_scan.specs.Numbers.{Whole, digit_of, at_digit, digits, signs, unsigned_number, in_bound, whole_number}
 use Rattle.mt_scan.specs.declared.decimals.Decimal.{Decimal}
 use Rattle.mt_scan.specs.Dimensions.{is_point, after_whole, factor, measure, dimension_of, dimension_from}
@@ -55,6 +55,7 @@ in_bound_capped first minus value rest = elim (cases_lt value 2147483648) [
 by_size : (first : ℕ) (minus : Bool) (r : Read ℕ) → then_read (capped r) (in_bound first minus) ≡ then_read r (in_bound first minus)
 by_size first minus (Got value rest) = in_bound_capped first minus value rest
 by_size first minus (Fault cause left) = refl
+by_size first minus NoTurn = refl
 
 -- a number by its sign and its size
 pub number_by : (ts rest : List Token) (minus : Bool) (size : Read ℕ) → minus ≡ (signs false ts).minus → rest ≡ (signs false ts).rest → capped (unsigned_number rest) ≡ size → then_read size (in_bound (length ts) minus) ≡ whole_number ts
@@ -91,10 +92,12 @@ module _ (units : Units) (negative : Bool) (first : ℕ) (minus : Bool) where
   in_measure : (f : Decimal) (r : Read Measure) → then_read r (dimension_of units negative first minus (record { whole = min f.whole 2147483648; part = f.part })) ≡ then_read r (dimension_of units negative first minus f)
   in_measure f (Got m rest) = dimension_capped f m rest
   in_measure f (Fault cause left) = refl
+  in_measure f NoTurn = refl
 
   by_decimal : (mu : Bool) (r : Read Decimal) → then_read (capped_decimal r) (λ (f : Decimal) (after : List Token). then_read (measure mu (after_spaces after)) (dimension_of units negative first minus f)) ≡ then_read r (λ (f : Decimal) (after : List Token). then_read (measure mu (after_spaces after)) (dimension_of units negative first minus f))
   by_decimal mu (Got f rest) = in_measure f (measure mu (after_spaces rest))
   by_decimal mu (Fault cause left) = refl
+  by_decimal mu NoTurn = refl
 
 -- a dimension by its sign and its factor
 module _ (units : Units) (mu negative : Bool) (ts rest : List Token) (minus : Bool) (read : Read Decimal) (sign : minus ≡ (signs false ts).minus) (after_signs : rest ≡ (signs false ts).rest) (is : capped_decimal (factor rest) ≡ read) where

@@ -4,7 +4,7 @@ use Rattle.std.specs.Borrow.{Bor}
 use Rattle.mt_token.specs.declared.token.Token.{Token}
 use Rattle.mt_scan.specs.declared.fault.Fault.{Fault as FaultFields}
 use Rattle.mt_scan.specs.declared.scanned.Scanned.{Scanned}
-use Rattle.mt_scan.specs.Parts.{Read, Got, Fault}
+use Rattle.mt_scan.specs.Parts.{Read, Got, Fault, NoTurn}
 use Rattle.mt_scan.specs.Numbers.{Whole, digit_of, at_digit}
 
 -- the result is what is read
@@ -16,6 +16,7 @@ Meets (Err fault) read = read ≡ Fault fault.cause fault.left
 abbrev pub capped : Read ℕ → Read ℕ
 capped (Got value rest) = Got (min value 2147483648) rest
 capped (Fault cause left) = Fault cause left
+capped NoTurn = NoTurn
 
 -- the digits in front, after digits of a size, where all sizes above 2^31 - 1 count as 2^31
 abbrev pub capped_digits : ℕ → ℕ → List Token → Whole

@@ -15,7 +15,7 @@ use Rattle.mt_formula.specs.declared.open.open_list.ChoiceLists.TheVariants.{Zer
 use Rattle.mt_formula.specs.declared.open.open_list.Owner.{Owner}
 use Rattle.mt_formula.specs.declared.open.open_list.Owner.TheVariants.{Nucleus, Script, LeftRight, Choice, Row, Argument, OpenArgument}
 use Rattle.mt_scan.specs.Role.{nucleus_kind}
-use Rattle.mt_scan.specs.Parts.{Read, Got, Fault, then_read}
+use Rattle.mt_scan.specs.Parts.{Read, Got, Fault, NoTurn, then_read}
 use Rattle.mt_scan.specs.Delimiters.{scan_delimiter}
 use Rattle.mt_formula.specs.Atoms.{AtomValue, InGroup, nucleus_of, nucleus_atom, plain_atom}
 use Rattle.mt_formula.specs.Lists.{ItemRunReader, ItemRun}
@@ -70,3 +70,4 @@ left_after _ left = left
 abbrev pub shifted : {A : Type 0} → ℕ → Read A → Read A
 shifted count (Got part rest) = Got part rest
 shifted count (Fault cause left) = Fault cause (left + count)
+shifted count NoTurn = NoTurn

@@ -13,7 +13,7 @@ use Rattle.mt_macro.specs.Expansion.{Expansion, Expanded, OverBudget, NoArgument
 use Rattle.mt_scaled.specs.declared.unit.Units.{Units}
 use Rattle.mt_plain.specs.CodeTables.{CodeTables}
 use Rattle.mt_scan.specs.declared.fault.ReadCause.{ReadCause}
-use Rattle.mt_scan.specs.Parts.{Read, ReadOr, Got, Fault}
+use Rattle.mt_scan.specs.Parts.{Read, ReadOr, Got, Fault, NoTurn}
 use Rattle.mt_reader.specs.declared.outside_cause.OutsideCause.{OutsideCause}
 use Rattle.mt_reader.specs.declared.outside_cause.OutsideCause.{OutsideCause}
 use Rattle.mt_reader.specs.declared.outside_cause.OutsideCause.TheVariants as causes
@@ -22,7 +22,7 @@ use Rattle.mt_reader.specs.declared.outside_role.OutsideRole.TheVariants.{Passed
 use Rattle.mt_rules.specs.Sequence.{Sequence}
 use Rattle.mt_rules.specs.declared.document.Formula.{Formula}
 use Rattle.mt_rules.specs.declared.document.Tag.{Tag}
-use Rattle.mt_formula.specs.Formulas.{Reading, Reads, ReadFault, reading}
+use Rattle.mt_formula.specs.Formulas.{Reading, Reads, ReadFault, NotReadInTurns, reading}
 use Rattle.mt_reader.specs.documents.Definitions.{MacroDefinition, macro_definition}
 use Rattle.mt_reader.specs.documents.Assignments.{math_code_assignment, delcode_assignment}
 use Rattle.mt_reader.specs.documents.Dollars.{begins_display, between_dollars}
@@ -52,6 +52,8 @@ pub data DocumentFault : Type 0 where
   NotRead : (n : ℕ) (cause : ReadCause) (place : ℕ) → DocumentFault
   TooManyTokens : (n : ℕ) (count : ℕ) → DocumentFault
   TooManyPages : (count : ℕ) → DocumentFault
+  -- no turn was left to read by, which no answer of the code fits
+  OutOfTurns : (n : ℕ) → DocumentFault
 
 abbrev pub DocumentAnswer : Type 0
 DocumentAnswer = Result (List (List Formula)) DocumentFault
@@ -102,10 +104,12 @@ with_table s left rest (Err e) = outside_fault s causes.TooManyNames left
 -- a definition, and then whether there is room for it
 abbrev pub after_definition : DocumentState → ℕ → ReadOr OutsideCause MacroDefinition → DocumentTurn
 after_definition s left (Fault cause at) = outside_fault s cause at
+after_definition s left NoTurn = Stops (OutOfTurns (s.count + 1))
 after_definition s left (Got d rest) = with_table s left rest (define s.macros d.name d.params d.body)
 
 abbrev pub after_assignment : DocumentState → ℕ → Read CodeTables → DocumentTurn
 after_assignment s left (Fault cause at) = outside_fault s causes.BadAssignment left
+after_assignment s left NoTurn = Stops (OutOfTurns (s.count + 1))
 after_assignment s left (Got tables rest) = Goes (record s { tables = tables }) rest
 
 abbrev pub is_empty_page : List Formula → Bool
@@ -125,6 +129,7 @@ with_formula s display total body tag =
 module _ (units : Units) where
   abbrev pub after_reading : DocumentState → Bool → ℕ → List Token → Reading → DocumentTurn
   after_reading s display total rest (ReadFault cause place) = Stops (NotRead (s.count + 1) cause place)
+  after_reading s display total rest NotReadInTurns = Stops (OutOfTurns (s.count + 1))
   after_reading s display total rest (Reads body tag) = Goes (with_formula s display total body tag) rest
 
   abbrev pub after_expansion : DocumentState → Bool → List Token → Expansion → DocumentTurn
