@@ -4,33 +4,34 @@ use Rattle.std.specs.Prelude.{ℤ, Option, Some, None, Result, Ok, Err, nat_lt, 
 use Rattle.mt_outside.specs.Files.{content}
 use Rattle.mt_outside.specs.declared.files.Held.{Held}
 use Rattle.mt_token.specs.Tokens.{max_source}
-use Rattle.mt_tfm.specs.Font.{Metrics}
+use Rattle.mt_tfm.specs.Font.{Metrics, metrics_of}
 use Rattle.mt_box.specs.declared.place.Place.{Place}
 use Rattle.mt_dvi.specs.File.{Fault, pages_of}
 use Rattle.mt_family.specs.ListFacts.{ListValue}
 use Rattle.mt_family.specs.Lists.{font_list}
 use Rattle.mt_family.specs.SetValue.{SetValue}
 use Rattle.mt_family.specs.declared.list.FontLine.{FontLine}
+use Rattle.mt_status.specs.FontRefusals.{list_by}
 use Rattle.mathset.specs.Answer.{answer, steps_by}
 use Rattle.mathset.specs.DviSteps.{dvi_by, dvi_listing, dvi_step}
-use Rattle.mathset.specs.FontSteps.{font_set_of, font_set_step, font_step, fonts_step, line_font, list_by, list_step, loaded_step, tfm_name}
+use Rattle.mathset.specs.FontSteps.{font_set_of, font_set_step, font_step, fonts_step, line_font, list_step, loaded_step, tfm_name}
 use Rattle.mathset.specs.Limits.{max_dvi, max_list, max_tfm}
-use Rattle.mathset.specs.Listing.{listing}
+use Rattle.mt_pages.specs.Listing.{listing}
 use Rattle.mathset.specs.Outcome.{Outcome, outcome_after, plain, ◌>>=◌}
 use Rattle.mathset.specs.Reads.{file_of}
-use Rattle.mathset.specs.Request.{request_of}
-use Rattle.mathset.specs.RequestValues.{DviValue, SampleValue, SourceValue}
+use Rattle.mt_words.specs.Request.{request_of}
+use Rattle.mt_words.specs.RequestValues.{DviValue, SampleValue, SourceValue}
 use Rattle.mathset.specs.Samples.{sample_files, sample_words, summed}
 use Rattle.mathset.specs.Steps.{gen_steps, places_steps, read_steps, request_steps, set_steps, source_step, typeset_steps}
-use Rattle.mathset.specs.Typeset.{TypesetValue, typeset_of}
+use Rattle.mt_pages.specs.Typeset.{TypesetValue, typeset_of}
 use Rattle.mathset.specs.declared.product.Product.TheVariants.{File, Text}
-use Rattle.mathset.specs.declared.request.Request.{Request}
-use Rattle.mathset.specs.declared.request.Request.TheVariants.{Set, Places, Read, Gen}
-use Rattle.mathset.specs.declared.status.Status.{Status}
-use Rattle.mathset.specs.declared.status.Status.TheVariants.{OutOfMemory, TooLong}
-use Rattle.mathset.proofs.Avoiding.{Avoids, avoids_err, avoids_if}
-use Rattle.mathset.proofs.FontRefusals.{font_avoids, list_avoids, set_avoids}
-use Rattle.mathset.proofs.PageRefusals.{typeset_avoids}
+use Rattle.mt_words.specs.declared.request.Request.{Request}
+use Rattle.mt_words.specs.declared.request.Request.TheVariants.{Set, Places, Read, Gen}
+use Rattle.mt_status.specs.declared.status.Status.{Status}
+use Rattle.mt_status.specs.declared.status.Status.TheVariants.{OutOfMemory, TooLong}
+use Rattle.mt_status.proofs.Avoiding.{Avoids, avoids_err, avoids_if}
+use Rattle.mt_status.proofs.FontRefusals.{font_avoids, list_avoids, set_avoids}
+use Rattle.mt_pages.proofs.PageRefusals.{typeset_avoids}
 
 -- ---- steps one after another
 
@@ -62,7 +63,7 @@ file_short name limit files bytes h = short_by name (content files name) bytes l
 
 font_step_avoids : (n : ℕ) (line : FontLine) (files : List Held) → StepAvoids (font_step n line files)
 font_step_avoids n line files =
-    then_avoids (file_of (tfm_name line.name) max_tfm files) (λ bytes. plain (line_font n line bytes)) (file_avoids (tfm_name line.name) max_tfm files) (λ bytes is. font_avoids n line bytes)
+    then_avoids (file_of (tfm_name line.name) max_tfm files) (λ bytes. plain (line_font n line bytes)) (file_avoids (tfm_name line.name) max_tfm files) (λ bytes is. font_avoids n bytes (metrics_of bytes line.at line.skew))
 
 fonts_step_avoids : (fonts : List Metrics) (lines : List FontLine) (files : List Held) → StepAvoids (fonts_step fonts lines files)
 fonts_step_avoids fonts [] files = λ same. cc
@@ -73,7 +74,7 @@ list_step_avoids : (name : List ℕ) (files : List Held) → StepAvoids (list_st
 list_step_avoids name files = then_avoids (file_of name max_list files) (λ bytes. plain (list_by (font_list bytes))) (file_avoids name max_list files) (λ bytes is. list_avoids bytes)
 
 loaded_step_avoids : (list : ListValue) (files : List Held) → StepAvoids (loaded_step list files)
-loaded_step_avoids list files = then_avoids (fonts_step [] list.lines files) (λ fonts. plain (font_set_of list fonts)) (fonts_step_avoids [] list.lines files) (λ fonts is. set_avoids list fonts)
+loaded_step_avoids list files = then_avoids (fonts_step [] list.lines files) (λ fonts. plain (font_set_of list fonts)) (fonts_step_avoids [] list.lines files) (λ fonts is. set_avoids list.families fonts (record { lines = list.lines; families = list.families; fonts = fonts }))
 
 font_set_step_avoids : (name : List ℕ) (files : List Held) → StepAvoids (font_set_step name files)
 font_set_step_avoids name files = then_avoids (list_step name files) (λ list. loaded_step list files) (list_step_avoids name files) (λ list is. loaded_step_avoids list files)

@@ -14,22 +14,22 @@ use Rattle.mathset.specs.Answer.{steps, steps_by}
 use Rattle.mathset.specs.DviSteps.{dvi_by, dvi_listing, dvi_step}
 use Rattle.mathset.specs.FontSteps.{font_set_step}
 use Rattle.mathset.specs.Limits.{max_dvi}
-use Rattle.mathset.specs.Listing.{listing}
+use Rattle.mt_pages.specs.Listing.{listing}
 use Rattle.mathset.specs.Reads.{file_of}
 use Rattle.mathset.specs.Outcome.{Outcome, outcome_after, plain}
-use Rattle.mathset.specs.Request.{request_of}
-use Rattle.mathset.specs.RequestValues.{DviValue, SourceValue}
+use Rattle.mt_words.specs.Request.{request_of}
+use Rattle.mt_words.specs.RequestValues.{DviValue, SourceValue}
 use Rattle.mathset.specs.Steps.{read_steps, typeset_steps}
-use Rattle.mathset.specs.Typeset.{TypesetValue}
+use Rattle.mt_pages.specs.Typeset.{TypesetValue}
 use Rattle.mathset.specs.Ends.{EndsAs, GotLean, GotPart, GotWhole, IsQuiet, IsToldRefusal, ListsPages, SetsAs, WritesLean, WritesWhole}
 use Rattle.mathset.specs.inner.Runs.{EndLeaves, IsRun, LeavesOutput, WritesWholeLean}
 use Rattle.mathset.specs.inner.Steps.{IsStep}
 use Rattle.mathset.specs.declared.product.Product.{Product}
 use Rattle.mathset.specs.declared.product.Product.TheVariants.{File, Text}
-use Rattle.mathset.specs.declared.request.Request.{Request}
-use Rattle.mathset.specs.declared.request.Request.TheVariants.{Read, Set}
-use Rattle.mathset.specs.declared.status.Status.{Status}
-use Rattle.mathset.specs.declared.status.Status.TheVariants.{Done, BadWords, ReadFault, TooLong, WriteFault, FontList, BadTfm, BadFamily, BadSource, BadFormula, Budget, MissingFamily, MissingChar, SmartLigature, Overflow, TooTall, TooDeep, TooMuch, BadDvi, OutOfMemory}
+use Rattle.mt_words.specs.declared.request.Request.{Request}
+use Rattle.mt_words.specs.declared.request.Request.TheVariants.{Read, Set}
+use Rattle.mt_status.specs.declared.status.Status.{Status}
+use Rattle.mt_status.specs.declared.status.Status.TheVariants.{Done, BadWords, ReadFault, TooLong, WriteFault, FontList, BadTfm, BadFamily, BadSource, BadFormula, Budget, MissingFamily, MissingChar, SmartLigature, Overflow, TooTall, TooDeep, TooMuch, BadDvi, OutOfMemory}
 
 -- a status is Done, a fault, want of memory, or a refusal that the words and the files give
 by_status : (P : Status → Type 0) → P Done → ((name : List ℕ) → P (ReadFault name)) → ((count : ℕ) → P (WriteFault count)) → P OutOfMemory

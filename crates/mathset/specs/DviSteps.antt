@@ -6,13 +6,13 @@ use Rattle.mt_box.specs.declared.place.Place.{Place}
 use Rattle.mt_dvi.specs.File.{Fault, pages_of}
 use Rattle.mt_dviread.specs.Errors.{dvi_cause_number}
 use Rattle.mathset.specs.Limits.{max_dvi}
-use Rattle.mathset.specs.Listing.{listing}
+use Rattle.mt_pages.specs.Listing.{listing}
 use Rattle.mathset.specs.Outcome.{Outcome, plain, ◌>>=◌}
 use Rattle.mathset.specs.Reads.{file_of}
 use Rattle.mathset.specs.declared.product.Product.{Product}
 use Rattle.mathset.specs.declared.product.Product.TheVariants.{Text}
-use Rattle.mathset.specs.declared.status.Status.{Status}
-use Rattle.mathset.specs.declared.status.Status.TheVariants.{BadDvi}
+use Rattle.mt_status.specs.declared.status.Status.{Status}
+use Rattle.mt_status.specs.declared.status.Status.TheVariants.{BadDvi}
 
 -- a file that is refused: the offset of the opcode at fault, and the number of the cause
 abbrev pub dvi_refusal : Fault → Status

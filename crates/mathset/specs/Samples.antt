@@ -5,16 +5,17 @@ use Rattle.mt_samples.specs.Bytes.{toy_list_bytes}
 use Rattle.mt_samples.specs.Generator.{generated}
 use Rattle.mt_samples.specs.Which.{toy_bytes}
 use Rattle.mt_samples.specs.declared.Toy.TheVariants.{Roman, Italic, Symbols, Extension}
-use Rattle.mathset.specs.Listing.{summary}
-use Rattle.mathset.specs.RequestValues.{SourceValue}
-use Rattle.mathset.specs.Typeset.{TypesetValue}
+use Rattle.mt_pages.specs.Listing.{summary}
+use Rattle.mt_words.specs.Limits.{default_line}
+use Rattle.mt_words.specs.RequestValues.{SourceValue}
+use Rattle.mt_pages.specs.Typeset.{TypesetValue}
 use Rattle.mathset.specs.declared.product.Product.{Product}
 use Rattle.mathset.specs.declared.product.Product.TheVariants.{Text}
-use Rattle.mathset.specs.declared.status.Status.{Status}
+use Rattle.mt_status.specs.declared.status.Status.{Status}
 
--- the toy font list and the generated source, on lines of 6.5in
+-- the toy font list and the generated source, on lines of the width that words give by default
 abbrev pub sample_words : SourceValue
-sample_words = record { fonts = codes "toy.fonts"; source = codes "generated.tex"; line = pos 30785863 }
+sample_words = record { fonts = codes "toy.fonts"; source = codes "generated.tex"; line = pos default_line }
 
 -- the files that these words and the list name
 abbrev pub sample_files : ℕ → ℕ → List Held

@@ -5,16 +5,16 @@ use Rattle.mt_family.specs.SetValue.{SetValue}
 use Rattle.mt_token.specs.Tokens.{max_source}
 use Rattle.mathset.specs.DviSteps.{dvi_step}
 use Rattle.mathset.specs.FontSteps.{font_set_step}
-use Rattle.mathset.specs.Listing.{listing}
+use Rattle.mt_pages.specs.Listing.{listing}
 use Rattle.mathset.specs.Outcome.{Outcome, plain, ◌>>=◌}
 use Rattle.mathset.specs.Reads.{file_of}
-use Rattle.mathset.specs.RequestValues.{SourceValue, DviValue, SampleValue}
+use Rattle.mt_words.specs.RequestValues.{SourceValue, DviValue, SampleValue}
 use Rattle.mathset.specs.Samples.{sample_files, sample_words, summed}
-use Rattle.mathset.specs.Typeset.{TypesetValue, typeset_of}
+use Rattle.mt_pages.specs.Typeset.{TypesetValue, typeset_of}
 use Rattle.mathset.specs.declared.product.Product.{Product}
 use Rattle.mathset.specs.declared.product.Product.TheVariants.{File, Text}
-use Rattle.mathset.specs.declared.request.Request.{Request}
-use Rattle.mathset.specs.declared.request.Request.TheVariants.{Set, Places, Read, Gen}
+use Rattle.mt_words.specs.declared.request.Request.{Request}
+use Rattle.mt_words.specs.declared.request.Request.TheVariants.{Set, Places, Read, Gen}
 
 -- the source is fetched and set
 abbrev pub source_step : List ℕ → ℤ → SetValue → List Held → Outcome TypesetValue

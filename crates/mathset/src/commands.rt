@@ -3,13 +3,13 @@ ghost use Rattle.mathset.specs.inner.Steps.{IsStep};
 ghost use Rattle.mathset.specs.Steps.{places_steps, request_steps, set_steps};
 
 use crate::dvi::read;
-use crate::listing::listing;
 use crate::product::Product;
-use crate::request::{Request, Source};
 use crate::sample::generated_summary;
-use crate::status::Status;
 use crate::typesetting::typeset;
 use mt_outside::Cabinet;
+use mt_pages::listing;
+use mt_status::Status;
+use mt_words::{Request, Source};
 use std::alloc::Global;
 
 // `set`: the DVI file of the source's pages.

@@ -3,18 +3,19 @@ ghost use Rattle.std.specs.Prelude.{◌≡◌, IfSome};
 ghost use Rattle.mt_dvi.specs.File.{Fault};
 ghost use Rattle.mt_dviread.specs.Faults.{fault_of};
 ghost use Rattle.mathset.specs.DviSteps.{dvi_listing, dvi_refusal, dvi_step};
-ghost use Rattle.mathset.specs.inner.Steps.{IsPure, IsStep};
+ghost use Rattle.mt_status.specs.Origins.{IsPure};
+ghost use Rattle.mathset.specs.inner.Steps.{IsStep};
 ghost use Rattle.mathset.specs.Steps.{read_steps};
 
 use crate::fetch::fetch_file;
 use crate::fonts::read_font_set;
-use crate::listing::listing;
 use crate::product::Product;
-use crate::request::DviFile;
-use crate::status::Status;
 use mt_dviread::{DviError, MAX_DVI, read_dvi};
 use mt_family::FontSet;
 use mt_outside::Cabinet;
+use mt_pages::listing;
+use mt_status::Status;
+use mt_words::DviFile;
 use std::alloc::Global;
 
 // A DVI file that is refused.

@@ -3,7 +3,7 @@ ghost use Rattle.std.specs.Prelude.{◌≡◌, Err, List, ℕ};
 ghost use Rattle.mt_outside.specs.declared.files.Held.{Held};
 ghost use Rattle.mathset.specs.Answer.{answer};
 
-use crate::status::Status;
+use mt_status::Status;
 
 /// No words and files ask for a refusal for want of memory: the first refusal that the definitions
 /// give is never `OutOfMemory`.

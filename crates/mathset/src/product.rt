@@ -4,38 +4,12 @@ ghost use Rattle.mathset.specs.inner.Runs.{EndLeaves, LeavesOutput};
 ghost use Rattle.mathset.specs.Product.{Makes, IsLean};
 ghost use Rattle.mathset.specs.declared.product.Product.{Product};
 
-use crate::status::Status;
-use mt_box::PageList;
 use mt_dvi::{DviWriteError, write_dvi};
-use mt_family::FontSet;
 use mt_outside::{Sink, write_all};
+use mt_pages::Typeset;
 use mt_scaled::Bytes;
+use mt_status::Status;
 use std::alloc::Global;
-use std::marker::Model;
-
-/// Pages, with the fonts that they are set in. A DVI file can have them: each place can be written,
-/// and they are not too many.
-#[derive(Drop)]
-pub struct Typeset {
-    /// The fonts.
-    pub fonts: FontSet,
-    /// The pages.
-    pub pages: PageList,
-}
-
-impl Model for Typeset {
-    ghost use Rattle.std.specs.Prelude.{◌≡◌, All, None};
-    ghost use Rattle.mt_dvi.specs.Writable.{IsWritable};
-    ghost use Rattle.mt_dvi.specs.Refusal.{refusal_of};
-    ghost use Rattle.mathset.specs.Typeset.{TypesetValue};
-
-    ghost Value = { TypesetValue };
-
-    ghost view = { λ t. record { fonts = t.fonts; pages = t.pages } };
-
-    ghost invariant = { λ t. All (λ page. All (IsWritable t.fonts) page) t.pages
-        × (refusal_of t.pages ≡ None) };
-}
 
 /// What a run is to write.
 #[derive(Drop)]

@@ -3,20 +3,17 @@ ghost use Rattle.std.specs.Prelude.{◌≡◌, ◌≤◌, IfOk, List, codes};
 ghost use Rattle.mt_outside.specs.declared.files.Held.{Held as HeldFields};
 ghost use Rattle.mathset.specs.Samples.{sample_files, sample_words, summed};
 ghost use Rattle.mathset.specs.Steps.{typeset_steps};
-ghost use Rattle.mathset.specs.inner.Steps.{IsPure};
+ghost use Rattle.mt_status.specs.Origins.{IsPure};
 
-use crate::product::{Product, Typeset};
-use crate::request::{Sample, Source};
-use crate::status::Status;
-use crate::summary::summary;
+use crate::product::Product;
 use crate::typesetting::typeset;
 use mt_outside::{FileList, Held, SteadyCabinet};
+use mt_pages::{Typeset, summary};
 use mt_samples::{Toy, generate, toy_list, toy_tfm};
 use mt_scaled::{Bytes, Name};
+use mt_status::Status;
+use mt_words::{DEFAULT_LINE, Sample, Source};
 use std::alloc::{AllocError, Global};
-
-// The width of a line: 6.5in, the default of `--line`.
-const LINE: i64 = 30_785_863;
 
 fn held(alloc: Global, name: &str, bytes: Bytes) -> Result<Held, AllocError>
     ensures { IfOk result (λ file. file ≡ record { name = name.now; bytes = bytes }) }
@@ -50,7 +47,7 @@ fn typeset_sample(alloc: Global, sample: &Sample) -> Result<Typeset, Status>
     let words = Source {
         fonts: "toy.fonts",
         source: "generated.tex",
-        line: LINE,
+        line: DEFAULT_LINE,
     };
     typeset(alloc, &words, &mut cabinet)
 }

@@ -1,33 +1,18 @@
 //! A source set in the fonts of a font list.
 ghost use Rattle.std.specs.Prelude.{◌≤◌, length};
-ghost use Rattle.mathset.specs.inner.Lines.{IsLineWidth};
-ghost use Rattle.mathset.specs.inner.Steps.{IsPure, IsStep};
+ghost use Rattle.mt_pages.specs.LineWidth.{IsLineWidth};
+ghost use Rattle.mathset.specs.inner.Steps.{IsStep};
 ghost use Rattle.mathset.specs.Steps.{source_step, typeset_steps};
-ghost use Rattle.mathset.specs.Typeset.{typeset_of};
 
 use crate::fetch::fetch_file;
 use crate::fonts::read_font_set;
-use crate::product::Typeset;
-use crate::request::Source;
-use crate::source::source_pages;
-use crate::status::Status;
 use mt_family::FontSet;
 use mt_outside::Cabinet;
+use mt_pages::{Typeset, typeset_source};
+use mt_status::Status;
 use mt_token::MAX_SOURCE;
+use mt_words::Source;
 use std::alloc::Global;
-
-fn typeset_source(
-    alloc: Global,
-    fonts: FontSet,
-    width: i64,
-    source: &[u8],
-) -> Result<Typeset, Status>
-    requires width { IsLineWidth width }
-    ensures is { IsPure (typeset_of fonts width source.now) result }
-{
-    let pages = source_pages(alloc, &fonts, width, source)?;
-    Ok(Typeset { fonts, pages })
-}
 
 fn read_source<C: Cabinet>(
     alloc: Global,

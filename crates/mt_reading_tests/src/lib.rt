@@ -24,3 +24,5 @@ mod tfm;
 mod token;
 #[cfg(test)]
 mod units;
+#[cfg(test)]
+mod words;

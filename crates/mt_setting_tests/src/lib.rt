@@ -19,6 +19,8 @@ mod family;
 #[cfg(test)]
 mod fonts;
 #[cfg(test)]
+mod pages;
+#[cfg(test)]
 mod parts;
 #[cfg(test)]
 mod pieces;

@@ -5,8 +5,8 @@ use Rattle.mt_outside.specs.declared.files.Held.{Held}
 use Rattle.mathset.specs.Ends.{Gives, GotLean, GotPart, IsQuiet, IsReadFaultOrNoMemory, IsToldRefusal, IsWriteFault, WritesPart}
 use Rattle.mathset.specs.Outcome.{Outcome}
 use Rattle.mathset.specs.declared.product.Product.{Product}
-use Rattle.mathset.specs.declared.status.Status.{Status}
-use Rattle.mathset.specs.declared.status.Status.TheVariants.{Done, ReadFault, WriteFault, OutOfMemory}
+use Rattle.mt_status.specs.declared.status.Status.{Status}
+use Rattle.mt_status.specs.declared.status.Status.TheVariants.{Done, ReadFault, WriteFault, OutOfMemory}
 
 -- no step refused, and the output got the whole product, which is lean
 pub record WritesWholeLean (holds : Option (List Held)) (steps : List Held → Outcome Product) (before now : Option (List ℕ)) : Type 0 where

@@ -1,32 +1,13 @@
--- What a step leaves of its cabinet (`IsStep`), and what a step that reads no file answers (`IsPure`).
+-- What a step leaves of its cabinet (`IsStep`).
 use Rattle.std.specs.Prelude.{◌≡◌, ◌≤◌, ℕ, List, Option, Some, Result, Ok, Err, Contains, ⊤}
 use Rattle.mt_outside.specs.Counts.{Rose}
 use Rattle.mt_outside.specs.declared.files.Held.{Held}
 use Rattle.mt_outside.specs.declared.cabinet.FetchError.{FetchError}
 use Rattle.mt_outside.specs.declared.cabinet.FetchError.TheVariants.{Failed, TooLong as FileTooLong, OutOfMemory as NoFetchMemory}
+use Rattle.mt_status.specs.Origins.{Origin, Told, Lost, Memory, Never, origin_of}
 use Rattle.mathset.specs.Outcome.{Outcome}
-use Rattle.mathset.specs.declared.status.Status.{Status}
-use Rattle.mathset.specs.declared.status.Status.TheVariants.{Done, BadWords, ReadFault, TooLong, WriteFault, OutOfMemory}
-
--- what stands behind the answer of a step: the files, a read that failed, or want of memory
-pub data Origin : Type 0 where
-  Told : Origin
-  Lost : List ℕ → Origin
-  Memory : Origin
-  -- the status is none that a step answers
-  Never : Origin
-
-abbrev pub refusal_origin : Status → Origin
-refusal_origin Done = Never
-refusal_origin BadWords = Never
-refusal_origin (ReadFault name) = Lost name
-refusal_origin (WriteFault written) = Never
-refusal_origin OutOfMemory = Memory
-refusal_origin status = Told
-
-abbrev pub origin_of : {T : Type 0} → Result T Status → Origin
-origin_of (Ok x) = Told
-origin_of (Err status) = refusal_origin status
+use Rattle.mt_status.specs.declared.status.Status.{Status}
+use Rattle.mt_status.specs.declared.status.Status.TheVariants.{ReadFault, TooLong, OutOfMemory}
 
 -- what is seen of a cabinet
 pub record CabinetValue : Type 0 where
@@ -50,16 +31,6 @@ pub record StepLeaves {T : Type 0} (before now : CabinetValue) (steps : List Hel
 abbrev pub IsStep : {C T : Type 0} → (C → Option (List Held)) → (C → ℕ) → (C → Option (List ℕ)) → C → C → (List Held → Outcome T) → Result T Status → Type 0
 IsStep holds faults lost before now steps result =
     StepLeaves (record { holds = holds before; faults = faults before; lost = lost before }) (record { holds = holds now; faults = faults now; lost = lost now }) steps result
-
-abbrev pub PureBy : Origin → Type 0 → Type 0
-PureBy Told says = says
-PureBy (Lost name) says = ⊥
-PureBy Memory says = ⊤
-PureBy Never says = ⊥
-
--- a step that reads no file gives this answer, or memory was wanting
-abbrev pub IsPure : {T : Type 0} → Result T Status → Result T Status → Type 0
-IsPure step result = PureBy (origin_of result) (step ≡ result)
 
 -- the status of a fetch's error
 abbrev pub IsFetchRefusal : List ℕ → FetchError → Status → Type 0

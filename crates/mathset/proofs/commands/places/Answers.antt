@@ -1,10 +1,10 @@
 use Rattle.std.specs.Prelude.{List, Ok}
 use Rattle.std.proofs.lemmas.Result.{err_from_is_err_and}
 use Rattle.mt_outside.specs.declared.files.Held.{Held}
-use Rattle.mathset.specs.Listing.{listing}
+use Rattle.mt_pages.specs.Listing.{listing}
 use Rattle.mathset.specs.Outcome.{plain}
 use Rattle.mathset.specs.Steps.{typeset_steps}
-use Rattle.mathset.specs.Typeset.{TypesetValue}
+use Rattle.mt_pages.specs.Typeset.{TypesetValue}
 use Rattle.mathset.specs.declared.product.Product.{Product}
 use Rattle.mathset.specs.declared.product.Product.TheVariants.{Text}
 use Rattle.mathset.proofs.StepLemmas.{step_err}

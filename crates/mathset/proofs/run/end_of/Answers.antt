@@ -2,7 +2,7 @@ use Rattle.std.proofs.Common.{◌∙◌, sym, subst}
 use Rattle.std.specs.Prelude.{Option}
 use Rattle.mathset.specs.Answer.{steps_by}
 use Rattle.mathset.specs.Steps.{request_steps}
-use Rattle.mathset.specs.declared.request.Request.{Request}
+use Rattle.mt_words.specs.declared.request.Request.{Request}
 use Rattle.mathset.specs.inner.Runs.{IsRun}
 use Rattle.mathset.proofs.RunLemmas.{is_run}
 use Rattle.mathset.proofs.run.end_of.Goals as goal

@@ -4,7 +4,7 @@ use Rattle.mt_outside.specs.declared.files.Held.{Held}
 use Rattle.mt_token.specs.Tokens.{max_source}
 use Rattle.mathset.specs.Outcome.{plain}
 use Rattle.mathset.specs.Reads.{file_of}
-use Rattle.mathset.specs.Typeset.{TypesetValue, typeset_of}
+use Rattle.mt_pages.specs.Typeset.{TypesetValue, typeset_of}
 use Rattle.mathset.proofs.StepLemmas.{step_err}
 use Rattle.mathset.proofs.typesetting.read_source.Goals as goal
 

@@ -4,8 +4,8 @@ use Rattle.mt_outside.specs.declared.files.Held.{Held}
 use Rattle.mt_family.specs.SetValue.{SetValue}
 use Rattle.mathset.specs.FontSteps.{font_set_step}
 use Rattle.mathset.specs.Steps.{source_step}
-use Rattle.mathset.specs.Typeset.{TypesetValue}
-use Rattle.mathset.proofs.LineLemmas.{line_kept}
+use Rattle.mt_pages.specs.Typeset.{TypesetValue}
+use Rattle.mathset.proofs.WidthLemmas.{line_kept}
 use Rattle.mathset.proofs.StepLemmas.{step_then, step_err}
 use Rattle.mathset.proofs.typesetting.typeset.Goals as goal
 

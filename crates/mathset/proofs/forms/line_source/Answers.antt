@@ -1,7 +1,0 @@
-use Rattle.std.proofs.Common.{◌∙◌, codes}
-use Rattle.clap.specs.Words.{found_of}
-use Rattle.mathset.proofs.FoundLemmas.{source-rows}
-use Rattle.mathset.proofs.forms.line_source.Goals as goal
-
-pub returns : goal.returns
-returns c = c.value_source.ensures ∙ source-rows (found_of c.args.matches.now) (codes "line")

@@ -1,0 +1,75 @@
+-- The pages of a document, one after another.
+use Rattle.std.proofs.Common.{◌≡◌, ℕ, ◌+◌, ◌-◌, ◌≤◌, ◌^◌, List, [], ◌∷◌, ◌++◌, length, refl, sym, ◌∙◌, ap, subst, arith}
+use Rattle.std.specs.Prelude.{ℤ, Result, Ok, Err, Option, Some, None, All, IfOk, IfSome, sum_by}
+use Rattle.std.proofs.lemmas.List.Sums.{sum_by-append, sum_by-cons}
+use Rattle.mt_scaled.specs.Results.{◌>>=◌}
+use Rattle.mt_family.specs.SetValue.{SetValue}
+use Rattle.mt_box.specs.declared.place.Place.{Place}
+use Rattle.mt_rules.specs.declared.document.Formula.{Formula}
+use Rattle.mt_display.specs.Lines.{LineValue}
+use Rattle.mt_reader.specs.documents.Weights.{page_weight, pages_weight}
+use Rattle.mt_pages.specs.FormulaLines.{formula_lines}
+use Rattle.mt_pages.specs.Pages.{PageLinesValue, with_formula_lines, no_lines, page_lines, document_lines, document_pages, page_places, pages_places}
+use Rattle.mt_pages.specs.inner.Placed.{PlacedValue, add_page, nothing_placed, place_page, place_rest}
+use Rattle.mt_status.specs.Origins.{IsPure, PureBy, Told, origin_of, refusal_origin}
+use Rattle.mt_status.specs.declared.status.Status.{Status}
+use Rattle.mt_status.proofs.PureLemmas.{pure_err, pure_by}
+
+-- ---- the formulas of a page
+
+-- one formula more
+pub page_next : (set : SetValue) (width : ℤ) (page : PageLinesValue) (f : Formula) (fs : List Formula) (lines : List LineValue) → formula_lines set width f ≡ Ok lines
+    → page_lines set width page (f ∷ fs) ≡ page_lines set width (with_formula_lines page f.number lines) fs
+page_next set width page f fs lines is = ap (λ (r : Result (List LineValue) Status). r >>= (λ ls. page_lines set width (with_formula_lines page f.number ls) fs)) is
+
+pub page_err : (set : SetValue) (width : ℤ) (page : PageLinesValue) (f : Formula) (fs : List Formula) (status : Status) → IsPure (formula_lines set width f) (Err status)
+    → IsPure (page_lines set width page (f ∷ fs)) (Err status)
+page_err set width page f fs status is = pure_err (formula_lines set width f) (λ ls. page_lines set width (with_formula_lines page f.number ls) fs) status is
+
+-- ---- the pages of a document
+
+-- the pages of a document that are left, behind those that are placed
+abbrev pub rest_pages : SetValue → ℤ → Result PlacedValue Status → List (List Formula) → Result (List (List Place)) Status
+rest_pages set width placed pages = document_lines set width pages >>= place_rest placed
+
+pub pages_start : (set : SetValue) (width : ℤ) (document : List (List Formula)) → document_pages set width document ≡ rest_pages set width nothing_placed document
+unfolding document_pages
+pages_start set width document = refl
+
+placed_then : (r : Result (List Place) Status) (p : PlacedValue) (rest : List PageLinesValue)
+    → (r >>= (λ places. pages_places (p.pages ++ places ∷ []) (p.room - length places) rest))
+    ≡ place_rest (r >>= (λ places. Ok (record { pages = p.pages ++ places ∷ []; room = p.room - length places }))) rest
+placed_then (Ok places) p rest = refl
+placed_then (Err status) p rest = refl
+
+-- one page is placed
+place_next : (placed : Result PlacedValue Status) (page : PageLinesValue) (rest : List PageLinesValue) → place_rest placed (page ∷ rest) ≡ place_rest (add_page page placed) rest
+place_next (Ok p) page rest = placed_then (page_places p.room page) p rest
+place_next (Err status) page rest = refl
+
+next_by : (placed : Result PlacedValue Status) (lines : PageLinesValue) (r : Result (List PageLinesValue) Status)
+    → ((r >>= (λ rest. Ok (lines ∷ rest))) >>= place_rest placed) ≡ (r >>= place_rest (add_page lines placed))
+next_by placed lines (Ok rest) = place_next placed lines rest
+next_by placed lines (Err status) = refl
+
+-- one page more
+pub pages_next : (set : SetValue) (width : ℤ) (placed : Result PlacedValue Status) (page : List Formula) (pages : List (List Formula)) (lines : PageLinesValue)
+    → page_lines set width no_lines page ≡ Ok lines → rest_pages set width placed (page ∷ pages) ≡ rest_pages set width (add_page lines placed) pages
+pages_next set width placed page pages lines is =
+    ap (λ (r : Result PageLinesValue Status). (r >>= (λ ls. document_lines set width pages >>= (λ rest. Ok (ls ∷ rest)))) >>= place_rest placed) is
+    ∙ next_by placed lines (document_lines set width pages)
+
+-- a formula of the next page is refused
+pub pages_err : (set : SetValue) (width : ℤ) (placed : Result PlacedValue Status) (page : List Formula) (pages : List (List Formula)) (status : Status)
+    → IsPure (page_lines set width no_lines page) (Err status) → IsPure (rest_pages set width placed (page ∷ pages)) (Err status)
+pages_err set width placed page pages status is =
+    pure_by (refusal_origin status) _ _
+    (λ same. ap (λ (r : Result PageLinesValue Status). (r >>= (λ ls. document_lines set width pages >>= (λ rest. Ok (ls ∷ rest)))) >>= place_rest placed) same) is
+
+-- a page of a document whose formulas are few has few formulas
+pub page_fits : (before : List (List Formula)) (page : List Formula) (behind rest all : List (List Formula)) → rest ≡ page ∷ behind → before ++ rest ≡ all → pages_weight all ≤ 2 ^ 21
+    → page_weight page ≤ 2 ^ 21
+page_fits before page behind rest all steps left few =
+    let whole : before ++ page ∷ behind ≡ all = ap (λ (l : List (List Formula)). before ++ l) (sym steps) ∙ left in
+    let weight : pages_weight (before ++ page ∷ behind) ≤ 2 ^ 21 = subst (λ (l : List (List Formula)). pages_weight l ≤ 2 ^ 21) (sym whole) few in
+    omega (arith, weight, sum_by-append page_weight before (page ∷ behind), sum_by-cons page_weight page behind)

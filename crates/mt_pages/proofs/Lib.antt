@@ -1,0 +1,18 @@
+-- the lines of a formula
+pub mod LineLemmas
+-- the places of a page
+pub mod PageLemmas
+-- the pages of a document, one after another
+pub mod DocumentLemmas
+-- small sources
+mod Worked
+-- lines of the listing, one after another
+pub mod ListingLemmas
+-- small pages as texts
+mod ListingWorked
+-- each brace of a formula has its partner
+pub mod Balanced
+-- a document is never refused for want of memory
+pub mod DocumentRefusals
+-- pages are never refused for want of memory
+pub mod PageRefusals

@@ -1,0 +1,108 @@
+-- The places of a page can be written, and they are not too many.
+use Rattle.std.proofs.Common.{◌≡◌, ℕ, ◌+◌, ◌-◌, ◌≤◌, List, [], ◌∷◌, ◌++◌, length, refl, sym, ◌∙◌, ap, subst, false, arith}
+use Rattle.std.specs.Prelude.{ℤ, pos, Option, Some, None, Result, Ok, Err, All, IfSome, IsSomeAnd, is_some, nat_lt}
+use Rattle.std.proofs.lemmas.Bool.Decides.{nat_tests}
+use Rattle.std.proofs.lemmas.List.{append-nil, append_assoc, length-append}
+use Rattle.std.proofs.lemmas.List.Elements.{All-append, All-cons, All-head, All-nil, All-tail}
+use Rattle.mt_tfm.specs.Font.{Metrics}
+use Rattle.mt_family.specs.SetValue.{SetValue}
+use Rattle.mt_box.specs.Rows.{PieceValue, PieceGlyph, PieceBox, PieceKern, PieceSpace}
+use Rattle.mt_box.proofs.Room.{PlaceInRange, all_in_range}
+use Rattle.mt_box.proofs.Still.{IsStill, PieceHas}
+use Rattle.mt_box.specs.declared.place.Place.{Place}
+use Rattle.mt_box.specs.declared.place.Place.TheVariants.{Glyph, Rule}
+use Rattle.mt_dvi.specs.Writable.{HasGlyph, IsWritable}
+use Rattle.mt_dvi.specs.WrittenPlaces.{all_places}
+use Rattle.mt_dvi.specs.Limits.{max_places, max_dvi_pages}
+use Rattle.mt_dvi.specs.Refusal.{refusal_of}
+use Rattle.mt_display.specs.Lines.{LineValue}
+use Rattle.mt_display.specs.Stack.{stacked_lines}
+use Rattle.mt_display.proofs.PagePlaces.{LineHas, page_has}
+use Rattle.mt_convert.specs.Holding.{PlaceHolds, PieceHolds, RowHolds}
+use Rattle.mt_convert.proofs.holds.Boxes.{all_places_hold}
+use Rattle.mt_pages.specs.inner.Placed.{PlacedHolds}
+use Rattle.mt_status.specs.Origins.{Told, refusal_origin}
+use Rattle.mt_pages.specs.declared.pages.PlacedPages.{PlacedPages}
+use Rattle.mt_status.specs.declared.status.Status.{Status}
+
+-- that a glyph exists and that a rule marks something does not depend on where it stands
+pub places_still : (set : SetValue) → IsStill (PlaceHolds set)
+places_still set = record { glyph = λ font code h v x y holds. holds; rule = λ h v x y height width holds. holds }
+
+piece_has : (set : SetValue) (p : PieceValue) → PieceHolds set p → PieceHas (PlaceHolds set) p
+piece_has set (PieceGlyph font code e) holds = holds.0
+piece_has set (PieceBox raise body) holds = all_places_hold set body.places holds
+piece_has set (PieceKern amount) holds = tt
+piece_has set (PieceSpace width shrink) holds = tt
+
+pub row_has : (set : SetValue) (row : List PieceValue) → RowHolds set row → All (PieceHas (PlaceHolds set)) row
+row_has set [] holds = All-nil (PieceHas (PlaceHolds set))
+row_has set (p ∷ ps) holds = All-cons (PieceHas (PlaceHolds set)) p ps (piece_has set p holds.0) (row_has set ps holds.1)
+
+-- a place that holds, and whose coordinates are in range
+pub place_writable : (set : SetValue) (p : Place) → PlaceHolds set p → PlaceInRange p → IsWritable set p
+place_writable set (Glyph font code h v) holds near = record {
+  h_in_range = near.h;
+  v_in_range = near.v;
+  glyph =
+      subst (λ (o : Option Metrics). IsSomeAnd o (λ (m : Metrics). HasGlyph m code)) (sym holds.is)
+      (record { there = holds.there; width = holds.extents.width; depth = holds.extents.depth });
+}
+place_writable set (Rule h v height width) holds near = record {
+  h_in_range = near.h;
+  v_in_range = near.v;
+  height_in_range = holds.height_in_range;
+  width_in_range = holds.width_in_range;
+  tall = holds.tall;
+  wide = holds.wide;
+}
+
+pub places_writable : (set : SetValue) (ps : List Place) → All (PlaceHolds set) ps → All PlaceInRange ps → All (IsWritable set) ps
+places_writable set [] holds near = All-nil (IsWritable set)
+places_writable set (p ∷ ps) holds near =
+    All-cons (IsWritable set) p ps (place_writable set p (All-head (PlaceHolds set) p ps holds) (All-head PlaceInRange p ps near))
+    (places_writable set ps (All-tail (PlaceHolds set) p ps holds) (All-tail PlaceInRange p ps near))
+
+pub all_places_append : (pages : List (List Place)) (page : List Place) → all_places (pages ++ page ∷ []) ≡ all_places pages ++ page
+all_places_append [] page = append-nil page
+all_places_append (p ∷ ps) page = ap (λ (l : List Place). p ++ l) (all_places_append ps page) ∙ sym (append_assoc p (all_places ps) page)
+
+-- one page more, and so much less room
+pub less_room : (pages : List (List Place)) (page : List Place) (room : ℕ) → length page ≤ room → length (all_places pages) + room ≡ max_places
+    → length (all_places (pages ++ page ∷ [])) + (room - length page) ≡ max_places
+less_room pages page room fits full =
+    let more : length (all_places (pages ++ page ∷ [])) ≡ length (all_places pages) + length page = ap length (all_places_append pages page) ∙ length-append (all_places pages) page in
+    omega (arith, more, fits, full)
+
+-- pages with no more places than there may be are not refused
+pub pages_few : (pages : List (List Place)) → length pages ≤ 5000 → length (all_places pages) ≤ max_places → refusal_of pages ≡ None
+pages_few pages few places =
+    let pages_in : nat_lt max_dvi_pages (length pages) ≡ false = grind (arith, nat_tests) in
+    let places_in : nat_lt max_places (length (all_places pages)) ≡ false = grind (arith, nat_tests) in
+    rw (pages_in, places_in) refl
+
+-- the places of lines that hold can be written
+pub stacked_writable : (set : SetValue) (room : ℕ) (lines : List LineValue) (page : List Place) → All (LineHas (PlaceHolds set)) lines → stacked_lines room lines ≡ Ok page → All (IsWritable set) page
+stacked_writable set room lines page hold is = page_has (PlaceHolds set) (IsWritable set) (places_still set) (place_writable set) room lines page hold is
+
+-- one page more
+pub placed_more : (set : SetValue) (count room : ℕ) (pages : List (List Place)) (page : List Place) (placed : PlacedPages)
+    → PlacedHolds set count placed → placed.pages.items ≡ pages → placed.room ≡ room → All (IsWritable set) page → length page ≤ room
+    → (now : PlacedPages) → now.pages.items ≡ pages ++ page ∷ [] → now.room ≡ room - length page → now.fault ≡ None → PlacedHolds set (count + 1) now
+placed_more set count room pages page placed holds is has writable fits now pages' room' fault =
+    let every = λ (ps : List Place). All (IsWritable set) ps in
+    let before : All every pages = subst (λ (l : List (List Place)). All every l) is holds.writable in
+    let full : length (all_places pages) + room ≡ max_places = subst (λ (l : List (List Place)). length (all_places l) + room ≡ max_places) is (subst (λ (n : ℕ). length (all_places placed.pages.items) + n ≡ max_places) has holds.places) in
+    let few : length pages ≤ count = subst (λ (l : List (List Place)). length l ≤ count) is holds.few in
+    record {
+      writable = subst (λ (l : List (List Place)). All every l) (sym pages') (All-append every pages (page ∷ []) before (All-cons every page [] writable (All-nil every)));
+      places =
+          subst (λ (l : List (List Place)). length (all_places l) + now.room ≡ max_places) (sym pages')
+          (subst (λ (n : ℕ). length (all_places (pages ++ page ∷ [])) + n ≡ max_places) (sym room') (less_room pages page room fits full));
+      few = subst (λ (l : List (List Place)). length l ≤ count + 1) (sym pages') (omega (arith, length-append pages (page ∷ []), few));
+      told = subst (λ (f : Option Status). IfSome f (λ status. refusal_origin status ≡ Told)) (sym fault) tt;
+    }
+
+pub no_fault : (fault : Option Status) → is_some fault ≡ false → fault ≡ None
+no_fault None is = refl
+no_fault (Some status) is = absurd (cc)

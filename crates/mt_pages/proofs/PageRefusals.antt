@@ -1,0 +1,141 @@
+-- Setting a source is never refused for want of memory (`typeset_avoids`).
+use Rattle.std.proofs.Common.{◌≡◌, ◌+◌, ◌-◌, ◌++◌, ℕ, length, false, List, [], ◌∷◌, refl, ap}
+use Rattle.std.specs.Prelude.{ℤ, Option, Some, None, Ok, Err, nat_lt}
+use Rattle.mt_scaled.specs.Results.{◌>>=◌}
+use Rattle.mt_token.specs.Tokens.{max_source}
+use Rattle.mt_family.specs.SetValue.{SetValue}
+use Rattle.mt_family.specs.Sets.{sy}
+use Rattle.mt_family.specs.declared.size.Size.TheVariants.{Text}
+use Rattle.mt_box.specs.Placing.{fault_at, first_place_fault, no_room, or_else, place_fault}
+use Rattle.mt_box.specs.Places.{h_of, v_of}
+use Rattle.mt_box.specs.declared.error.PlaceError.{PlaceError}
+use Rattle.mt_box.specs.declared.error.PlaceError.TheVariants.{OutOfRange as PlaceOutOfRange, TooMany as TooManyPlaces, OutOfMemory as NoPlaceMemory}
+use Rattle.mt_box.specs.declared.place.Place.{Place}
+use Rattle.mt_scaled.specs.Number.{is_in_range}
+use Rattle.mt_rules.specs.Setting.{Setting, SettingFault, MissingFamily, MissingChar, SmartLigature, Overflow, TooTall}
+use Rattle.mt_rules.specs.declared.document.Formula.{Formula}
+use Rattle.mt_rules.specs.declared.document.Tag.{Tag}
+use Rattle.mt_rules.specs.declared.style.Style.TheVariants.{D, T}
+use Rattle.mt_convert.specs.ListRow.{list_row}
+use Rattle.mt_display.specs.Displays.{display_lines}
+use Rattle.mt_display.specs.Lines.{inline_lines}
+use Rattle.mt_display.specs.Stack.{first_stack_fault, or_fault_below, places_below, places_unless, stacked_lines}
+use Rattle.mt_display.specs.declared.error.StackError.{StackError}
+use Rattle.mt_display.specs.declared.error.StackError.TheVariants.{OutOfRange, TooMany, OutOfMemory as NoStackMemory}
+use Rattle.mt_dvi.specs.Limits.{max_places}
+use Rattle.mt_pages.specs.Documents.{document_of}
+use Rattle.mt_pages.specs.FormulaLines.{displayed_lines, fault_refusal, formula_lines, formula_row, number_row, set_by, text_lines}
+use Rattle.mt_pages.specs.Pages.{PageLinesValue, document_lines, document_pages, no_lines, page_lines, page_places, pages_places, placed_by, source_pages, stack_refusal, with_formula_lines}
+use Rattle.mt_pages.specs.Typeset.{typeset_of}
+use Rattle.mt_status.specs.declared.status.Status.TheVariants.{OutOfMemory}
+use Rattle.mt_status.proofs.Avoiding.{Avoids, Lacks, avoids_err, avoids_if, avoids_then, lacks_if}
+use Rattle.mt_pages.proofs.DocumentRefusals.{document_avoids}
+
+-- ---- the lines of a formula
+
+fault_avoids : (n : ℕ) (fault : SettingFault) → fault_refusal n fault ≡ OutOfMemory → ⊥
+fault_avoids n (MissingFamily fam size) same = cc
+fault_avoids n (MissingChar fam size code) same = cc
+fault_avoids n (SmartLigature fam size first second) same = cc
+fault_avoids n (Overflow value) same = cc
+fault_avoids n (TooTall repeats) same = cc
+
+setting_avoids : {T : Type 0} (n : ℕ) (setting : Setting T) → Avoids OutOfMemory (set_by n setting)
+setting_avoids n (Ok x) = λ same. cc
+setting_avoids n (Err fault) = avoids_err OutOfMemory (fault_refusal n fault) (fault_avoids n fault)
+
+number_avoids : (set : SetValue) (n : ℕ) (tag : Option Tag) → Avoids OutOfMemory (number_row set n tag)
+number_avoids set n None = λ same. cc
+number_avoids set n (Some tag) =
+    avoids_then OutOfMemory (formula_row set n T tag.body) (λ row. Ok (Some (record { row = row; left = tag.left }))) (setting_avoids n (list_row set T tag.body)) (λ row is same. cc)
+
+text_avoids : (set : SetValue) (f : Formula) → Avoids OutOfMemory (text_lines set f)
+text_avoids set f =
+    avoids_then OutOfMemory (formula_row set f.number T f.body) (λ row. set_by f.number (inline_lines row)) (setting_avoids f.number (list_row set T f.body)) (λ row is. setting_avoids f.number (inline_lines row))
+
+displayed_avoids : (set : SetValue) (width : ℤ) (f : Formula) → Avoids OutOfMemory (displayed_lines set width f)
+displayed_avoids set width f =
+    avoids_then OutOfMemory (formula_row set f.number D f.body) (λ row. number_row set f.number f.tag >>= (λ number. set_by f.number (display_lines (sy set 6 Text) row number width)))
+    (setting_avoids f.number (list_row set D f.body))
+    (λ row is. avoids_then OutOfMemory (number_row set f.number f.tag) (λ number. set_by f.number (display_lines (sy set 6 Text) row number width)) (number_avoids set f.number f.tag)
+    (λ number known. setting_avoids f.number (display_lines (sy set 6 Text) row number width)))
+
+formula_avoids : (set : SetValue) (width : ℤ) (f : Formula) → Avoids OutOfMemory (formula_lines set width f)
+unfolding formula_lines
+formula_avoids set width f = avoids_if OutOfMemory f.display (displayed_lines set width f) (text_lines set f) (displayed_avoids set width f) (text_avoids set f)
+
+-- ---- the lines of a document
+
+page_avoids : (set : SetValue) (width : ℤ) (page : PageLinesValue) (fs : List Formula) → Avoids OutOfMemory (page_lines set width page fs)
+page_avoids set width page [] = λ same. cc
+page_avoids set width page (f ∷ fs) =
+    avoids_then OutOfMemory (formula_lines set width f) (λ lines. page_lines set width (with_formula_lines page f.number lines) fs) (formula_avoids set width f)
+    (λ lines is. page_avoids set width (with_formula_lines page f.number lines) fs)
+
+lines_avoid : (set : SetValue) (width : ℤ) (pages : List (List Formula)) → Avoids OutOfMemory (document_lines set width pages)
+lines_avoid set width [] = λ same. cc
+lines_avoid set width (page ∷ pages) =
+    avoids_then OutOfMemory (page_lines set width no_lines page) (λ lines. document_lines set width pages >>= (λ rest. Ok (lines ∷ rest))) (page_avoids set width no_lines page)
+    (λ lines is. avoids_then OutOfMemory (document_lines set width pages) (λ rest. Ok (lines ∷ rest)) (lines_avoid set width pages) (λ rest known same. cc))
+
+-- ---- the places of these lines
+
+fault_at_lacks : (room : ℕ) (h v : ℤ) → Lacks NoPlaceMemory (fault_at room h v)
+fault_at_lacks room h v =
+    lacks_if NoPlaceMemory (is_in_range h) _ _ (lacks_if NoPlaceMemory (is_in_range v) _ _ (lacks_if NoPlaceMemory (no_room room) _ _ (λ same. cc) (λ same. cc)) (λ same. cc)) (λ same. cc)
+
+place_or_lacks : (first second : Option PlaceError) → Lacks NoPlaceMemory first → Lacks NoPlaceMemory second → Lacks NoPlaceMemory (or_else first second)
+place_or_lacks None second p q = q
+place_or_lacks (Some e) second p q = p
+
+places_lack : (room : ℕ) (ps : List Place) → Lacks NoPlaceMemory (first_place_fault room ps)
+places_lack room [] = λ same. cc
+places_lack room (p ∷ ps) = place_or_lacks (place_fault room p) (first_place_fault (room - 1) ps) (fault_at_lacks room (h_of p) (v_of p)) (places_lack (room - 1) ps)
+
+line_or_lacks : (line : ℕ) (first : Option PlaceError) (second : Option StackError) → Lacks NoPlaceMemory first → Lacks NoStackMemory second
+    → Lacks NoStackMemory (or_fault_below line first second)
+line_or_lacks line None second p q = q
+line_or_lacks line (Some (PlaceOutOfRange value)) second p q = λ same. cc
+line_or_lacks line (Some TooManyPlaces) second p q = λ same. cc
+line_or_lacks line (Some NoPlaceMemory) second p q = absurd (p refl)
+
+stack_lacks : (line room : ℕ) (pss : List (List Place)) → Lacks NoStackMemory (first_stack_fault line room pss)
+stack_lacks line room [] = λ same. cc
+stack_lacks line room (ps ∷ pss) =
+    line_or_lacks line (first_place_fault room ps) (first_stack_fault (line + 1) (room - length ps) pss) (places_lack room ps) (stack_lacks (line + 1) (room - length ps) pss)
+
+stack_error_avoids : (formulas : List ℕ) (e : StackError) → (e ≡ NoStackMemory → ⊥) → stack_refusal formulas e ≡ OutOfMemory → ⊥
+stack_error_avoids formulas (OutOfRange line value) other same = cc
+stack_error_avoids formulas TooMany other same = cc
+stack_error_avoids formulas NoStackMemory other same = other refl
+
+placed_avoids : (formulas : List ℕ) (fault : Option StackError) (ps : List Place) → Lacks NoStackMemory fault → Avoids OutOfMemory (placed_by formulas (places_unless fault ps))
+placed_avoids formulas None ps lacks = λ same. cc
+placed_avoids formulas (Some e) ps lacks = avoids_err OutOfMemory (stack_refusal formulas e) (stack_error_avoids formulas e (λ same. lacks (ap Some same)))
+
+places_avoid : (room : ℕ) (page : PageLinesValue) → Avoids OutOfMemory (page_places room page)
+unfolding stacked_lines
+places_avoid room page = placed_avoids page.formulas (first_stack_fault 0 room (places_below None page.lines)) _ (stack_lacks 0 room (places_below None page.lines))
+
+pages_avoid : (before : List (List Place)) (room : ℕ) (pages : List PageLinesValue) → Avoids OutOfMemory (pages_places before room pages)
+pages_avoid before room [] = λ same. cc
+pages_avoid before room (page ∷ pages) =
+    avoids_then OutOfMemory (page_places room page) (λ places. pages_places (before ++ places ∷ []) (room - length places) pages) (places_avoid room page)
+    (λ places is. pages_avoid (before ++ places ∷ []) (room - length places) pages)
+
+-- ---- a source
+
+document_pages_avoid : (set : SetValue) (width : ℤ) (document : List (List Formula)) → Avoids OutOfMemory (document_pages set width document)
+unfolding document_pages
+document_pages_avoid set width document =
+    avoids_then OutOfMemory (document_lines set width document) (λ pages. pages_places [] max_places pages) (lines_avoid set width document) (λ pages is. pages_avoid [] max_places pages)
+
+source_avoids : (set : SetValue) (width : ℤ) (bytes : List ℕ) → nat_lt max_source (length bytes) ≡ false → Avoids OutOfMemory (source_pages set width bytes)
+unfolding source_pages
+source_avoids set width bytes short =
+    avoids_then OutOfMemory (document_of set bytes) (λ document. document_pages set width document) (document_avoids set bytes short) (λ document is. document_pages_avoid set width document)
+
+-- a source within its limit
+pub typeset_avoids : (fonts : SetValue) (width : ℤ) (source : List ℕ) → nat_lt max_source (length source) ≡ false → Avoids OutOfMemory (typeset_of fonts width source)
+typeset_avoids fonts width source short =
+    avoids_then OutOfMemory (source_pages fonts width source) (λ pages. Ok (record { fonts = fonts; pages = pages })) (source_avoids fonts width source short) (λ pages is same. cc)

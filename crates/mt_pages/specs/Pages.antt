@@ -1,0 +1,79 @@
+-- The pages of a source (`source_pages`): the lines of all formulas, then the places of these lines, page by page.
+use Rattle.std.specs.Prelude.{ℕ, ◌+◌, ◌-◌, ℤ, List, [], ◌∷◌, ◌++◌, length, replicate, get_or, Result, Ok, Err}
+use Rattle.mt_scaled.specs.Results.{◌>>=◌}
+use Rattle.mt_family.specs.SetValue.{SetValue}
+use Rattle.mt_box.specs.declared.place.Place.{Place}
+use Rattle.mt_display.specs.declared.error.StackError.{StackError}
+use Rattle.mt_display.specs.declared.error.StackError.TheVariants.{OutOfRange, TooMany, OutOfMemory as NoStackMemory}
+use Rattle.mt_display.specs.Lines.{LineValue}
+use Rattle.mt_display.specs.Stack.{stacked_lines}
+use Rattle.mt_dvi.specs.Limits.{max_places}
+use Rattle.mt_rules.specs.declared.document.Formula.{Formula}
+use Rattle.mt_pages.specs.Documents.{document_of}
+use Rattle.mt_pages.specs.FormulaLines.{formula_lines}
+use Rattle.mt_status.specs.declared.status.Much.TheVariants.{Places}
+use Rattle.mt_status.specs.declared.status.Status.{Status}
+use Rattle.mt_status.specs.declared.status.Status.TheVariants.{Overflow, TooMuch, OutOfMemory}
+
+-- the lines of a page, and of each the number of its formula
+pub record PageLinesValue : Type 0 where
+  pub lines : List LineValue
+  pub formulas : List ℕ
+
+abbrev pub no_lines : PageLinesValue
+no_lines = record { lines = []; formulas = [] }
+
+-- a page with the lines of formula n behind its own
+abbrev pub with_formula_lines : PageLinesValue → ℕ → List LineValue → PageLinesValue
+with_formula_lines page n lines = record {
+  lines = page.lines ++ lines;
+  formulas = page.formulas ++ replicate (length lines) n;
+}
+
+-- the lines of formulas, behind those of the formulas before them on the page
+abbrev pub page_lines : SetValue → ℤ → PageLinesValue → List Formula → Result PageLinesValue Status
+page_lines set width page [] = Ok page
+page_lines set width page (f ∷ fs) = do
+  lines ← formula_lines set width f
+  page_lines set width (with_formula_lines page f.number lines) fs
+
+-- the lines of a document, page by page
+abbrev pub document_lines : SetValue → ℤ → List (List Formula) → Result (List PageLinesValue) Status
+document_lines set width [] = Ok []
+document_lines set width (page ∷ pages) = do
+  lines ← page_lines set width no_lines page
+  rest ← document_lines set width pages
+  Ok (lines ∷ rest)
+
+-- a place out of range is one of the formula that its line is of
+abbrev pub stack_refusal : List ℕ → StackError → Status
+stack_refusal formulas (OutOfRange line value) = Overflow (get_or formulas line 0) value
+stack_refusal formulas TooMany = TooMuch Places (max_places + 1)
+stack_refusal formulas NoStackMemory = OutOfMemory
+
+abbrev pub placed_by : List ℕ → Result (List Place) StackError → Result (List Place) Status
+placed_by formulas (Ok places) = Ok places
+placed_by formulas (Err e) = Err (stack_refusal formulas e)
+
+-- the places of a page, where there is room for so many
+abbrev pub page_places : ℕ → PageLinesValue → Result (List Place) Status
+page_places room page = placed_by page.formulas (stacked_lines room page.lines)
+
+-- the places of pages, behind those of the pages before them, where there is room for so many more
+abbrev pub pages_places : List (List Place) → ℕ → List PageLinesValue → Result (List (List Place)) Status
+pages_places before room [] = Ok before
+pages_places before room (page ∷ pages) = do
+  places ← page_places room page
+  pages_places (before ++ places ∷ []) (room - length places) pages
+
+-- The pages of a document, which is formulas page by page. All formulas are set before a place is found.
+unfoldable pub document_pages : SetValue → ℤ → List (List Formula) → Result (List (List Place)) Status
+document_pages set width document = do
+  pages ← document_lines set width document
+  pages_places [] max_places pages
+
+-- the pages of a source
+unfoldable pub source_pages : SetValue → ℤ → List ℕ → Result (List (List Place)) Status
+source_pages set width bytes = do
+  document ← document_of set bytes
+  document_pages set width document

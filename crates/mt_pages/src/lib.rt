@@ -1,0 +1,17 @@
+//! The pages of a source, set in its fonts, and pages as texts.
+#![tactic(auto)]
+
+mod document;
+mod formula_lines;
+mod listings;
+mod page_lines;
+mod pages;
+mod source;
+mod summaries;
+mod text_line;
+mod typeset;
+
+pub use listings::listing;
+pub use source::source_pages;
+pub use summaries::summary;
+pub use typeset::{Typeset, typeset_source};

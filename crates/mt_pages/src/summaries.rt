@@ -1,0 +1,63 @@
+//! What was set, counted.
+ghost use Rattle.std.specs.Prelude.{◌≡◌, count_by, IfOk};
+ghost use Rattle.mt_dvi.specs.WrittenPlaces.{all_places};
+ghost use Rattle.mt_pages.specs.Listing.{is_glyph_place, is_rule_place, summary};
+
+use crate::text_line::push_number_line;
+use mt_box::{PageList, Place, PlaceList};
+use mt_scaled::{Bytes, Items};
+use std::alloc::{AllocError, Global};
+
+// How many glyphs there are on a page.
+fn glyphs_on(page: &[Place]) -> usize
+    ensures { result ≡ count_by is_glyph_place page.now }
+{
+    page.iter()
+        .filter(|place| matches!(place, Place::Glyph { .. }))
+        .count()
+}
+
+// How many rules there are on a page.
+fn rules_on(page: &[Place]) -> usize
+    ensures { result ≡ count_by is_rule_place page.now }
+{
+    page.iter()
+        .filter(|place| matches!(place, Place::Rule { .. }))
+        .count()
+}
+
+// The number of glyphs on all pages.
+fn glyph_count(pages: &[PlaceList]) -> u128
+    ensures { result ≡ count_by is_glyph_place (all_places pages.now) }
+{
+    let mut count: u128 = 0;
+    for page in pages {
+        count += glyphs_on(page.as_slice()) as u128;
+    }
+    count
+}
+
+// The number of rules on all pages.
+fn rule_count(pages: &[PlaceList]) -> u128
+    ensures { result ≡ count_by is_rule_place (all_places pages.now) }
+{
+    let mut count: u128 = 0;
+    for page in pages {
+        count += rules_on(page.as_slice()) as u128;
+    }
+    count
+}
+
+/// The summary of pages that so many formulas gave: the lines `formulas N`, `pages N`, `glyphs N` and `rules N`, each
+/// of them ended by LF.
+#[tactic(auto, using(std::proofs::Common::append_assoc), unfolding(crate::specs::Listing::summary))]
+pub fn summary(alloc: Global, formulas: u32, pages: &PageList) -> Result<Bytes, AllocError>
+    ensures { IfOk result (λ text. text ≡ summary formulas pages.now) }
+{
+    let mut out = Vec::new(alloc);
+    push_number_line(&mut out, b"formulas", u128::from(formulas))?;
+    push_number_line(&mut out, b"pages", pages.len() as u128)?;
+    push_number_line(&mut out, b"glyphs", glyph_count(pages.as_slice()))?;
+    push_number_line(&mut out, b"rules", rule_count(pages.as_slice()))?;
+    Ok(Items::from_vec(out))
+}

@@ -1,0 +1,38 @@
+-- The line that explains a refusal to a person (`explained`, `IsLine`).
+use Rattle.std.specs.Prelude.{◌≡◌, ℕ, List, [], ◌∷◌, false, nat_eq, codes, decimal}
+use Rattle.std.specs.List.{concat, list_any}
+use Rattle.mt_status.specs.declared.status.Status.{Status}
+use Rattle.mt_status.specs.declared.status.Status.TheVariants.{Done, BadWords, ReadFault, TooLong, WriteFault, FontList, BadTfm, BadFamily, BadSource, BadFormula, Budget, MissingFamily, MissingChar, SmartLigature, Overflow, TooTall, TooDeep, TooMuch, BadDvi, OutOfMemory}
+
+-- a text in one line: without a line feed
+abbrev pub IsLine : List ℕ → Type 0
+IsLine text = list_any (nat_eq 10) text ≡ false
+
+abbrev pub explained_at : List ℕ → List ℕ → List ℕ → List ℕ
+explained_at head place text = concat (head ∷ place ∷ codes ": " ∷ text ∷ codes "\n" ∷ [])
+
+abbrev pub explained_whole : List ℕ → List ℕ
+explained_whole text = concat (text ∷ codes "\n" ∷ [])
+
+-- the place that the refusal tells, and a text about it
+abbrev pub explained : Status → List ℕ → List ℕ
+explained Done text = []
+explained BadWords text = explained_whole text
+explained (ReadFault name) text = explained_at (codes "") name text
+explained (TooLong name) text = explained_at (codes "") name text
+explained (WriteFault written) text = explained_whole text
+explained (FontList line cause) text = explained_at (codes "font list line ") (decimal line) text
+explained (BadTfm font cause) text = explained_at (codes "font ") (decimal font) text
+explained (BadFamily fam size cause) text = explained_at (codes "family ") (decimal fam) text
+explained (BadSource offset cause) text = explained_at (codes "source byte ") (decimal offset) text
+explained (BadFormula n token cause) text = explained_at (codes "formula ") (decimal n) text
+explained (Budget n) text = explained_at (codes "formula ") (decimal n) text
+explained (MissingFamily n fam size) text = explained_at (codes "formula ") (decimal n) text
+explained (MissingChar n fam size code) text = explained_at (codes "formula ") (decimal n) text
+explained (SmartLigature n fam size first second) text = explained_at (codes "formula ") (decimal n) text
+explained (Overflow n value) text = explained_at (codes "formula ") (decimal n) text
+explained (TooTall n count) text = explained_at (codes "formula ") (decimal n) text
+explained (TooDeep n token) text = explained_at (codes "formula ") (decimal n) text
+explained (TooMuch kind count) text = explained_whole text
+explained (BadDvi offset cause) text = explained_at (codes "dvi byte ") (decimal offset) text
+explained OutOfMemory text = explained_whole text

@@ -1,0 +1,2 @@
+-- the parts of a log line
+pub mod LogParts

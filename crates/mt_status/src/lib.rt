@@ -1,0 +1,13 @@
+//! How a run ends: [`Status`], the number and the line of the log of each status, and what it means in words.
+#![tactic(auto)]
+
+mod explanation;
+mod font_refusals;
+mod log;
+mod log_part;
+mod status;
+
+pub use explanation::write_explanation;
+pub use font_refusals::font_refusal;
+pub use log::write_line;
+pub use status::{Much, Status};

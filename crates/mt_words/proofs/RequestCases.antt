@@ -1,0 +1,35 @@
+-- What small command lines ask for.
+use Rattle.std.proofs.Common.{◌≡◌, [], ◌∷◌, refl, codes}
+use Rattle.std.specs.Prelude.{pos, Some, None}
+use Rattle.clap.proofs.OnLiterals.{clap_on_literals}
+use Rattle.mt_words.specs.Request.{request_of}
+use Rattle.mt_words.specs.declared.request.Request.TheVariants.{Set, Read}
+
+case_1 : request_of (codes "mathset" ∷ codes "set" ∷ codes "F" ∷ codes "S" ∷ []) ≡ Some (Set (record { fonts = codes "F"; source = codes "S"; line = pos 30785863 }))
+unfolding clap_on_literals
+case_1 = refl
+
+case_2 : request_of (codes "mathset" ∷ codes "set" ∷ codes "F" ∷ codes "S" ∷ codes "--line" ∷ codes "0" ∷ []) ≡ None
+unfolding clap_on_literals
+case_2 = refl
+
+case_3 : request_of (codes "mathset" ∷ codes "read" ∷ codes "F" ∷ codes "D" ∷ codes "--line" ∷ codes "5" ∷ []) ≡ None
+unfolding clap_on_literals
+case_3 = refl
+
+-- a name may be the empty word, and a number may not
+case_4 : request_of (codes "mathset" ∷ codes "read" ∷ [] ∷ codes "--" ∷ codes "-D" ∷ []) ≡ Some (Read (record { fonts = []; dvi = codes "-D" }))
+unfolding clap_on_literals
+case_4 = refl
+
+case_5 : request_of (codes "mathset" ∷ codes "set" ∷ codes "F" ∷ codes "S" ∷ codes "--line" ∷ [] ∷ []) ≡ None
+unfolding clap_on_literals
+case_5 = refl
+
+case_6 : request_of (codes "mathset" ∷ codes "set" ∷ codes "F" ∷ codes "--line" ∷ codes "+07" ∷ codes "S" ∷ []) ≡ Some (Set (record { fonts = codes "F"; source = codes "S"; line = pos 7 }))
+unfolding clap_on_literals
+case_6 = refl
+
+case_7 : request_of (codes "mathset" ∷ codes "gen" ∷ codes "1" ∷ codes "20001" ∷ []) ≡ None
+unfolding clap_on_literals
+case_7 = refl

@@ -1,0 +1,11 @@
+//! What the words of a command line ask for: [`read_words`] reads them by `clap`.
+#![tactic(auto)]
+
+mod command_line;
+mod forms;
+mod number;
+mod request;
+
+pub use command_line::DEFAULT_LINE;
+pub use forms::read_words;
+pub use request::{DviFile, MAX_COUNT, Request, Sample, Source};
