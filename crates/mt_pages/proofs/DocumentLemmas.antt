@@ -1,6 +1,6 @@
 -- The pages of a document, one after another.
-use Rattle.std.proofs.Common.{◌≡◌, ℕ, ◌+◌, ◌-◌, ◌≤◌, ◌^◌, List, [], ◌∷◌, ◌++◌, length, refl, sym, ◌∙◌, ap, subst, arith}
-use Rattle.std.specs.Prelude.{ℤ, Result, Ok, Err, Option, Some, None, All, IfOk, IfSome, sum_by}
+use Rattle.std.proofs.Common.{◌≡◌, ◌+◌, ◌-◌, ◌≤◌, ◌^◌, List, [], ◌∷◌, ◌++◌, length, refl, sym, ◌∙◌, ap, subst, arith}
+use Rattle.std.specs.Prelude.{ℤ, Result, Ok, Err}
 use Rattle.std.proofs.lemmas.List.Sums.{sum_by-append, sum_by-cons}
 use Rattle.mt_scaled.specs.Results.{◌>>=◌}
 use Rattle.mt_family.specs.SetValue.{SetValue}
@@ -10,8 +10,8 @@ use Rattle.mt_display.specs.Lines.{LineValue}
 use Rattle.mt_reader.specs.documents.Weights.{page_weight, pages_weight}
 use Rattle.mt_pages.specs.FormulaLines.{formula_lines}
 use Rattle.mt_pages.specs.Pages.{PageLinesValue, with_formula_lines, no_lines, page_lines, document_lines, document_pages, page_places, pages_places}
-use Rattle.mt_pages.specs.inner.Placed.{PlacedValue, add_page, nothing_placed, place_page, place_rest}
-use Rattle.mt_status.specs.Origins.{IsPure, PureBy, Told, origin_of, refusal_origin}
+use Rattle.mt_pages.specs.inner.Placed.{PlacedValue, add_page, nothing_placed, place_rest}
+use Rattle.mt_status.specs.Origins.{IsPure, refusal_origin}
 use Rattle.mt_status.specs.declared.status.Status.{Status}
 use Rattle.mt_status.proofs.PureLemmas.{pure_err, pure_by}
 
@@ -28,7 +28,7 @@ page_err set width page f fs status is = pure_err (formula_lines set width f) (�
 
 -- ---- the pages of a document
 
--- the pages of a document that are left, behind those that are placed
+-- the pages of a document that are left, after those that are placed
 abbrev pub rest_pages : SetValue → ℤ → Result PlacedValue Status → List (List Formula) → Result (List (List Place)) Status
 rest_pages set width placed pages = document_lines set width pages >>= place_rest placed
 
@@ -67,9 +67,9 @@ pages_err set width placed page pages status is =
     (λ same. ap (λ (r : Result PageLinesValue Status). (r >>= (λ ls. document_lines set width pages >>= (λ rest. Ok (ls ∷ rest)))) >>= place_rest placed) same) is
 
 -- a page of a document whose formulas are few has few formulas
-pub page_fits : (before : List (List Formula)) (page : List Formula) (behind rest all : List (List Formula)) → rest ≡ page ∷ behind → before ++ rest ≡ all → pages_weight all ≤ 2 ^ 21
+pub page_fits : (before : List (List Formula)) (page : List Formula) (later rest all : List (List Formula)) → rest ≡ page ∷ later → before ++ rest ≡ all → pages_weight all ≤ 2 ^ 21
     → page_weight page ≤ 2 ^ 21
-page_fits before page behind rest all steps left few =
-    let whole : before ++ page ∷ behind ≡ all = ap (λ (l : List (List Formula)). before ++ l) (sym steps) ∙ left in
-    let weight : pages_weight (before ++ page ∷ behind) ≤ 2 ^ 21 = subst (λ (l : List (List Formula)). pages_weight l ≤ 2 ^ 21) (sym whole) few in
-    omega (arith, weight, sum_by-append page_weight before (page ∷ behind), sum_by-cons page_weight page behind)
+page_fits before page later rest all steps left few =
+    let whole : before ++ page ∷ later ≡ all = ap (λ (l : List (List Formula)). before ++ l) (sym steps) ∙ left in
+    let weight : pages_weight (before ++ page ∷ later) ≤ 2 ^ 21 = subst (λ (l : List (List Formula)). pages_weight l ≤ 2 ^ 21) (sym whole) few in
+    omega (arith, weight, sum_by-append page_weight before (page ∷ later), sum_by-cons page_weight page later)

@@ -1,34 +1,26 @@
 -- The lines of a formula, and of the formulas of a page.
-use Rattle.std.proofs.Common.{◌≡◌, ℕ, suc, ◌+◌, ◌*◌, ◌-◌, ◌≤◌, ◌<◌, ◌^◌, List, [], ◌∷◌, ◌++◌, length, take, refl, sym, ◌∙◌, ap, subst, arith, to_z, of_z, w64}
-use Rattle.std.proofs.lemmas.Int.{ints}
-use Rattle.std.specs.Prelude.{ℤ, pos, ◌≤ℤ◌, Option, Some, None, Result, Ok, Err, All, IfOk, IfSome, replicate}
-use Rattle.std.specs.Option.{option_map}
+use Rattle.std.proofs.Common.{◌≡◌, ℕ, suc, ◌+◌, ◌*◌, ◌-◌, ◌≤◌, ◌<◌, ◌^◌, List, [], ◌∷◌, ◌++◌, length, take, refl, sym, ◌∙◌, ap, subst, arith}
+use Rattle.std.specs.Prelude.{Option, Some, None, replicate}
 use Rattle.std.proofs.lemmas.List.{length-append, take_all}
 use Rattle.std.proofs.lemmas.List.Sums.{sum_by-append, sum_by-cons}
-use Rattle.std.proofs.lemmas.List.Elements.{All-append, All-cons, All-head, All-nil, All-tail}
+use Rattle.std.proofs.lemmas.List.Elements.{All-append, All-nil}
 use Rattle.mt_scaled.specs.Number.{Within}
 use Rattle.mt_family.specs.SetValue.{SetValue}
-use Rattle.mt_box.specs.declared.error.PackError.{PackError}
 use Rattle.mt_box.specs.declared.piece.Piece.{Piece}
 use Rattle.mt_box.specs.declared.piece.Piece.TheVariants.{Glyph, Boxed, Kern, Space}
-use Rattle.mt_box.specs.Rows.{AllMeasurable, AllModest, IsMeasurable, IsModest, PieceValue, level_of_piece, piece_values, row_level}
-use Rattle.mt_box.proofs.Still.{PieceHas}
+use Rattle.mt_box.specs.Rows.{AllMeasurable, AllModest, IsMeasurable, IsModest, level_of_piece, piece_values, row_level}
 use Rattle.mt_reader.specs.documents.Weights.{formula_weight, page_weight}
 use Rattle.mt_rules.specs.declared.document.Formula.{Formula}
 use Rattle.mt_rules.specs.Modest.{IsModestList, list_nesting}
 use Rattle.mt_rules.specs.Sequence.{Sequence}
-use Rattle.mt_rules.specs.Setting.{Setting}
 use Rattle.mt_convert.specs.Halfway.{RowFits}
 use Rattle.mt_convert.specs.Holding.{PlaceHolds, RowHolds}
 use Rattle.mt_display.specs.declared.line.Line.{Line as LineFields}
 use Rattle.mt_display.specs.Displays.{NumberValue}
-use Rattle.mt_display.specs.Lines.{LineValue, LinesAnswer, LinesFit, line_value, line_values}
+use Rattle.mt_display.specs.Lines.{LineValue, line_value, line_values}
 use Rattle.mt_display.proofs.PagePlaces.{LineHas, NumberHas}
-use Rattle.mt_pages.specs.FormulaLines.{set_by}
 use Rattle.mt_pages.specs.Pages.{PageLinesValue, with_formula_lines}
 use Rattle.mt_pages.specs.inner.Lines.{AreLaid, LinesHold, LinesStack, NumberHolds, RowStands}
-use Rattle.mt_status.specs.Origins.{IsPure}
-use Rattle.mt_status.specs.declared.status.Status.{Status}
 use Rattle.mt_pages.proofs.PageLemmas.{row_has}
 
 modest_piece : (p : Piece) → IsMeasurable p → level_of_piece p < 2 ^ 20 → IsModest p
@@ -79,14 +71,14 @@ laid_stack set n ls laid le = record { few = omega (arith, laid.few, le); shifts
 abbrev pub page_of : List LineValue → List ℕ → PageLinesValue
 page_of lines formulas = record { lines = lines; formulas = formulas }
 
--- a list that is filled up behind its end
+-- a list that is filled up after its end
 pub filled_up : (a b : ℕ) (old new : List ℕ) (x : ℕ) → length old ≡ a → new ≡ take (a + b) old ++ replicate ((a + b) - a) x → new ≡ old ++ replicate b x
 filled_up a b old new x len is =
     let all : take (a + b) old ≡ old = take_all (a + b) old (omega (arith, len)) in
     let more : (a + b) - a ≡ b = omega arith in
     is ∙ rw (all, more) refl
 
--- the lines of formula n behind those of a page
+-- the lines of formula n after those of a page
 pub page_append : (old new ls : List LineFields) (old_formulas new_formulas : List ℕ) (n : ℕ) → new ≡ old ++ ls → new_formulas ≡ old_formulas ++ replicate (length ls) n
     → page_of (line_values new) new_formulas ≡ with_formula_lines (page_of (line_values old) old_formulas) n (line_values ls)
 page_append old new ls old_formulas new_formulas n is has =

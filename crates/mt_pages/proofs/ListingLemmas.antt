@@ -4,7 +4,7 @@ use Rattle.std.proofs.lemmas.List.{at_drop_more}
 use Rattle.mt_box.specs.declared.place.Place.{Place}
 use Rattle.mt_pages.specs.Listing.{page_text, pages_text}
 
--- the text of one more page, in front of that of the pages behind it
+-- the text of one more page, before that of the pages after it
 pub page_pushed : (was now all : List ℕ) (page : List Place) (pages : List (List Place)) (i n : ℕ) (d : List Place) → i < length pages → page ≡ get_or pages i d
     → now ≡ was ++ page_text n page → was ++ pages_text n (drop i pages) ≡ all → now ++ pages_text (n + 1) (drop (i + 1) pages) ≡ all
 page_pushed was now all page pages i n d lt is pushed so_far =

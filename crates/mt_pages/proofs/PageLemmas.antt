@@ -1,13 +1,13 @@
 -- The places of a page can be written, and they are not too many.
 use Rattle.std.proofs.Common.{◌≡◌, ℕ, ◌+◌, ◌-◌, ◌≤◌, List, [], ◌∷◌, ◌++◌, length, refl, sym, ◌∙◌, ap, subst, false, arith}
-use Rattle.std.specs.Prelude.{ℤ, pos, Option, Some, None, Result, Ok, Err, All, IfSome, IsSomeAnd, is_some, nat_lt}
+use Rattle.std.specs.Prelude.{Option, Some, None, Ok, All, IfSome, IsSomeAnd, is_some, nat_lt}
 use Rattle.std.proofs.lemmas.Bool.Decides.{nat_tests}
 use Rattle.std.proofs.lemmas.List.{append-nil, append_assoc, length-append}
 use Rattle.std.proofs.lemmas.List.Elements.{All-append, All-cons, All-head, All-nil, All-tail}
 use Rattle.mt_tfm.specs.Font.{Metrics}
 use Rattle.mt_family.specs.SetValue.{SetValue}
 use Rattle.mt_box.specs.Rows.{PieceValue, PieceGlyph, PieceBox, PieceKern, PieceSpace}
-use Rattle.mt_box.proofs.Room.{PlaceInRange, all_in_range}
+use Rattle.mt_box.proofs.Room.{PlaceInRange}
 use Rattle.mt_box.proofs.Still.{IsStill, PieceHas}
 use Rattle.mt_box.specs.declared.place.Place.{Place}
 use Rattle.mt_box.specs.declared.place.Place.TheVariants.{Glyph, Rule}

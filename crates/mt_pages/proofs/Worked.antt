@@ -172,7 +172,7 @@ case_29 : set (codes "$$aaaa\\eqno bb$$") ≡ Ok ((glyph 1 97 10 ∷ glyph 1 97 
 unfolding computed
 case_29 = refl
 
--- the number is set behind the body, and a formula behind the ones before it
+-- the number is set after the body, and a formula after the ones before it
 case_30 : set (codes "$$a\\eqno+$$ $+$") ≡ Err (MissingChar 1 0 Text 43)
 unfolding computed
 case_30 = refl
@@ -205,7 +205,7 @@ case_24 : source_pages (fonts 1073741820) (pos 100) (codes "$1$ $1a$") ≡ Err (
 unfolding computed
 case_24 = refl
 
--- a place out of range; a formula behind it that cannot be set is refused before
+-- a place out of range; a formula after it that cannot be set is refused before
 case_25 : set (codes "$\\kern1073741823sp\\kern1sp a\\kern-99sp$") ≡ Err (Overflow 1 (pos 1073741824))
 unfolding computed
 case_25 = refl

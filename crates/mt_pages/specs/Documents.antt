@@ -1,7 +1,7 @@
 -- The document of a source (`document_of`), and the status of what is wrong with it (`document_refusal`).
-use Rattle.std.specs.Prelude.{ℕ, List, Result, Ok, Err}
+use Rattle.std.specs.Prelude.{ℕ, List, Option, Some, None, Result, Ok, Err}
 use Rattle.mt_token.specs.declared.token.TokenError.{TokenError}
-use Rattle.mt_token.specs.declared.token.TokenError.TheVariants.{NotAscii, BadByte, TooLong as SourceTooLong, OutOfMemory as NoTokenMemory}
+use Rattle.mt_token.specs.Errors.{token_error_number, token_error_place}
 use Rattle.mt_macro.specs.Expansion.{Expansion, Expanded, OverBudget, NoArgument, NoPartner, ListTooLong}
 use Rattle.mt_family.specs.SetValue.{SetValue}
 use Rattle.mt_family.specs.Sets.{units_of}
@@ -12,23 +12,25 @@ use Rattle.mt_rules.specs.declared.document.Formula.{Formula}
 use Rattle.mt_reader.specs.documents.Documents.{DocumentAnswer, DocumentFault, NotLexed, Outside, NotExpanded, NotRead, TooManyTokens, TooManyPages, OutOfTurns}
 use Rattle.mt_reader.specs.documents.Causes.{outside_number}
 use Rattle.mt_reader.specs.documents.Sources.{source_document}
+use Rattle.mt_status.specs.Codes.{missing_argument}
 use Rattle.mt_status.specs.declared.status.Much.TheVariants.{Pages}
 use Rattle.mt_status.specs.declared.status.Status.{Status}
 use Rattle.mt_status.specs.declared.status.Status.TheVariants.{BadSource, BadFormula, Budget, TooDeep, TooMuch, OutOfMemory}
 
 -- the first byte at fault, and the number of the cause
-abbrev pub token_refusal : TokenError → Status
-token_refusal (NotAscii offset) = BadSource offset 1
-token_refusal (BadByte offset) = BadSource offset 2
+abbrev pub source_byte : Option ℕ → ℕ → Status
+source_byte (Some offset) cause = BadSource offset cause
 -- never comes: the source is no longer than its fetch allows
-token_refusal SourceTooLong = OutOfMemory
-token_refusal NoTokenMemory = OutOfMemory
+source_byte None cause = OutOfMemory
+
+abbrev pub token_refusal : TokenError → Status
+token_refusal e = source_byte (token_error_place e) (token_error_number e)
 
 -- formula n is not expanded
 abbrev pub expansion_refusal : ℕ → Expansion → Status
 expansion_refusal n (OverBudget steps length) = Budget n
 expansion_refusal n ListTooLong = Budget n
-expansion_refusal n (NoArgument place) = BadFormula n place 21
+expansion_refusal n (NoArgument place) = BadFormula n place missing_argument
 -- neither comes: a list that is expanded is no refusal, and each brace of a formula has its partner
 expansion_refusal n (Expanded list) = OutOfMemory
 expansion_refusal n (NoPartner place) = OutOfMemory

@@ -23,14 +23,14 @@ pub record PageLinesValue : Type 0 where
 abbrev pub no_lines : PageLinesValue
 no_lines = record { lines = []; formulas = [] }
 
--- a page with the lines of formula n behind its own
+-- a page with the lines of formula n after its own
 abbrev pub with_formula_lines : PageLinesValue → ℕ → List LineValue → PageLinesValue
 with_formula_lines page n lines = record {
   lines = page.lines ++ lines;
   formulas = page.formulas ++ replicate (length lines) n;
 }
 
--- the lines of formulas, behind those of the formulas before them on the page
+-- the lines of formulas, after those of the formulas before them on the page
 abbrev pub page_lines : SetValue → ℤ → PageLinesValue → List Formula → Result PageLinesValue Status
 page_lines set width page [] = Ok page
 page_lines set width page (f ∷ fs) = do
@@ -59,7 +59,7 @@ placed_by formulas (Err e) = Err (stack_refusal formulas e)
 abbrev pub page_places : ℕ → PageLinesValue → Result (List Place) Status
 page_places room page = placed_by page.formulas (stacked_lines room page.lines)
 
--- the places of pages, behind those of the pages before them, where there is room for so many more
+-- the places of pages, after those of the pages before them, where there is room for so many more
 abbrev pub pages_places : List (List Place) → ℕ → List PageLinesValue → Result (List (List Place)) Status
 pages_places before room [] = Ok before
 pages_places before room (page ∷ pages) = do

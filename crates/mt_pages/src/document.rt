@@ -10,23 +10,19 @@ use mt_family::FontSet;
 use mt_macro::ExpandError;
 use mt_reader::{DocError, ReadError, read_document};
 use mt_rules::Document;
-use mt_status::{Much, Status};
+use mt_status::{MISSING_ARGUMENT, Much, Status};
 use mt_token::TokenError;
 use std::alloc::Global;
 
 fn token_refusal(error: TokenError) -> Status
     ensures { result ≡ token_refusal error }
 {
-    match error {
-        TokenError::NotAscii(offset) => Status::BadSource {
+    match error.place() {
+        Some(offset) => Status::BadSource {
             offset: u64::from(offset),
-            cause: 1,
+            cause: error.number(),
         },
-        TokenError::BadByte(offset) => Status::BadSource {
-            offset: u64::from(offset),
-            cause: 2,
-        },
-        TokenError::TooLong | TokenError::OutOfMemory => Status::OutOfMemory,
+        None => Status::OutOfMemory,
     }
 }
 
@@ -40,7 +36,7 @@ fn expand_refusal(n: u32, error: ExpandError) -> Status
         ExpandError::MissingArgument(token) => Status::BadFormula {
             n,
             token,
-            cause: 21,
+            cause: MISSING_ARGUMENT,
         },
         ExpandError::Unbalanced(_) | ExpandError::OutOfMemory => Status::OutOfMemory,
     }

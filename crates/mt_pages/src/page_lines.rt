@@ -33,7 +33,7 @@ impl PageLines {
         }
     }
 
-    // Puts the lines of formula n behind the others.
+    // Puts the lines of formula n after the others.
     fn append(&mut self, n: u32, lines: Lines) -> Result<(), AllocError>
         ensures lines { OnOk result (self.new.lines.items ≡ self.old.lines.items ++ lines) }
         ensures is { OnOk result (page_value self.new

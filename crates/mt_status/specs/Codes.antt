@@ -1,4 +1,4 @@
--- The numbers of statuses (`code_of`).
+-- The numbers of statuses (`code_of`), and the cause that no error of a layer numbers.
 use Rattle.std.specs.Prelude.{ℕ}
 use Rattle.mt_status.specs.declared.status.Status.{Status}
 use Rattle.mt_status.specs.declared.status.Status.TheVariants.{Done, BadWords, ReadFault, TooLong, WriteFault, FontList, BadTfm, BadFamily, BadSource, BadFormula, Budget, MissingFamily, MissingChar, SmartLigature, Overflow, TooTall, TooDeep, TooMuch, BadDvi, OutOfMemory}
@@ -25,3 +25,7 @@ code_of (TooDeep n token) = 48
 code_of (TooMuch kind count) = 49
 code_of (BadDvi offset cause) = 50
 code_of OutOfMemory = 60
+
+-- the cause of a formula with a macro that lacks an argument
+abbrev pub missing_argument : ℕ
+missing_argument = 21

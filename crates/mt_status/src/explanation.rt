@@ -6,7 +6,7 @@ ghost use Rattle.mt_status.specs.Explanation.{IsLine, explained};
 ghost use Rattle.mt_status.specs.inner.LogParts.{part_bytes};
 
 use crate::log_part::{LogPart, write_parts};
-use crate::status::{Much, Status};
+use crate::status::{MISSING_ARGUMENT, Much, Status};
 use mt_outside::Sink;
 
 const USAGE: &str =
@@ -94,7 +94,7 @@ fn document_cause(cause: u8) -> &'static str
     ensures { IsLine result.now }
 {
     match cause {
-        21 => "a macro without one of its arguments",
+        MISSING_ARGUMENT => "a macro without one of its arguments",
         31 => "this token cannot stand outside of formulas",
         32 => "a formula without end, or with a } that closes no group",
         33 => "\\def without a name, or with a bad parameter",

@@ -10,12 +10,12 @@ impl From<ListError> for Status {
     ghost from_gives = { λ error status. status ≡ list_refusal error };
 
     fn from(error: ListError) -> Self {
-        match error {
-            ListError::BadLine(line) => Status::FontList { line, cause: 1 },
-            ListError::Repeated(line) => Status::FontList { line, cause: 2 },
-            ListError::UnknownFont(line) => Status::FontList { line, cause: 3 },
-            ListError::TooMany(line) => Status::FontList { line, cause: 4 },
-            ListError::OutOfMemory => Status::OutOfMemory,
+        match error.place() {
+            Some(line) => Status::FontList {
+                line,
+                cause: error.number(),
+            },
+            None => Status::OutOfMemory,
         }
     }
 }
@@ -24,17 +24,18 @@ impl From<ListError> for Status {
 pub fn font_refusal(font: u32, error: TfmError) -> Status
     ensures { result ≡ font_refusal font error }
 {
+    let cause = error.number();
     match error {
-        TfmError::Truncated => Status::BadTfm { font, cause: 1 },
-        TfmError::BadCounts => Status::BadTfm { font, cause: 2 },
-        TfmError::BadHeader => Status::BadTfm { font, cause: 3 },
-        TfmError::BadIndex(_) => Status::BadTfm { font, cause: 4 },
-        TfmError::ChainCycle(_) => Status::BadTfm { font, cause: 5 },
-        TfmError::BadFix { .. } => Status::BadTfm { font, cause: 6 },
-        TfmError::BadZero(_) => Status::BadTfm { font, cause: 7 },
-        TfmError::BadProgram(_) => Status::BadTfm { font, cause: 8 },
-        TfmError::BadRecipe(_) => Status::BadTfm { font, cause: 9 },
         TfmError::OutOfMemory => Status::OutOfMemory,
+        TfmError::Truncated
+        | TfmError::BadCounts
+        | TfmError::BadHeader
+        | TfmError::BadIndex(_)
+        | TfmError::ChainCycle(_)
+        | TfmError::BadFix { .. }
+        | TfmError::BadZero(_)
+        | TfmError::BadProgram(_)
+        | TfmError::BadRecipe(_) => Status::BadTfm { font, cause },
     }
 }
 
@@ -42,17 +43,11 @@ impl From<SetError> for Status {
     ghost from_gives = { λ error status. status ≡ font_set_refusal error };
 
     fn from(error: SetError) -> Self {
+        let cause = error.number();
         match error {
-            SetError::NoMathFamily { fam, size } => Status::BadFamily {
-                fam,
-                size,
-                cause: 1,
-            },
-            SetError::FewParameters { fam, size } => Status::BadFamily {
-                fam,
-                size,
-                cause: 2,
-            },
+            SetError::NoMathFamily { fam, size } | SetError::FewParameters { fam, size } => {
+                Status::BadFamily { fam, size, cause }
+            }
             SetError::OutOfMemory => Status::OutOfMemory,
         }
     }

@@ -10,4 +10,4 @@ mod status;
 pub use explanation::write_explanation;
 pub use font_refusals::font_refusal;
 pub use log::write_line;
-pub use status::{Much, Status};
+pub use status::{MISSING_ARGUMENT, Much, Status};

@@ -7,6 +7,10 @@ use mt_family::Size;
 use mt_scaled::Name;
 use std::alloc::{AllocError, AllocFailed};
 
+/// The cause of `BadFormula` where a macro lacks an argument. The other causes are the numbers of
+/// errors of the layers below.
+pub const MISSING_ARGUMENT: u8 = 21;
+
 /// Of what a run has too much.
 #[derive(Clone, Copy, Debug, PartialEq, Eq)]
 pub enum Much {

@@ -80,7 +80,10 @@ fn command_line<'a>(alloc: Global) -> Result<Command<'a>, AllocError>
 /// # Errors
 ///
 /// `AllocError` where memory ran out.
-pub fn match_words<'a>(alloc: Global, words: &'a [String]) -> Result<Option<ArgMatches<'a>>, AllocError>
+pub fn match_words<'a>(
+    alloc: Global,
+    words: &'a [String],
+) -> Result<Option<ArgMatches<'a>>, AllocError>
     ensures { IfOk result (λ found. option_map (λ matches. rows_of (found_of matches)) found
         ≡ found_rows (map string_bytes words.now)) }
 {

@@ -1,5 +1,5 @@
 -- What a step leaves of its cabinet (`IsStep`).
-use Rattle.std.specs.Prelude.{◌≡◌, ◌≤◌, ℕ, List, Option, Some, Result, Ok, Err, Contains, ⊤}
+use Rattle.std.specs.Prelude.{◌≡◌, ◌≤◌, ℕ, List, Option, Some, Result, Contains, ⊤}
 use Rattle.mt_outside.specs.Counts.{Rose}
 use Rattle.mt_outside.specs.declared.files.Held.{Held}
 use Rattle.mt_outside.specs.declared.cabinet.FetchError.{FetchError}

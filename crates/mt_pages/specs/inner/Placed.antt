@@ -39,7 +39,7 @@ add_page page placed = do
   p ← placed
   place_page page p
 
--- the pages that are left, behind those that are placed
+-- the pages that are left, after those that are placed
 abbrev pub place_rest : Result PlacedValue Status → List PageLinesValue → Result (List (List Place)) Status
 place_rest placed pages = do
   p ← placed

@@ -2,7 +2,7 @@ use Rattle.std.proofs.Common.{rules, ◌≡◌, ◌∙◌, ◌+◌, ◌≤◌, L
 use Rattle.std.specs.Prelude.{All, Result}
 use Rattle.std.specs.Vec.Iter.{into_iter_items}
 use Rattle.std.proofs.lemmas.List.{length-append}
-use Rattle.std.proofs.lemmas.List.Elements.{All-head, All-tail}
+use Rattle.std.proofs.lemmas.List.Elements.{All-tail}
 use Rattle.mt_reader.specs.documents.Weights.{HasModestLists, page_weight}
 use Rattle.mt_rules.specs.declared.document.Formula.{Formula}
 use Rattle.mt_pages.specs.Pages.{document_pages}
