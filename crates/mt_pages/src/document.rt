@@ -47,21 +47,21 @@ fn read_refusal(n: u32, error: ReadError) -> Status
     ensures { (answer : DocumentAnswer) → IsReadRefusal n error answer
         → document_from answer ≡ Err result }
 {
-    let (token, cause) = match error {
-        ReadError::UnknownName(token) => (token, 1),
-        ReadError::DoubleScript(token) => (token, 2),
-        ReadError::TwoFractions(token) => (token, 3),
-        ReadError::BadDelimiter(token) => (token, 4),
-        ReadError::Unbalanced(token) => (token, 5),
-        ReadError::MisplacedLimits(token) => (token, 6),
-        ReadError::MissingField(token) => (token, 7),
-        ReadError::BadNumber(token) => (token, 8),
-        ReadError::BadDimension(token) => (token, 9),
-        ReadError::MisplacedNumber(token) => (token, 10),
-        ReadError::TooDeep(token) => return Status::TooDeep { n, token },
-        ReadError::OutOfMemory => return Status::OutOfMemory,
-    };
-    Status::BadFormula { n, token, cause }
+    let cause = error.number();
+    match error {
+        ReadError::UnknownName(token)
+        | ReadError::DoubleScript(token)
+        | ReadError::TwoFractions(token)
+        | ReadError::BadDelimiter(token)
+        | ReadError::Unbalanced(token)
+        | ReadError::MisplacedLimits(token)
+        | ReadError::MissingField(token)
+        | ReadError::BadNumber(token)
+        | ReadError::BadDimension(token)
+        | ReadError::MisplacedNumber(token) => Status::BadFormula { n, token, cause },
+        ReadError::TooDeep(token) => Status::TooDeep { n, token },
+        ReadError::OutOfMemory => Status::OutOfMemory,
+    }
 }
 
 fn document_refusal(error: DocError) -> Status
