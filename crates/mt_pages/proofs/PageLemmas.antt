@@ -5,6 +5,7 @@ use Rattle.std.proofs.lemmas.Bool.Decides.{nat_tests}
 use Rattle.std.proofs.lemmas.List.{append-nil, append_assoc, length-append}
 use Rattle.std.proofs.lemmas.List.Elements.{All-append, All-cons, All-head, All-nil, All-tail}
 use Rattle.mt_tfm.specs.Font.{Metrics}
+use Rattle.mt_reader.specs.documents.Limits.{max_document_pages}
 use Rattle.mt_family.specs.SetValue.{SetValue}
 use Rattle.mt_box.specs.Rows.{PieceValue, PieceGlyph, PieceBox, PieceKern, PieceSpace}
 use Rattle.mt_box.proofs.Room.{PlaceInRange}
@@ -75,7 +76,7 @@ less_room pages page room fits full =
     omega (arith, more, fits, full)
 
 -- pages with no more places than there may be are not refused
-pub pages_few : (pages : List (List Place)) → length pages ≤ 5000 → length (all_places pages) ≤ max_places → refusal_of pages ≡ None
+pub pages_few : (pages : List (List Place)) → length pages ≤ max_document_pages → length (all_places pages) ≤ max_places → refusal_of pages ≡ None
 pages_few pages few places =
     let pages_in : nat_lt max_dvi_pages (length pages) ≡ false = grind (arith, nat_tests) in
     let places_in : nat_lt max_places (length (all_places pages)) ≡ false = grind (arith, nat_tests) in

@@ -1,6 +1,7 @@
 //! The document of a source.
 ghost use Rattle.std.specs.Prelude.{◌≡◌, ◌≤◌, ◌^◌, IfOk, length};
 ghost use Rattle.mt_reader.specs.documents.Documents.{DocumentAnswer};
+ghost use Rattle.mt_reader.specs.documents.Limits.{max_document_pages};
 ghost use Rattle.mt_reader.specs.documents.Refusals.{IsExpandRefusal, IsReadRefusal, IsRefusal};
 ghost use Rattle.mt_reader.specs.documents.Weights.{IsModestDocument, pages_weight};
 ghost use Rattle.mt_status.specs.Origins.{IsPure};
@@ -105,7 +106,7 @@ pub fn document_of(alloc: Global, fonts: &FontSet, source: &[u8]) -> Result<Docu
     ensures is { IsPure (document_of fonts.now source.now) result }
     ensures modest { IfOk result IsModestDocument }
     ensures few { IfOk result (λ pages. pages_weight pages ≤ 2 ^ 21) }
-    ensures pages { IfOk result (λ pages. length pages ≤ 5000) }
+    ensures pages { IfOk result (λ pages. length pages ≤ max_document_pages) }
 {
     match read_document(alloc, fonts.units(), source) {
         Ok(document) => Ok(document),

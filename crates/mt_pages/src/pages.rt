@@ -5,6 +5,7 @@ ghost use Rattle.mt_box.specs.declared.place.Place.{Place as PlaceFields};
 ghost use Rattle.mt_display.specs.Lines.{line_values};
 ghost use Rattle.mt_dvi.specs.Refusal.{refusal_of};
 ghost use Rattle.mt_dvi.specs.Writable.{IsWritable};
+ghost use Rattle.mt_reader.specs.documents.Limits.{max_document_pages};
 ghost use Rattle.mt_reader.specs.documents.Weights.{IsModestDocument, pages_weight};
 ghost use Rattle.mt_pages.specs.Pages.{document_pages, page_places, stack_refusal};
 ghost use Rattle.mt_pages.specs.LineWidth.{IsLineWidth};
@@ -134,7 +135,7 @@ pub fn document_pages(
     requires width { IsLineWidth width }
     requires modest { IsModestDocument document }
     requires few { pages_weight document ≤ 2 ^ 21 }
-    requires pages { length document ≤ 5000 }
+    requires pages { length document ≤ max_document_pages }
     ensures is { IsPure (document_pages fonts.now width document) result }
     ensures writable { IfOk result (λ pages. All (λ page. All (IsWritable fonts.now) page) pages) }
     ensures few_places { IfOk result (λ pages. refusal_of pages ≡ None) }
