@@ -44,15 +44,15 @@ abbrev pub scripted_atom : Option AtomValue → AtomValue
 scripted_atom None = plain_atom (Plain Ord) EmptyPart
 scripted_atom (Some a) = a
 
-abbrev pub is_empty : Part → Bool
-is_empty EmptyPart = true
-is_empty _ = false
+abbrev pub is_empty_field : Part → Bool
+is_empty_field EmptyPart = true
+is_empty_field _ = false
 
 -- no superscript, or no subscript, is there yet
 abbrev pub is_free : Side → Option AtomValue → Bool
 is_free side None = true
-is_free Up (Some a) = is_empty a.sup
-is_free Down (Some a) = is_empty a.sub
+is_free Up (Some a) = is_empty_field a.sup
+is_free Down (Some a) = is_empty_field a.sub
 
 abbrev pub is_op_kind : Kind → Bool
 is_op_kind (Plain Op) = true
@@ -78,7 +78,7 @@ only_atom (More (AtomElement kind limits nucleus sup sub) End) =
 only_atom _ = None
 
 abbrev pub is_bare_ord : AtomValue → Bool
-is_bare_ord a = is_ord_kind a.kind && (is_empty a.sup && is_empty a.sub)
+is_bare_ord a = is_ord_kind a.kind && (is_empty_field a.sup && is_empty_field a.sub)
 
 abbrev pub nucleus_of_atom : Option AtomValue → Sequence → Part
 nucleus_of_atom None list = ListPart list

@@ -4,7 +4,7 @@ ghost use Rattle.mt_rules.specs.Sequence.{RowsPart};
 ghost use Rattle.mt_rules.specs.declared.kind.Kind.TheVariants.{Vcenter};
 ghost use Rattle.mt_rules.specs.View.{element_of, part_of_field};
 ghost use Rattle.mt_scan.specs.Role.{nucleus_kind};
-ghost use Rattle.mt_formula.specs.Atoms.{element_of_atom, plain_atom, scripted_atom, is_empty, is_free};
+ghost use Rattle.mt_formula.specs.Atoms.{element_of_atom, plain_atom, scripted_atom, is_empty_field, is_free};
 ghost use Rattle.mt_formula.specs.Atoms.{is_op_kind, is_op, with_script, with_limits};
 ghost use Rattle.mt_formula.specs.machine.Facts.{stands_inside, holds_rows};
 ghost use Rattle.mt_formula.specs.machine.OpenLists.{atom_value, last_atom_value, last_atom_of};
@@ -113,8 +113,8 @@ pub fn with_script(
     })
 }
 
-fn is_empty(part: &Field) -> bool
-    ensures { result ≡ is_empty (part_of_field part.now) }
+fn is_empty_field(part: &Field) -> bool
+    ensures { result ≡ is_empty_field (part_of_field part.now) }
 {
     matches!(part, Field::Empty)
 }
@@ -126,8 +126,8 @@ pub fn is_free(side: Side, last: &Option<LastAtom>) -> bool
     match last {
         None => true,
         Some(last) => match side {
-            Side::Up => is_empty(&last.atom.sup),
-            Side::Down => is_empty(&last.atom.sub),
+            Side::Up => is_empty_field(&last.atom.sup),
+            Side::Down => is_empty_field(&last.atom.sub),
         },
     }
 }
