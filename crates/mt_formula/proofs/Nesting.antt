@@ -4,6 +4,7 @@ use Rattle.std.specs.Prelude.{◌-◌, drop, ⊤}
 use Rattle.mt_token.specs.declared.token.Token.{Token}
 use Rattle.mt_scaled.specs.declared.unit.Units.{Units}
 use Rattle.mt_macro.specs.Braces.{Taken, group as group_taken}
+use Rattle.mt_macro.specs.Limits.{max_tokens}
 use Rattle.mt_rules.specs.declared.class.Class.TheVariants.{Inner}
 use Rattle.mt_rules.specs.declared.kind.Kind.TheVariants.{Plain, Vcenter}
 use Rattle.mt_rules.specs.declared.symbol.Delim.{Delim}
@@ -374,9 +375,9 @@ modest_of n count (Got f rest) g b h = (modest_list f.0 g.0 (omega (arith, b, h)
 modest_of n count (Fault cause left) g b h = tt
 modest_of n count NoTurn g b h = tt
 
--- at most 50,000 tokens make modest lists
-pub reading_modest : (tables : CodeTables) (units : Units) (display : Bool) (tokens : List Token) → length tokens ≤ 50000 → IsModestReading (reading tables units display tokens)
+-- at most this many tokens make modest lists
+pub reading_modest : (tables : CodeTables) (units : Units) (display : Bool) (tokens : List Token) → length tokens ≤ max_tokens → IsModestReading (reading tables units display tokens)
 reading_modest tables units display tokens h = modest_of (4 * length tokens) (length tokens) (formula tables units (item_run tables units (length tokens + 1)) display tokens) (formula_fits tables units (item_run tables units (length tokens + 1)) (item_run_fits tables units (length tokens + 1)) (item_run_within tables units (length tokens + 1)) display tokens) (reading_bound tables units display tokens) (omega (arith, h))
 
-pub formula_modest : (tables : CodeTables) (units : Units) (display : Bool) (tokens : List Token) (f : FormulaParts) → reading tables units display tokens ≡ Reads f.0 f.1 → length tokens ≤ 50000 → IsModestFormula f
+pub formula_modest : (tables : CodeTables) (units : Units) (display : Bool) (tokens : List Token) (f : FormulaParts) → reading tables units display tokens ≡ Reads f.0 f.1 → length tokens ≤ max_tokens → IsModestFormula f
 formula_modest tables units display tokens f e h = subst IsModestReading e (reading_modest tables units display tokens h)

@@ -1,6 +1,7 @@
 //! Formulas.
 ghost use Rattle.std.specs.Prelude.{◌≡◌, ◌≤◌, ◌^◌, ◌+◌, ◌*◌, length, IfOk};
 ghost use Rattle.mt_scaled.specs.Number.{Within};
+ghost use Rattle.mt_macro.specs.Limits.{max_tokens};
 ghost use Rattle.mt_scan.specs.Parts.{Read};
 ghost use Rattle.mt_formula.specs.Answers.{IsFault, ReadsAs};
 ghost use Rattle.mt_formula.specs.Counts.{formula_items, IsModestFormula};
@@ -122,7 +123,7 @@ pub fn read_formula(
     requires ex { Within (2 ^ 31) units.ex }
     ensures is { ReadsAs result (reading codes.now units display list.now) }
     ensures items { IfOk result (λ formula. formula_items formula ≤ 4 * length list.now + 8) }
-    ensures modest { length list.now ≤ 50000 → IfOk result IsModestFormula }
+    ensures modest { length list.now ≤ max_tokens → IfOk result IsModestFormula }
 {
     match formula_parts(alloc, codes, units, display, list) {
         Ok(formula) => Ok(formula),

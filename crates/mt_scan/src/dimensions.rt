@@ -1,6 +1,6 @@
 //! Dimensions and glue.
-ghost use Rattle.std.specs.Prelude.{◌≡◌, ◌≤◌, ◌^◌, codes, length, IfOk, IfSome};
-ghost use Rattle.mt_scaled.specs.Number.{Within, max_dimen};
+ghost use Rattle.std.specs.Prelude.{◌≡◌, ◌≤◌, ◌^◌, length, IfOk, IfSome};
+ghost use Rattle.mt_scaled.specs.Number.{Within};
 ghost use Rattle.mt_scan.specs.Numbers.{with_sign};
 ghost use Rattle.mt_scan.specs.Dimensions.{is_dimension, dimension_of, dimension_from, dimension};
 ghost use Rattle.mt_scan.specs.Dimensions.{after_letters, amount, glue};

@@ -3,7 +3,7 @@ ghost use Rattle.std.specs.Prelude.{◌≡◌, ◌≤◌, ◌<◌, ◌^◌, pos,
 ghost use Rattle.mt_scaled.specs.Number.{Within, max_dimen};
 ghost use Rattle.mt_scaled.specs.Units.{unit_length, font_length};
 ghost use Rattle.mt_scan.specs.Dimensions.{small_letter, letter, measures, begins_measure, measure_of};
-ghost use Rattle.mt_scan.specs.Dimensions.{second_letter, after_first_letter, measure, length_of};
+ghost use Rattle.mt_scan.specs.Dimensions.{after_first_letter, measure, length_of};
 ghost use Rattle.mt_scan.specs.Meets.{Meets};
 
 use crate::decimals::{Decimal, bad_dimension};

@@ -1,5 +1,5 @@
 //! The lists of a choice.
-ghost use Rattle.std.specs.Prelude.{◌≡◌, ◌≤◌, ◌+◌, List, length, reverse, IfOk};
+ghost use Rattle.std.specs.Prelude.{◌≡◌, ◌≤◌, ◌+◌, length, reverse, IfOk};
 ghost use Rattle.mt_scaled.specs.declared.unit.Units.{Units};
 ghost use Rattle.mt_formula.specs.declared.open.open_list.Owner.TheVariants.{Choice};
 ghost use Rattle.mt_formula.specs.machine.OpenLists.{inner_sequence};

@@ -1,5 +1,6 @@
 //! Primes, and the argument after `^`.
-ghost use Rattle.std.specs.Prelude.{◌≡◌, ◌≤◌, ◌<◌, ◌+◌, ◌∷◌, length, take, drop, reverse, IfOk, IfSome, OnOk, None, Some};
+ghost use Rattle.std.specs.Prelude.{◌≡◌, ◌≤◌, ◌<◌, ◌+◌, ◌∷◌, length, take, drop, reverse};
+ghost use Rattle.std.specs.Prelude.{IfOk, IfSome, OnOk, None, Some};
 ghost use Rattle.mt_rules.specs.Sequence.{ListPart};
 ghost use Rattle.mt_rules.specs.View.{part_of_field};
 ghost use Rattle.mt_scaled.specs.declared.unit.Units.{Units};

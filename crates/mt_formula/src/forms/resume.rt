@@ -1,9 +1,9 @@
 //! What a group stands for, and what it makes of the list in which it stands.
-ghost use Rattle.std.specs.Prelude.{◌≡◌, ◌≤◌, true, false, drop, length, is_some, Some, IfOk};
+ghost use Rattle.std.specs.Prelude.{◌≡◌, ◌≤◌, true, false, drop, length, IfOk};
 ghost use Rattle.mt_rules.specs.Sequence.{ChoiceElement};
 ghost use Rattle.mt_rules.specs.View.{element_of, part_of_field};
 ghost use Rattle.mt_scan.specs.Role.{nucleus_kind};
-ghost use Rattle.mt_formula.specs.Atoms.{only_atom, nucleus_of, group_atom, nucleus_atom, InGroup};
+ghost use Rattle.mt_formula.specs.Atoms.{nucleus_of, group_atom, nucleus_atom, InGroup};
 ghost use Rattle.mt_formula.specs.machine.Facts.{holds_rows, no_boundary, stands_inside};
 ghost use Rattle.mt_formula.specs.machine.OpenLists.{inner_sequence, last_atom_value, is_only_bare};
 ghost use Rattle.mt_formula.specs.machine.Resumes.{ResumesNucleus, ResumesScript, ResumesChoice};

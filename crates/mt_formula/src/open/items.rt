@@ -3,7 +3,6 @@ ghost use Rattle.std.specs.Prelude.{◌≡◌, true, false, IfOk, OnOk, MatchOpt
 ghost use Rattle.mt_rules.specs.Sequence.{End, More};
 ghost use Rattle.mt_rules.specs.View.{element_of, sequence_of};
 ghost use Rattle.mt_formula.specs.Atoms.{append, last_atom_items, only_atom, is_bare_ord, is_accent_kind};
-ghost use Rattle.mt_formula.specs.Groups.{between_boundaries};
 ghost use Rattle.std.specs.Option.{option_map};
 ghost use Rattle.mt_formula.specs.machine.Facts.{stands_inside, is_inside};
 ghost use Rattle.mt_formula.specs.machine.OpenLists.{fits_option, inner_sequence, last_atom_value, last_atom_of};
@@ -11,7 +10,7 @@ ghost use Rattle.mt_formula.specs.machine.OpenLists.{atom_value, is_only_bare, i
 
 use crate::open::last_atom::into_item;
 use crate::open::open_list::{InnerItems, LastAtom};
-use mt_rules::{Atom, Class, Delim, Field, Item, Kind, MathList};
+use mt_rules::{Atom, Class, Field, Item, Kind, MathList};
 use std::alloc::{AllocError, Global};
 
 /// No items.

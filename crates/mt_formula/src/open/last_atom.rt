@@ -1,5 +1,5 @@
 //! The last atom: how it is made, and what it becomes.
-ghost use Rattle.std.specs.Prelude.{◌≡◌, true, false, not, IfOk};
+ghost use Rattle.std.specs.Prelude.{◌≡◌, true, false, IfOk};
 ghost use Rattle.mt_rules.specs.Sequence.{RowsPart};
 ghost use Rattle.mt_rules.specs.declared.kind.Kind.TheVariants.{Vcenter};
 ghost use Rattle.mt_rules.specs.View.{element_of, part_of_field};

@@ -5,7 +5,8 @@ ghost use Rattle.mt_rules.specs.Sequence.{End, More, FractionElement};
 ghost use Rattle.mt_rules.specs.View.{element_of, part_of_field};
 ghost use Rattle.mt_formula.specs.Atoms.{append, last_atom_items, with_script, with_limits};
 ghost use Rattle.mt_formula.specs.machine.Facts.{stands_inside, holds_rows};
-ghost use Rattle.mt_formula.specs.machine.OpenLists.{inner_sequence, items_of, last_atom_value, last_atom_of, numerator_of};
+ghost use Rattle.mt_formula.specs.machine.OpenLists.{inner_sequence, items_of, numerator_of};
+ghost use Rattle.mt_formula.specs.machine.OpenLists.{last_atom_value, last_atom_of};
 ghost use Rattle.mt_formula.specs.machine.OpenLists.{finished_items, Begins, Becomes, Divides};
 ghost use Rattle.mt_scan.specs.Limits.{max_groups};
 
