@@ -8,7 +8,8 @@ ghost use Rattle.mt_reader.specs.documents.Documents.{after_expansion, formula_t
 ghost use Rattle.mt_reader.specs.documents.Documents.{is_page_limit, turn_by, outside_role, Goes};
 ghost use Rattle.mt_macro.specs.Expansion.{Expanded, expansion};
 ghost use Rattle.mt_formula.specs.Formulas.{reading};
-ghost use Rattle.mt_reader.specs.documents.DocumentTurns.{state_of, MeetsTurn, Spends, ReadsOne, expand_error, read_error};
+ghost use Rattle.mt_reader.specs.documents.DocumentTurns.{state_of, MeetsTurn, Spends, ReadsOne};
+ghost use Rattle.mt_reader.specs.documents.DocumentTurns.{expand_error, read_error};
 ghost use Rattle.mt_reader.specs.documents.Limits.{max_total_tokens};
 ghost use Rattle.mt_macro.specs.Limits.{max_tokens};
 
