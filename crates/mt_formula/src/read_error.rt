@@ -1,8 +1,9 @@
 //! Why a formula is not read.
 ghost use Rattle.std.specs.Prelude.{◌≡◌};
-ghost use Rattle.mt_formula.specs.Errors.{read_error_number, read_error_place};
+ghost use Rattle.mt_formula.specs.Errors.{read_error_fault, read_error_number, read_error_place};
 ghost use Rattle.mt_formula.specs.declared.read_error.ReadError.TheVariants.{OutOfMemory};
 
+use mt_scan::ReadCause;
 use std::alloc::AllocError;
 use thiserror::Error;
 
@@ -49,23 +50,33 @@ pub enum ReadError {
 }
 
 impl ReadError {
-    /// Its number, from 1 in the order of the variants.
+    /// Its cause, and the index of its token; `None` where memory ran out.
+    pub fn fault(self) -> Option<(ReadCause, u32)>
+        ensures { result ≡ read_error_fault self }
+    {
+        match self {
+            ReadError::UnknownName(place) => Some((ReadCause::UnknownName, place)),
+            ReadError::DoubleScript(place) => Some((ReadCause::DoubleScript, place)),
+            ReadError::TwoFractions(place) => Some((ReadCause::TwoFractions, place)),
+            ReadError::BadDelimiter(place) => Some((ReadCause::BadDelimiter, place)),
+            ReadError::Unbalanced(place) => Some((ReadCause::Unbalanced, place)),
+            ReadError::MisplacedLimits(place) => Some((ReadCause::MisplacedLimits, place)),
+            ReadError::MissingField(place) => Some((ReadCause::MissingField, place)),
+            ReadError::BadNumber(place) => Some((ReadCause::BadNumber, place)),
+            ReadError::BadDimension(place) => Some((ReadCause::BadDimension, place)),
+            ReadError::MisplacedNumber(place) => Some((ReadCause::MisplacedNumber, place)),
+            ReadError::TooDeep(place) => Some((ReadCause::TooDeep, place)),
+            ReadError::OutOfMemory => None,
+        }
+    }
+
+    /// Its number, from 1 in the order of the variants: that of its cause, and 12 for want of memory.
     pub fn number(self) -> u8
         ensures { result ≡ read_error_number self }
     {
-        match self {
-            ReadError::UnknownName(_) => 1,
-            ReadError::DoubleScript(_) => 2,
-            ReadError::TwoFractions(_) => 3,
-            ReadError::BadDelimiter(_) => 4,
-            ReadError::Unbalanced(_) => 5,
-            ReadError::MisplacedLimits(_) => 6,
-            ReadError::MissingField(_) => 7,
-            ReadError::BadNumber(_) => 8,
-            ReadError::BadDimension(_) => 9,
-            ReadError::MisplacedNumber(_) => 10,
-            ReadError::TooDeep(_) => 11,
-            ReadError::OutOfMemory => 12,
+        match self.fault() {
+            Some((cause, _)) => cause.number(),
+            None => 12,
         }
     }
 
@@ -73,19 +84,9 @@ impl ReadError {
     pub fn place(self) -> Option<u32>
         ensures { result ≡ read_error_place self }
     {
-        match self {
-            ReadError::UnknownName(place)
-            | ReadError::DoubleScript(place)
-            | ReadError::TwoFractions(place)
-            | ReadError::BadDelimiter(place)
-            | ReadError::Unbalanced(place)
-            | ReadError::MisplacedLimits(place)
-            | ReadError::MissingField(place)
-            | ReadError::BadNumber(place)
-            | ReadError::BadDimension(place)
-            | ReadError::MisplacedNumber(place)
-            | ReadError::TooDeep(place) => Some(place),
-            ReadError::OutOfMemory => None,
+        match self.fault() {
+            Some((_, place)) => Some(place),
+            None => None,
         }
     }
 }
