@@ -16,6 +16,7 @@ use Rattle.mt_dvi.specs.writer.Stands.{Arrived, StandsWith, WritesPlaces}
 use Rattle.mt_dvi.specs.Machine.{WrittenPlace}
 use Rattle.mt_dvi.specs.WrittenPlaces.{all_places, written_places, numbered_pages, page_counts, numbered_page}
 use Rattle.mt_dvi.specs.writer.Pages.{PagesWritten, WritesPage, WrittenPages, between_pages}
+use Rattle.mt_family.specs.Limits.{max_fonts}
 use Rattle.mt_family.specs.SetValue.{SetValue}
 use Rattle.mt_box.specs.declared.place.Place.{Place}
 use Rattle.mt_dvi.specs.declared.page.Cursor.{Cursor}
@@ -104,7 +105,7 @@ take_whole (x ∷ xs) (suc i) lt = ap (λ (l : List (List Place)). x ∷ l) (tak
 
 -- no page is left
 pub pages_end : (fonts : SetValue) (old_out out defined : List ℕ) (last : ℤ) (all : List (List Place)) (i : ℕ) → length all ≤ i → PagesSoFar fonts old_out out defined last (take i all)
-    → FitsFourBytes last → length defined ≤ 48 → All (λ (n : ℕ). n < length fonts.fonts) defined → PagesWritten fonts old_out out defined last all
+    → FitsFourBytes last → length defined ≤ max_fonts → All (λ (n : ℕ). n < length fonts.fonts) defined → PagesWritten fonts old_out out defined last all
 pages_end fonts old_out out defined last all i lt so_far fits few there =
     let whole = subst (λ (pages : List (List Place)). PagesSoFar fonts old_out out defined last pages) (take_whole all i lt) so_far in
     record { used = whole.used; written = whole.written; long = whole.long; last_fits = fits; few = few; there = there }
@@ -164,7 +165,7 @@ pages_next fonts old_out out new_out defined new_defined last all i d number lt 
     (subst (λ (k : ℕ). WritesPage fonts out new_out defined new_defined k last (get_or all i d)) n one) long)
 
 pub pages_size : (fonts : SetValue) (old_out out defined : List ℕ) (last : ℤ) (all : List (List Place)) (i : ℕ) → PagesSoFar fonts old_out out defined last (take i all)
-    → length old_out ≤ 15 → length all ≤ max_dvi_pages → length (all_places all) ≤ max_places → length defined ≤ 48 → i ≤ length all → length out ≤ 41027633
+    → length old_out ≤ 15 → length all ≤ max_dvi_pages → length (all_places all) ≤ max_places → length defined ≤ max_fonts → i ≤ length all → length out ≤ 41027633
 pages_size fonts old_out out defined last all i so_far first few places fonts_few lt =
     let a = so_far.long in omega (arith, a, take_long all i lt, joined_take all i)
 

@@ -1,9 +1,13 @@
 //! A source of formulas, made from a seed.
 ghost use Rattle.std.specs.Prelude.{◌≡◌, ◌<◌, ◌≤◌, ◌*◌, ◌++◌, length, IfOk, OnOk};
+ghost use Rattle.mt_samples.specs.Limits.{max_count};
 ghost use Rattle.mt_samples.specs.Generator.{byte_for, drawn, formula, formula_end, generated, next_state, state_after, state_after_all, state_after_formula, template, with_letters};
 
 use mt_scaled::Bytes;
 use std::alloc::{AllocError, Global};
+
+/// The most formulas of a generated source.
+pub const MAX_COUNT: u32 = 20_000;
 
 // The constants of Knuth's MMIX (The Art of Computer Programming, section 3.3.4).
 const MULTIPLIER: u64 = 6364136223846793005;
@@ -95,13 +99,13 @@ fn end_line(out: &mut Vec<u8>, n: u32) -> Result<(), AllocError>
 /// is one of five templates with letters that are drawn, in a line of its own; after every 20th a line
 /// `\eject` ends the page. The source has at most 47 bytes for each formula.
 ///
-/// `count` is at most 20,000.
+/// `count` is at most [`MAX_COUNT`].
 ///
 /// # Errors
 ///
 /// Only where there is no memory left.
 pub fn generate(alloc: Global, seed: u64, count: u32) -> Result<Bytes, AllocError>
-    requires { count ≤ 20000 }
+    requires { count ≤ max_count }
     ensures is { IfOk result (λ bytes. bytes ≡ generated seed count) }
     ensures short { IfOk result (λ bytes. length bytes ≤ 47 * count) }
 {

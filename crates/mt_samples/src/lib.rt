@@ -15,7 +15,7 @@ mod generator;
 
 pub use font_set::toy_fonts;
 use fonts::{extension_font, italic_font, roman_font, symbols_font};
-pub use generator::generate;
+pub use generator::{MAX_COUNT, generate};
 use mt_scaled::Bytes;
 use std::alloc::{AllocError, Global};
 

@@ -6,6 +6,7 @@ use Rattle.std.proofs.lemmas.Bool.{cases_lt}
 use Rattle.std.proofs.lemmas.Bool.Decides.{nat_tests}
 use Rattle.mt_token.specs.declared.token.Token.{Token}
 use Rattle.mt_scan.specs.declared.fault.ReadCause.TheVariants.{BadNumber, BadDimension}
+use Rattle.mt_scan.specs.Limits.{max_number, size_cap}
 use Rattle.mt_scan.specs.Parts.{Read, Got, Fault, NoTurn, then_read, after_spaces}
 use Rattle.mt_scan.specs.Numbers.{Whole, digit_of, at_digit, digits, signs, unsigned_number, in_bound, whole_number}
 use Rattle.mt_scan.specs.declared.decimals.Decimal.{Decimal}
@@ -18,38 +19,38 @@ use Rattle.mt_scan.specs.Meets.{capped, capped_digits}
 
 -- what the cap leaves of a size
 abbrev capped_whole : Whole → Whole
-capped_whole w = record { value = min w.value 2147483648; rest = w.rest }
+capped_whole w = record { value = min w.value size_cap; rest = w.rest }
 
-greater_sizes : (n base d : ℕ) → 1 ≤ base → 2147483648 ≤ n → 2147483648 ≤ n * base + d
+greater_sizes : (n base d : ℕ) → 1 ≤ base → size_cap ≤ n → size_cap ≤ n * base + d
 greater_sizes n base d h over = omega (arith, over, le-mul_of_pos_right n h)
 
-capped_step : (base d m n : ℕ) → 1 ≤ base → m ≡ min n 2147483648 → min (m * base + d) 2147483648 ≡ min (n * base + d) 2147483648
-capped_step base d m n h e = elim (cases_lt n 2147483648) [
-  | inl under ↦ ap (λ x. min (x * base + d) 2147483648) (e ∙ min-eq_left (omega (arith, under)))
-  | inr over ↦ ap (λ x. min (x * base + d) 2147483648) (e ∙ min-eq_right over) ∙ (min-eq_right (greater_sizes 2147483648 base d h (omega arith)) ∙ sym (min-eq_right (greater_sizes n base d h over)))
+capped_step : (base d m n : ℕ) → 1 ≤ base → m ≡ min n size_cap → min (m * base + d) size_cap ≡ min (n * base + d) size_cap
+capped_step base d m n h e = elim (cases_lt n size_cap) [
+  | inl under ↦ ap (λ x. min (x * base + d) size_cap) (e ∙ min-eq_left (omega (arith, under)))
+  | inr over ↦ ap (λ x. min (x * base + d) size_cap) (e ∙ min-eq_right over) ∙ (min-eq_right (greater_sizes size_cap base d h (omega arith)) ∙ sym (min-eq_right (greater_sizes n base d h over)))
 ]
 
-capped_at : (base : ℕ) → 1 ≤ base → (o : Option ℕ) (m n : ℕ) (t : Token) (ts : List Token) → m ≡ min n 2147483648 → ((d : ℕ) → capped_digits base (min (m * base + d) 2147483648) ts ≡ capped_whole (digits base (n * base + d) ts))
-    → at_digit o base m (t ∷ ts) (λ (v : ℕ). capped_digits base (min v 2147483648) ts) ≡ capped_whole (at_digit o base n (t ∷ ts) (λ (v : ℕ). digits base v ts))
+capped_at : (base : ℕ) → 1 ≤ base → (o : Option ℕ) (m n : ℕ) (t : Token) (ts : List Token) → m ≡ min n size_cap → ((d : ℕ) → capped_digits base (min (m * base + d) size_cap) ts ≡ capped_whole (digits base (n * base + d) ts))
+    → at_digit o base m (t ∷ ts) (λ (v : ℕ). capped_digits base (min v size_cap) ts) ≡ capped_whole (at_digit o base n (t ∷ ts) (λ (v : ℕ). digits base v ts))
 capped_at base h None m n t ts e further = ap (λ v. record { value = v; rest = t ∷ ts }) e
 capped_at base h (Some d) m n t ts e further = further d
 
-capped_is : (base : ℕ) → 1 ≤ base → (ts : List Token) (m n : ℕ) → m ≡ min n 2147483648 → capped_digits base m ts ≡ capped_whole (digits base n ts)
+capped_is : (base : ℕ) → 1 ≤ base → (ts : List Token) (m n : ℕ) → m ≡ min n size_cap → capped_digits base m ts ≡ capped_whole (digits base n ts)
 capped_is base h [] m n e = ap (λ v. record { value = v; rest = [] }) e
-capped_is base h (t ∷ ts) m n e = capped_at base h (digit_of base t) m n t ts e (λ d. capped_is base h ts (min (m * base + d) 2147483648) (n * base + d) (capped_step base d m n h e))
+capped_is base h (t ∷ ts) m n e = capped_at base h (digit_of base t) m n t ts e (λ d. capped_is base h ts (min (m * base + d) size_cap) (n * base + d) (capped_step base d m n h e))
 
 -- the digits after a size that is below the cap
-pub digits_capped : (base first : ℕ) (ts : List Token) → 1 ≤ base → first ≤ 2147483647 → capped_digits base first ts ≡ capped_whole (digits base first ts)
+pub digits_capped : (base first : ℕ) (ts : List Token) → 1 ≤ base → first ≤ max_number → capped_digits base first ts ≡ capped_whole (digits base first ts)
 digits_capped base first ts h small = capped_is base h ts first first (sym (min-eq_left (omega (arith, small))))
 
 -- a size in range is not changed by the cap, and one out of range stays so
-in_bound_capped : (first : ℕ) (minus : Bool) (value : ℕ) (rest : List Token) → in_bound first minus (min value 2147483648) rest ≡ in_bound first minus value rest
-in_bound_capped first minus value rest = elim (cases_lt value 2147483648) [
+in_bound_capped : (first : ℕ) (minus : Bool) (value : ℕ) (rest : List Token) → in_bound first minus (min value size_cap) rest ≡ in_bound first minus value rest
+in_bound_capped first minus value rest = elim (cases_lt value size_cap) [
   | inl under ↦ ap (λ v. in_bound first minus v rest) (min-eq_left (omega (arith, under)))
   | inr over ↦ ap (λ v. in_bound first minus v rest) (min-eq_right over) ∙ sym (out_of_bound over)
 ]
   where
-    out_of_bound : 2147483648 ≤ value → in_bound first minus value rest ≡ Fault BadNumber first
+    out_of_bound : size_cap ≤ value → in_bound first minus value rest ≡ Fault BadNumber first
     out_of_bound over = grind (arith, nat_tests, over)
 
 by_size : (first : ℕ) (minus : Bool) (r : Read ℕ) → then_read (capped r) (in_bound first minus) ≡ then_read r (in_bound first minus)
@@ -68,28 +69,28 @@ factor_if true x y u v e f = e
 factor_if false x y u v e f = f
 
 -- the cap does not change what follows a whole part
-pub whole_capped : (some : Bool) (whole : ℕ) (ts : List Token) → capped_decimal (after_whole some whole ts) ≡ after_whole some (min whole 2147483648) ts
+pub whole_capped : (some : Bool) (whole : ℕ) (ts : List Token) → capped_decimal (after_whole some whole ts) ≡ after_whole some (min whole size_cap) ts
 whole_capped some whole [] = factor_if some _ _ _ _ refl refl
 whole_capped some whole (t ∷ rest) = factor_if (is_point (character_code t.kind)) _ _ _ _ refl (factor_if some _ _ _ _ refl refl)
 
 -- a factor by its whole part, with the cap
-pub factor_by : (ts rest : List Token) (whole : ℕ) → whole ≡ min (digits 10 0 ts).value 2147483648 → rest ≡ (digits 10 0 ts).rest → capped_decimal (factor ts) ≡ after_whole (nat_lt (length rest) (length ts)) whole rest
+pub factor_by : (ts rest : List Token) (whole : ℕ) → whole ≡ min (digits 10 0 ts).value size_cap → rest ≡ (digits 10 0 ts).rest → capped_decimal (factor ts) ≡ after_whole (nat_lt (length rest) (length ts)) whole rest
 factor_by ts rest whole value after =
     whole_capped (nat_lt (length (digits 10 0 ts).rest) (length ts)) (digits 10 0 ts).value (digits 10 0 ts).rest
-    ∙ (ap (λ r. after_whole (nat_lt (length r) (length ts)) (min (digits 10 0 ts).value 2147483648) r) (sym after) ∙ ap (λ v. after_whole (nat_lt (length rest) (length ts)) v rest) (sym value))
+    ∙ (ap (λ r. after_whole (nat_lt (length r) (length ts)) (min (digits 10 0 ts).value size_cap) r) (sym after) ∙ ap (λ v. after_whole (nat_lt (length rest) (length ts)) v rest) (sym value))
 
 -- a whole part in range is not changed by the cap, and one out of range stays so
 module _ (units : Units) (negative : Bool) (first : ℕ) (minus : Bool) where
-  dimension_capped : (f : Decimal) (m : Measure) (rest : List Token) → dimension_of units negative first minus (record { whole = min f.whole 2147483648; part = f.part }) m rest ≡ dimension_of units negative first minus f m rest
-  dimension_capped f m rest = elim (cases_lt f.whole 2147483648) [
+  dimension_capped : (f : Decimal) (m : Measure) (rest : List Token) → dimension_of units negative first minus (record { whole = min f.whole size_cap; part = f.part }) m rest ≡ dimension_of units negative first minus f m rest
+  dimension_capped f m rest = elim (cases_lt f.whole size_cap) [
     | inl under ↦ ap (λ w. dimension_of units negative first minus (record { whole = w; part = f.part }) m rest) (min-eq_left (omega (arith, under)))
     | inr over ↦ ap (λ w. dimension_of units negative first minus (record { whole = w; part = f.part }) m rest) (min-eq_right over) ∙ sym (too_great over)
   ]
     where
-      too_great : 2147483648 ≤ f.whole → dimension_of units negative first minus f m rest ≡ Fault BadDimension first
+      too_great : size_cap ≤ f.whole → dimension_of units negative first minus f m rest ≡ Fault BadDimension first
       too_great over = grind (arith, nat_tests, over)
 
-  in_measure : (f : Decimal) (r : Read Measure) → then_read r (dimension_of units negative first minus (record { whole = min f.whole 2147483648; part = f.part })) ≡ then_read r (dimension_of units negative first minus f)
+  in_measure : (f : Decimal) (r : Read Measure) → then_read r (dimension_of units negative first minus (record { whole = min f.whole size_cap; part = f.part })) ≡ then_read r (dimension_of units negative first minus f)
   in_measure f (Got m rest) = dimension_capped f m rest
   in_measure f (Fault cause left) = refl
   in_measure f NoTurn = refl

@@ -2,6 +2,7 @@
 use Rattle.std.specs.Prelude.{◌≡◌, ℕ, min, List, [], ◌∷◌, Option, Some, None, Result, Ok, Err}
 use Rattle.std.specs.Borrow.{Bor}
 use Rattle.mt_token.specs.declared.token.Token.{Token}
+use Rattle.mt_scan.specs.Limits.{size_cap}
 use Rattle.mt_scan.specs.declared.fault.Fault.{Fault as FaultFields}
 use Rattle.mt_scan.specs.declared.scanned.Scanned.{Scanned}
 use Rattle.mt_scan.specs.Parts.{Read, Got, Fault, NoTurn}
@@ -14,14 +15,14 @@ Meets (Err fault) read = read ≡ Fault fault.cause fault.left
 
 -- the same, where all values above 2^31 - 1 count as 2^31
 abbrev pub capped : Read ℕ → Read ℕ
-capped (Got value rest) = Got (min value 2147483648) rest
+capped (Got value rest) = Got (min value size_cap) rest
 capped (Fault cause left) = Fault cause left
 capped NoTurn = NoTurn
 
 -- the digits in front, after digits of a size, where all sizes above 2^31 - 1 count as 2^31
 abbrev pub capped_digits : ℕ → ℕ → List Token → Whole
 capped_digits base size [] = record { value = size; rest = [] }
-capped_digits base size (t ∷ rest) = at_digit (digit_of base t) base size (t ∷ rest) (λ (v : ℕ). capped_digits base (min v 2147483648) rest)
+capped_digits base size (t ∷ rest) = at_digit (digit_of base t) base size (t ∷ rest) (λ (v : ℕ). capped_digits base (min v size_cap) rest)
 
 -- the tokens that are lent, if there are any
 abbrev pub IsAfter : Option (Bor (List Token)) → Option (List Token) → Type 0

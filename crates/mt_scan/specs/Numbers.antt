@@ -4,6 +4,7 @@ use Rattle.mt_token.specs.declared.token.Token.{Token}
 use Rattle.mt_token.specs.declared.token.TokenKind.{TokenKind}
 use Rattle.mt_token.specs.declared.token.TokenKind.TheVariants.{Control, Char, Space}
 use Rattle.mt_token.specs.Character.{character_code}
+use Rattle.mt_scan.specs.Limits.{max_number}
 use Rattle.mt_scan.specs.declared.fault.ReadCause.TheVariants.{BadNumber}
 use Rattle.mt_scan.specs.Limits.{max_math_char, max_delimiter}
 use Rattle.mt_scan.specs.Parts.{Read, Got, Fault, then_read, after_one_space}
@@ -98,7 +99,7 @@ unsigned_number (t ∷ rest) = unsigned_number_by (character_code t.kind) (t ∷
 
 abbrev pub in_bound : ℕ → Bool → ℕ → List Token → Read ℤ
 in_bound first minus value rest =
-    if nat_le value 2147483647 then Got (with_sign minus (pos value)) (after_one_space rest) else Fault BadNumber first
+    if nat_le value max_number then Got (with_sign minus (pos value)) (after_one_space rest) else Fault BadNumber first
 
 -- a number; where its value is out of range, the fault stands at its first token
 abbrev pub whole_number : List Token → Read ℤ

@@ -2,6 +2,7 @@
 ghost use Rattle.std.specs.Prelude.{◌≡◌, ◌≤◌, ◌+◌, ◌*◌, ◌/◌, length, take, IfOk};
 ghost use Rattle.mt_scaled.specs.Number.{decimals_of, decimal_fraction};
 ghost use Rattle.mt_scan.specs.declared.fault.ReadCause.TheVariants.{BadDimension};
+ghost use Rattle.mt_scan.specs.Limits.{size_cap};
 ghost use Rattle.mt_scan.specs.Dimensions.{decimals, is_point, after_whole, factor};
 ghost use Rattle.mt_scan.specs.Meets.{Meets};
 ghost use Rattle.mt_scan.specs.CappedDecimals.{capped_decimal};
@@ -82,10 +83,10 @@ fn after_whole<'a>(
     whole: u64,
     tokens: &'a [Token],
 ) -> Result<Scanned<'a, Decimal>, Fault>
-    requires { whole ≤ 2147483648 }
+    requires { whole ≤ size_cap }
     ensures is { Meets result (after_whole some whole tokens.now) }
     ensures falls { IfOk result (λ read. length read.rest.now ≤ length tokens.now) }
-    ensures whole { IfOk result (λ read. read.value.whole ≤ 2147483648) }
+    ensures whole { IfOk result (λ read. read.value.whole ≤ size_cap) }
     ensures part { IfOk result (λ read. read.value.part ≤ 65536) }
 {
     match tokens {
@@ -113,7 +114,7 @@ fn after_whole<'a>(
 pub fn factor<'a>(tokens: &'a [Token]) -> Result<Scanned<'a, Decimal>, Fault>
     ensures is { Meets result (capped_decimal (factor tokens.now)) }
     ensures falls { IfOk result (λ read. length read.rest.now ≤ length tokens.now) }
-    ensures whole { IfOk result (λ read. read.value.whole ≤ 2147483648) }
+    ensures whole { IfOk result (λ read. read.value.whole ≤ size_cap) }
     ensures part { IfOk result (λ read. read.value.part ≤ 65536) }
 {
     let whole = digits(10, 0, tokens);

@@ -76,21 +76,17 @@ pub fn dimension_from<'a>(
     ensures falls { IfOk result (λ part. length part.rest.now ≤ length tokens.now) }
 {
     let sign = signs(tokens);
-    match factor(sign.rest) {
-        Ok(read) => match measure(mu, after_spaces(read.rest)) {
-            Ok(unit) => dimension_of(
-                units,
-                negative,
-                tokens.len(),
-                sign.value,
-                read.value,
-                unit.value,
-                unit.rest,
-            ),
-            Err(fault) => Err(fault),
-        },
-        Err(fault) => Err(fault),
-    }
+    let count = factor(sign.rest)?;
+    let unit = measure(mu, after_spaces(count.rest))?;
+    dimension_of(
+        units,
+        negative,
+        tokens.len(),
+        sign.value,
+        count.value,
+        unit.value,
+        unit.rest,
+    )
 }
 
 /// A dimension, in math units where these are asked for.

@@ -1,5 +1,6 @@
 //! Numbers.
 ghost use Rattle.std.specs.Prelude.{◌≡◌, ◌≤◌, ◌<◌, ◌*◌, ◌+◌, min, pos, false, length, IfOk, IfSome};
+ghost use Rattle.mt_scan.specs.Limits.{max_number, size_cap};
 ghost use Rattle.mt_scan.specs.Numbers.{turns_sign, sign_after, signs, with_sign, digit_value, digit_of};
 ghost use Rattle.mt_scan.specs.Numbers.{digits, digits_in, quoted_kind, quoted_code, unsigned_number};
 ghost use Rattle.mt_scan.specs.Numbers.{in_bound, whole_number, number_to};
@@ -66,7 +67,7 @@ pub fn signs<'a>(tokens: &'a [Token]) -> Scanned<'a, bool>
 
 /// A size with a sign.
 pub fn with_sign(minus: bool, size: u64) -> i64
-    requires { size ≤ 2147483648 }
+    requires { size ≤ size_cap }
     ensures { result ≡ with_sign minus (pos size) }
 {
     if minus { -(size as i64) } else { size as i64 }
@@ -95,10 +96,10 @@ pub fn digit_of(base: u64, token: &Token) -> Option<u64>
 
 fn with_digit(base: u64, size: u64, digit: u64) -> u64
     requires base { base ≤ 16 }
-    requires size { size ≤ 2147483648 }
+    requires size { size ≤ size_cap }
     requires digit { digit < base }
-    ensures is { result ≡ min (size * base + digit) 2147483648 }
-    ensures bound { result ≤ 2147483648 }
+    ensures is { result ≡ min (size * base + digit) size_cap }
+    ensures bound { result ≤ size_cap }
 {
     let more = size * base + digit;
     if more < SIZE_CAP { more } else { SIZE_CAP }
@@ -107,11 +108,11 @@ fn with_digit(base: u64, size: u64, digit: u64) -> u64
 // The same as `digits`, a digit at a time.
 fn capped_digits<'a>(base: u64, first: u64, tokens: &'a [Token]) -> Scanned<'a, u64>
     requires base { base ≤ 16 }
-    requires first { first ≤ 2147483648 }
+    requires first { first ≤ size_cap }
     ensures value { result.value ≡ (capped_digits base first tokens.now).value }
     ensures rest { result.rest.now ≡ (capped_digits base first tokens.now).rest }
     ensures falls { length result.rest.now ≤ length tokens.now }
-    ensures bound { result.value ≤ 2147483648 }
+    ensures bound { result.value ≤ size_cap }
 {
     let mut size = first;
     let mut rest = tokens;
@@ -131,11 +132,11 @@ fn capped_digits<'a>(base: u64, first: u64, tokens: &'a [Token]) -> Scanned<'a, 
 pub fn digits<'a>(base: u64, first: u64, tokens: &'a [Token]) -> Scanned<'a, u64>
     requires least { 1 ≤ base }
     requires base { base ≤ 16 }
-    requires first { first ≤ 2147483647 }
-    ensures value { result.value ≡ min (digits base first tokens.now).value 2147483648 }
+    requires first { first ≤ max_number }
+    ensures value { result.value ≡ min (digits base first tokens.now).value size_cap }
     ensures rest { result.rest.now ≡ (digits base first tokens.now).rest }
     ensures falls { length result.rest.now ≤ length tokens.now }
-    ensures bound { result.value ≤ 2147483648 }
+    ensures bound { result.value ≤ size_cap }
 {
     capped_digits(base, first, tokens)
 }
@@ -146,7 +147,7 @@ fn digits_in<'a>(base: u64, tokens: &'a [Token]) -> Result<Scanned<'a, u64>, Fau
     requires base { base ≤ 16 }
     ensures is { Meets result (capped (digits_in base tokens.now)) }
     ensures falls { IfOk result (λ part. length part.rest.now ≤ length tokens.now) }
-    ensures bound { IfOk result (λ part. part.value ≤ 2147483648) }
+    ensures bound { IfOk result (λ part. part.value ≤ size_cap) }
 {
     match tokens {
         [token, after @ ..] => match digit_of(base, token) {
@@ -174,7 +175,7 @@ fn quoted_kind(kind: &TokenKind) -> Option<u8>
 fn quoted_code<'a>(tokens: &'a [Token]) -> Result<Scanned<'a, u64>, Fault>
     ensures is { Meets result (capped (quoted_code tokens.now)) }
     ensures falls { IfOk result (λ part. length part.rest.now ≤ length tokens.now) }
-    ensures bound { IfOk result (λ part. part.value ≤ 2147483648) }
+    ensures bound { IfOk result (λ part. part.value ≤ size_cap) }
 {
     match tokens {
         [token, after @ ..] => match quoted_kind(&token.kind) {
@@ -191,7 +192,7 @@ fn quoted_code<'a>(tokens: &'a [Token]) -> Result<Scanned<'a, u64>, Fault>
 fn unsigned_number<'a>(tokens: &'a [Token]) -> Result<Scanned<'a, u64>, Fault>
     ensures is { Meets result (capped (unsigned_number tokens.now)) }
     ensures falls { IfOk result (λ part. length part.rest.now ≤ length tokens.now) }
-    ensures bound { IfOk result (λ part. part.value ≤ 2147483648) }
+    ensures bound { IfOk result (λ part. part.value ≤ size_cap) }
 {
     match tokens {
         [token, after @ ..] => match character_code(token) {
@@ -230,10 +231,8 @@ pub fn whole_number<'a>(tokens: &'a [Token]) -> Result<Scanned<'a, i64>, Fault>
     ensures falls { IfOk result (λ part. length part.rest.now ≤ length tokens.now) }
 {
     let sign = signs(tokens);
-    match unsigned_number(sign.rest) {
-        Ok(part) => in_bound(tokens.len(), sign.value, part.value, part.rest),
-        Err(fault) => Err(fault),
-    }
+    let size = unsigned_number(sign.rest)?;
+    in_bound(tokens.len(), sign.value, size.value, size.rest)
 }
 
 /// A number from 0 to a greatest.

@@ -4,5 +4,5 @@ pub mod Request
 pub mod CommandLine
 -- the values of a request
 pub mod RequestValues
--- the width of a line by default, and the most formulas of the generator
+-- the width of a line by default
 pub mod Limits

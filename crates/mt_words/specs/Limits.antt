@@ -1,4 +1,4 @@
--- The width of a line where the words give none, and how many formulas are generated.
+-- The width of a line where the words give none.
 use Rattle.std.specs.Prelude.{ℕ, List, codes}
 
 -- 6.5in, in sp
@@ -8,7 +8,3 @@ default_line = 30785863
 -- the same as a word, as `clap` is told it
 abbrev pub default_line_word : List ℕ
 default_line_word = codes "30785863"
-
--- the most formulas of the generator
-abbrev pub max_count : ℕ
-max_count = 20000

@@ -9,7 +9,7 @@ use Rattle.clap.specs.declared.parser.matches.ValueSource.{ValueSource}
 use Rattle.clap.specs.declared.parser.matches.ValueSource.TheVariants.{CommandLine}
 use Rattle.mt_scaled.specs.Number.{max_dimen}
 use Rattle.mt_words.specs.CommandLine.{found_rows}
-use Rattle.mt_words.specs.Limits.{max_count}
+use Rattle.mt_samples.specs.Limits.{max_count}
 use Rattle.mt_words.specs.RequestValues.{SourceValue, SampleValue}
 use Rattle.mt_words.specs.declared.request.Request.{Request}
 use Rattle.mt_words.specs.declared.request.Request.TheVariants.{Set, Places, Read, Gen}

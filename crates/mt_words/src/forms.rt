@@ -8,9 +8,10 @@ ghost use Rattle.mt_words.specs.Request.{request_of, sample_of, source_of};
 
 use crate::command_line::match_words;
 use crate::number::decimal_between;
-use crate::request::{DviFile, MAX_COUNT, Request, Sample, Source};
+use crate::request::{DviFile, Request, Sample, Source};
 use clap::ArgMatches;
 use clap::parser::ValueSource;
+use mt_samples::MAX_COUNT;
 use mt_scaled::MAX_DIMEN;
 use std::alloc::{AllocError, Global};
 

@@ -1,9 +1,6 @@
 //! What the words of a command line ask for.
 use std::marker::Model;
 
-/// The most formulas of the generator.
-pub const MAX_COUNT: u32 = 20_000;
-
 /// A source to be set in the fonts of a list.
 #[derive(Drop)]
 pub struct Source<'a> {
@@ -49,13 +46,13 @@ impl<'a> Model for DviFile<'a> {
 pub struct Sample {
     /// The seed of the generator.
     pub seed: u64,
-    /// How many formulas, 0 to `MAX_COUNT`.
+    /// How many formulas, 0 to `mt_samples::MAX_COUNT`.
     pub count: u32,
 }
 
 impl Model for Sample {
     ghost use Rattle.std.specs.Prelude.{◌≤◌};
-    ghost use Rattle.mt_words.specs.Limits.{max_count};
+    ghost use Rattle.mt_samples.specs.Limits.{max_count};
     ghost use Rattle.mt_words.specs.RequestValues.{SampleValue};
 
     ghost Value = { SampleValue };

@@ -1,4 +1,5 @@
 use Rattle.std.proofs.Common.{◌≡◌, ◌≤◌, length}
+use Rattle.mt_scan.specs.Limits.{size_cap}
 use Rattle.mt_scan.specs.Meets.{capped_digits}
 use Rattle.mt_scan.proofs.numbers.capped_digits.Given as goal
 
@@ -6,7 +7,7 @@ abbrev pub invariant-loop-rest : goal.invariant-loop-rest
 invariant-loop-rest l = record {
   is : capped_digits l.base l.first l.tokens ≡ capped_digits l.base l.size l.rest;
   falls : length l.rest ≤ length l.tokens;
-  bound : l.size ≤ 2147483648;
+  bound : l.size ≤ size_cap;
 }
 
 abbrev pub decreases-loop-rest : goal.decreases-loop-rest
