@@ -40,9 +40,10 @@ PutFails sink piece = Contains sink.fail (next_count sink.calls) ⊎ (sink.room 
 pub record SteadyState : Type 0 where
   -- what was written, while it fits
   pub bytes : Option (List ℕ)
+  -- the room left
   pub room : ℕ
 
--- the bytes, none where they were more than the room
+-- the bytes, none where they were more than the capacity
 abbrev pub bytes_unless_past : Bool → List ℕ → Option (List ℕ)
 bytes_unless_past true bytes = None
 bytes_unless_past false bytes = Some bytes

@@ -12,7 +12,7 @@ use std::marker::Model;
 #[derive(Debug, Drop)]
 pub struct MemorySink {
     bytes: Vec<u8>,
-    room: usize,
+    capacity: usize,
     fail: CallList,
     calls: u64,
     faults: u64,
@@ -27,13 +27,13 @@ impl Model for MemorySink {
 
     ghost view = { λ s. record {
       bytes = s.bytes.items;
-      room = s.room - vec_len s.bytes;
+      room = s.capacity - vec_len s.bytes;
       fail = s.fail;
       calls = s.calls;
       faults = s.faults;
     } };
 
-    ghost invariant = { λ s. (s.room ≤ vec_capacity s.bytes) × (vec_len s.bytes ≤ s.room) };
+    ghost invariant = { λ s. (s.capacity ≤ vec_capacity s.bytes) × (vec_len s.bytes ≤ s.capacity) };
 }
 
 impl MemorySink {
@@ -49,7 +49,7 @@ impl MemorySink {
     {
         Ok(MemorySink {
             bytes: Vec::with_capacity(alloc, room)?,
-            room,
+            capacity: room,
             fail,
             calls: 0,
             faults: 0,
@@ -83,7 +83,7 @@ impl Sink for MemorySink {
         ensures fails { PutFails self.old bytes.now → result ≡ Err PutError.Failed }
     {
         self.calls = self.calls.saturating_add(1);
-        if bytes.len() > self.room - self.bytes.len()
+        if bytes.len() > self.capacity - self.bytes.len()
             || self.fail.as_slice().contains(&self.calls)
         {
             self.faults = self.faults.saturating_add(1);

@@ -7,11 +7,11 @@ use crate::{PutError, Sink};
 use std::alloc::{AllocError, Global};
 use std::marker::Model;
 
-/// Bytes in memory that never fail. Past its room it takes every byte and tells nothing more.
+/// Bytes in memory that never fail. Past its capacity it takes every byte and tells nothing more.
 #[derive(Debug, Drop)]
 pub struct SteadySink {
     bytes: Vec<u8>,
-    room: usize,
+    capacity: usize,
     is_past: bool,
 }
 
@@ -24,10 +24,10 @@ impl Model for SteadySink {
 
     ghost view = { λ s. record {
       bytes = bytes_unless_past s.is_past s.bytes.items;
-      room = s.room - vec_len s.bytes;
+      room = s.capacity - vec_len s.bytes;
     } };
 
-    ghost invariant = { λ s. (s.room ≤ vec_capacity s.bytes) × (vec_len s.bytes ≤ s.room) };
+    ghost invariant = { λ s. (s.capacity ≤ vec_capacity s.bytes) × (vec_len s.bytes ≤ s.capacity) };
 }
 
 impl SteadySink {
@@ -41,12 +41,12 @@ impl SteadySink {
     {
         Ok(SteadySink {
             bytes: Vec::with_capacity(alloc, room)?,
-            room,
+            capacity: room,
             is_past: false,
         })
     }
 
-    /// The bytes that it has taken, or `None` once they were more than its room.
+    /// The bytes that it has taken, or `None` once they were more than its capacity.
     pub fn bytes(&self) -> Option<&[u8]>
         ensures { option_map (λ bytes. bytes.now) result ≡ self.now.bytes }
     {
@@ -75,7 +75,7 @@ impl Sink for SteadySink {
         if self.is_past {
             return Ok(bytes.len());
         }
-        if bytes.len() > self.room - self.bytes.len() {
+        if bytes.len() > self.capacity - self.bytes.len() {
             self.is_past = true;
             return Ok(bytes.len());
         }
