@@ -1,12 +1,17 @@
 -- The line that explains a refusal to a person (`explained`, `IsLine`).
-use Rattle.std.specs.Prelude.{◌≡◌, ℕ, List, [], ◌∷◌, false, nat_eq, codes, decimal}
-use Rattle.std.specs.List.{concat, list_any}
+use Rattle.std.specs.Prelude.{◌≡◌, ℕ, Bool, List, [], ◌∷◌, false, not, nat_eq, codes, decimal}
+use Rattle.std.specs.Borrow.{Bor}
+use Rattle.std.specs.List.{concat, list_all, list_any}
 use Rattle.mt_status.specs.declared.status.Status.{Status}
 use Rattle.mt_status.specs.declared.status.Status.TheVariants.{Done, BadWords, ReadFault, TooLong, WriteFault, FontList, BadTfm, BadFamily, BadSource, BadFormula, Budget, MissingFamily, MissingChar, SmartLigature, Overflow, TooTall, TooDeep, TooMuch, BadDvi, OutOfMemory}
 
 -- a text in one line: without a line feed
 abbrev pub IsLine : List ℕ → Type 0
 IsLine text = list_any (nat_eq 10) text ≡ false
+
+-- the same of texts that are lent
+abbrev pub are_lines : List (Bor (List ℕ)) → Bool
+are_lines texts = list_all (λ (text : Bor (List ℕ)). not (list_any (nat_eq 10) text.now)) texts
 
 abbrev pub explained_at : List ℕ → List ℕ → List ℕ → List ℕ
 explained_at head place text = concat (head ∷ place ∷ codes ": " ∷ text ∷ codes "\n" ∷ [])

@@ -5,104 +5,14 @@ ghost use Rattle.mt_status.specs.Log.{Gets};
 ghost use Rattle.mt_status.specs.Explanation.{IsLine, explained};
 ghost use Rattle.mt_status.specs.inner.LogParts.{part_bytes};
 
+use crate::causes::{dvi_cause, family_cause, font_cause, list_cause, source_cause, token_cause};
 use crate::log_part::{LogPart, write_parts};
-use crate::status::{MISSING_ARGUMENT, Much, Status};
+use crate::status::{Much, Status};
 use mt_outside::Sink;
 
 const USAGE: &str =
     "usage: mathset [--line SP] set FONTS SOURCE, mathset [--line SP] places FONTS SOURCE, \
      mathset read FONTS DVI, or mathset gen SEED COUNT";
-
-// Of a line of the font list.
-fn list_cause(cause: u8) -> &'static str
-    ensures { IsLine result.now }
-{
-    match cause {
-        1 => "the line has none of the stated forms",
-        2 => "an earlier line has the same font and size, or the same family",
-        3 => "the family has the number of no earlier font line",
-        _ => "at most 48 fonts may be listed",
-    }
-}
-
-// Of a TFM file.
-fn font_cause(cause: u8) -> &'static str
-    ensures { IsLine result.now }
-{
-    match cause {
-        1 => "the TFM file ends too early",
-        2 => "the counts at the beginning of the TFM file do not fit together",
-        3 => "the design size is less than 1pt",
-        4 => "a character has an index past the end of its table",
-        5 => "the next larger characters of a character lead back to it",
-        6 => "a dimension is 16 times the size or more",
-        7 => "the first entry of a table of dimensions is not 0",
-        8 => "a step of the ligatures and kerns leads past a table, or to no character",
-        _ => "a recipe has a piece that is no character",
-    }
-}
-
-// Of a family at a size.
-fn family_cause(cause: u8) -> &'static str
-    ensures { IsLine result.now }
-{
-    match cause {
-        1 => "formulas need a font of this family at this size",
-        _ => "the font has too few parameters: family 2 needs 22, family 3 needs 13",
-    }
-}
-
-// Of a byte of the source.
-fn source_cause(cause: u8) -> &'static str
-    ensures { IsLine result.now }
-{
-    match cause {
-        1 => "a byte above 127 may stand in a comment alone",
-        _ => "this byte cannot stand here",
-    }
-}
-
-// Of a token of a formula, or of one outside of formulas.
-fn token_cause(cause: u8) -> &'static str
-    ensures { IsLine result.now }
-{
-    if cause <= 10 {
-        formula_cause(cause)
-    } else {
-        document_cause(cause)
-    }
-}
-
-fn formula_cause(cause: u8) -> &'static str
-    ensures { IsLine result.now }
-{
-    match cause {
-        1 => "this name or character means nothing in a formula",
-        2 => "a second superscript, as a prime is one, or a second subscript",
-        3 => "a second \\over, or a word like it, in one group",
-        4 => "no delimiter where one must stand",
-        5 => "a brace, \\right, $, & or # that does not fit, or a group without its end",
-        6 => "\\limits, or a word like it, without a large operator before it",
-        7 => "no field, group or row where one must stand",
-        8 => "no number where one must stand, or one out of range",
-        9 => "no dimension where one must stand, or one out of range",
-        _ => "\\eqno and \\leqno may stand once in a display, outside of groups",
-    }
-}
-
-fn document_cause(cause: u8) -> &'static str
-    ensures { IsLine result.now }
-{
-    match cause {
-        MISSING_ARGUMENT => "a macro without one of its arguments",
-        31 => "this token cannot stand outside of formulas",
-        32 => "a formula without end, or with a } that closes no group",
-        33 => "\\def without a name, or with a bad parameter",
-        34 => "a body of \\def without its }",
-        35 => "at most 1,000 macros may be defined",
-        _ => "a bad character or code after \\mathcode or \\delcode",
-    }
-}
 
 fn too_much(kind: Much) -> &'static str
     ensures { IsLine result.now }
@@ -110,25 +20,6 @@ fn too_much(kind: Much) -> &'static str
     match kind {
         Much::Pages => "at most 5,000 pages may be set",
         Much::Places => "at most 2,000,000 glyphs and rules may be placed",
-    }
-}
-
-// Of a byte of a DVI file.
-fn dvi_cause(cause: u8) -> &'static str
-    ensures { IsLine result.now }
-{
-    match cause {
-        1 => "the DVI file ends too early",
-        2 => "this opcode cannot stand here",
-        3 => "this is no preamble of TeX's DVI files",
-        4 => "the page does not point to the page before",
-        5 => "the postamble does not fit the file",
-        6 => "a font that is not defined, or not in the font list",
-        7 => "the font has no such character",
-        8 => "a pop without a push",
-        9 => "at most 1,000 pushes may be open",
-        10 => "a move leads beyond 2^31 - 1 scaled points",
-        _ => "at most 2,000,000 glyphs and rules may be placed",
     }
 }
 

@@ -1,6 +1,7 @@
 //! How a run ends: [`Status`], the number and the line of the log of each status, and what it means in words.
 #![tactic(auto)]
 
+mod causes;
 mod explanation;
 mod font_refusals;
 mod log;
