@@ -1,5 +1,5 @@
 -- What cabinets and sinks stand for.
-use Rattle.std.specs.Prelude.{◌≡◌, ◌⊎◌, ◌<◌, ℕ, List, length, Bool, true, false, Option, Some, None, Contains}
+use Rattle.std.specs.Prelude.{◌≡◌, ◌⊎◌, ◌<◌, ℕ, List, length, take, Bool, true, false, Option, Some, None, Contains}
 use Rattle.mt_outside.specs.declared.files.Held.{Held}
 use Rattle.mt_outside.specs.Files.{find_file}
 use Rattle.mt_outside.specs.Counts.{next_count}
@@ -28,13 +28,20 @@ pub record SinkState : Type 0 where
   pub bytes : List ℕ
   -- the room left
   pub room : ℕ
+  -- how many bytes of a piece a put takes at most, where it does not take them all
+  pub most : Option ℕ
   pub fail : List ℕ
   pub calls : ℕ
   pub faults : ℕ
 
--- the next put fails: its number is one that does, or the piece is longer than the room left
+-- what one put takes of a piece
+abbrev pub taken_of : Option ℕ → List ℕ → List ℕ
+taken_of None piece = piece
+taken_of (Some most) piece = take most piece
+
+-- the next put fails: its number is one that does, or what it takes of the piece is longer than the room left
 abbrev pub PutFails : SinkState → List ℕ → Type 0
-PutFails sink piece = Contains sink.fail (next_count sink.calls) ⊎ (sink.room < length piece)
+PutFails sink piece = Contains sink.fail (next_count sink.calls) ⊎ (sink.room < length (taken_of sink.most piece))
 
 -- a sink in memory that never fails
 pub record SteadyState : Type 0 where

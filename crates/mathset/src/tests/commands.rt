@@ -16,6 +16,19 @@ fn reads_a_file(rt: HostRuntime) {
     assert!(rt; end.out.as_slice() == b"page 1\ng 3 97 0 327680\npages 1\n".as_slice());
 }
 
+#[test]
+fn refuses_cut_files(rt: HostRuntime) {
+    let alloc = rt.alloc();
+    for length in 1..147usize {
+        let end = end_of(&rt, alloc, READ, None, &FILE[..length], 0);
+        assert!(&rt; end.status == 50);
+        assert!(&rt; end.log.ends_with(b"cause 1\n"));
+        assert!(&rt; end.out.len() == 0);
+    }
+    let end = end_of(&rt, alloc, READ, None, &FILE[..147], 0);
+    assert!(rt; end.out.as_slice() == b"page 1\ng 3 97 0 327680\npages 1\n".as_slice());
+}
+
 /// The offset of a byte in the file, another byte in its place, how many bytes of that file are read, and the line in
 /// the log after `mathset: `.
 type ReadCase = (usize, u8, usize, &'static [u8]);

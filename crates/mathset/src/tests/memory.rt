@@ -110,7 +110,8 @@ pub fn sink(rt: &impl Abort, alloc: Global, fail: u64) -> MemorySink {
     MemorySink::new(alloc, ROOM, call(rt, alloc, fail)).expect(rt, "memory")
 }
 
-fn words_of(rt: &impl Abort, alloc: Global, texts: &[&str]) -> Vec<String> {
+/// The words of a command line.
+pub fn words_of(rt: &impl Abort, alloc: Global, texts: &[&str]) -> Vec<String> {
     let mut words = Vec::new(alloc);
     for text in texts {
         words
