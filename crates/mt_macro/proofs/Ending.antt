@@ -1,14 +1,11 @@
 -- Where groups end.
 use Rattle.std.proofs.Common.{◌≡◌, ℕ, zero, suc, ◌+◌, ◌-◌, ◌<◌, ◌≤◌, Bool, true, false, List, []}
-use Rattle.std.proofs.Common.{◌∷◌, ◌++◌, length, take, drop, get_or, refl, sym, ap, subst, ◌∙◌}
-use Rattle.std.proofs.Common.{arith, cond, append_assoc, length-append}
-use Rattle.std.specs.Prelude.{slice_index_or, Option, Some, None, IfSome, ◌==◌, ◌&&◌, if◌then◌else◌}
-use Rattle.std.specs.Option.{option_map}
-use Rattle.std.proofs.lemmas.Bool.Decides.{nat_tests}
+use Rattle.std.proofs.Common.{◌∷◌, ◌++◌, length, take, drop, get_or, refl, sym, ap, ◌∙◌}
+use Rattle.std.proofs.Common.{arith, append_assoc, length-append}
+use Rattle.std.specs.Prelude.{slice_index_or, Option, Some, None, ◌==◌, ◌&&◌}
 use Rattle.std.proofs.lemmas.List.{append-nil, drop-append-le, take-append-le, length-drop, drop_more}
 use Rattle.mt_token.specs.declared.token.Token.{Token}
 use Rattle.mt_macro.specs.Braces.{Taken, onto, group, level_after, is_open, is_close, index_after_first}
-use Rattle.mt_macro.specs.declared.pieces.Closing.{Closing}
 use Rattle.mt_macro.specs.declared.pieces.Closing.TheVariants.{At, Open}
 use Rattle.mt_macro.specs.inner.Ends.{end_index, IsEnd, AreEnds, joined}
 use Rattle.mt_macro.specs.inner.Pieces.{Closes}

@@ -12,5 +12,7 @@ pub mod Ending
 pub mod Taking
 -- how far a list is expanded
 pub mod Running
+-- lists that expand to themselves
+pub mod Itself
 -- expansions that are known
 mod Worked

@@ -59,7 +59,7 @@ unfolding past_all
 past_next [] list = refl
 past_next (t ∷ out) list = ap (past t) (past_next out list)
 
-short : (n : ℕ) → n ≤ max_tokens → nat_lt max_tokens n ≡ false
+pub short : (n : ℕ) → n ≤ max_tokens → nat_lt max_tokens n ≡ false
 short n h = grind (arith, nat_tests)
 
 long : (n : ℕ) → max_tokens < n → nat_lt max_tokens n ≡ true
@@ -91,7 +91,7 @@ going_pass whole table left steps out out' rest rest' t g e f o = record {
   count = g.count;
 }
 
-run_done : (table : Table) (left steps : ℕ) (list : List Token) → length list ≤ max_tokens
+pub run_done : (table : Table) (left steps : ℕ) (list : List Token) → length list ≤ max_tokens
     → macro_step table list ≡ Done → run table left steps list ≡ Expanded list
 unfolding run
 run_done table zero steps list h e = within_short steps list _ h ∙ ap (at_last steps list) e
@@ -189,7 +189,7 @@ pub going_on : (whole : Expansion) (table : Table) (left left' steps passed : �
 going_on whole table left left' steps passed out rest rest' after t m g e f l p o = record {
   is = going_next whole table left left' steps out rest rest' after t m g e f l o.is;
   plain = g.plain;
-  small = omega (arith, o.room, p);
+  small = omega (arith, o.few, p);
   count = omega (arith, g.count, l);
 }
 
@@ -206,7 +206,7 @@ pub fits_budget : (passed n : ℕ) (m : Macro) (rest after next text body : List
     → n ≤ max_tokens → FitsBudget passed (replacement m (arguments m.params rest)) next
 fits_budget passed n m rest after next text body given args a x y b e k h = record {
   is = filled_next m rest after text body given args a x y b ∙ ap Next (sym e);
-  room = omega (arith, h, k, ap length e, ap length b, length-append body after);
+  few = omega (arith, h, k, ap length e, ap length b, length-append body after);
 }
 
 pub exceeds_budget : (passed n : ℕ) (m : Macro) (rest after text : List Token) (given args : List (List Token))

@@ -1,11 +1,13 @@
 //! Expansion: macros are replaced, one step after another, until none is left.
-ghost use Rattle.std.specs.Prelude.{◌≡◌, ◌<◌, ◌≤◌, ◌+◌, ◌∷◌, [], ◌++◌, IfOk, OnOk, length, Err, None};
+ghost use Rattle.std.specs.Prelude.{◌≡◌, ◌<◌, ◌≤◌, ◌↔◌, ◌+◌, ◌∷◌, [], ◌++◌, IfOk, OnOk, IsTrue, length, Err, None};
+ghost use Rattle.std.specs.List.{list_any};
 ghost use Rattle.mt_macro.specs.Limits.{max_steps, max_tokens};
 ghost use Rattle.mt_macro.specs.Braces.{first_unmatched};
 ghost use Rattle.mt_macro.specs.inner.Kept.{HasShortBody};
 ghost use Rattle.mt_macro.specs.inner.Taking.{lent_tokens};
 ghost use Rattle.mt_macro.specs.Arguments.{arguments};
-ghost use Rattle.mt_macro.specs.Expansion.{run, expansion, Expands, replacement};
+ghost use Rattle.mt_macro.specs.Table.{names_macro};
+ghost use Rattle.mt_macro.specs.Expansion.{run, expansion, Expanded, Expands, replacement};
 ghost use Rattle.mt_macro.specs.inner.Replacing.{Replaces};
 ghost use Rattle.mt_macro.specs.declared.expansion.ExpandError.TheVariants.{OutOfMemory};
 
@@ -113,6 +115,24 @@ pub fn expand(alloc: Global, macros: &Macros, list: &[Token]) -> Result<TokenLis
     run_steps(alloc, macros, list)
 }
 
+/// Whether a list expands to itself: it has at most 50,000 tokens, no brace without partner, and no
+/// macro. Then it need not be expanded.
+pub fn expands_to_itself(macros: &Macros, list: &[Token]) -> bool
+    ensures { IsTrue result ↔ (expansion macros.now list.now ≡ Expanded list.now) }
+{
+    if list.len() > MAX_TOKENS {
+        return false;
+    }
+    !has_macro(macros, list) && first_unmatched(list).is_none()
+}
+
+// Whether a token of the list names a macro.
+fn has_macro(macros: &Macros, list: &[Token]) -> bool
+    ensures { result ≡ list_any (names_macro macros.now) list.now }
+{
+    list.iter().any(|token| macros.names_macro(token))
+}
+
 // The tokens that references lend, in memory of their own.
 fn copy_tokens(alloc: Global, list: &[&Token]) -> Result<TokenList, AllocError>
     ensures { IfOk result (λ tokens. tokens ≡ lent_tokens list.now) }
@@ -141,8 +161,8 @@ enum Replacement {
     Done,
 }
 
-// Puts the macro's body, with its arguments, before the rest, if there is room beside what is
-// passed.
+// Puts the macro's body, with its arguments, before the rest, if these and what is passed are not
+// too many tokens.
 fn replace<'a>(
     alloc: Global,
     found: &'a Macro,

@@ -17,6 +17,6 @@ mod table;
 
 pub use braces::{closes_none, closing_brace, is_close, is_open, level_after};
 pub use definition::MacroError;
-pub use expansion::{ExpandError, expand};
+pub use expansion::{ExpandError, expand, expands_to_itself};
 pub use parameters::first_bad_parameter;
 pub use table::Macros;

@@ -3,7 +3,7 @@ ghost use Rattle.std.specs.Prelude.{◌≡◌, ◌≤◌, ◌^◌, ◌<◌, ◌+
 ghost use Rattle.std.specs.Prelude.{if◌then◌else◌, IfOk, IfSome, OnOk, OnErr};
 ghost use Rattle.std.specs.Option.{option_copied};
 ghost use Rattle.mt_macro.specs.Limits.{max_own_names};
-ghost use Rattle.mt_macro.specs.Table.{macro_of, macro_at, is_own, own_count, with_macro};
+ghost use Rattle.mt_macro.specs.Table.{macro_of, macro_at, names_macro, is_own, own_count, with_macro};
 ghost use Rattle.mt_macro.specs.inner.Kept.{HasShortBody};
 
 use mt_scaled::Name;
@@ -77,6 +77,13 @@ impl Macros {
         }
     }
 
+    /// Whether a token names a macro.
+    pub(crate) fn names_macro(&self, token: &Token) -> bool
+        ensures { result ≡ names_macro self.now token.now }
+    {
+        self.macro_at(token).is_some()
+    }
+
     /// Whether a name is the user's own.
     pub(crate) fn is_own(&self, name: &[u8]) -> bool
         ensures { result ≡ is_own (macro_of self.now name.now) }
@@ -104,7 +111,7 @@ impl Macros {
         body: &[Token],
     ) -> Result<(), AllocError>
         requires short { length body.now ≤ 2 ^ 32 }
-        requires room { makes_own ≡ true → is_own (macro_of self.old name.now) ≡ false
+        requires few { makes_own ≡ true → is_own (macro_of self.old name.now) ≡ false
             → own_count self.old < max_own_names }
         ensures ok { OnOk result (self.new ≡ with_macro self.old name.now
             (record {

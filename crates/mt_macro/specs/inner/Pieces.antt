@@ -1,9 +1,8 @@
 -- Pieces of lists of tokens, and where the groups in them end.
-use Rattle.std.specs.Prelude.{◌≡◌, ℕ, ◌+◌, ◌<◌, ◌≤◌, ◌==◌, ◌&&◌, List, [], ◌∷◌, ◌++◌, length}
-use Rattle.std.specs.Prelude.{Option, Some, None, if◌then◌else◌}
+use Rattle.std.specs.Prelude.{◌≡◌, ℕ, ◌+◌, ◌<◌, ◌≤◌, List, ◌++◌, length}
+use Rattle.std.specs.Prelude.{Some}
 use Rattle.std.specs.Option.{option_map}
 use Rattle.mt_token.specs.declared.token.Token.{Token}
-use Rattle.mt_macro.specs.Braces.{is_close, level_after, index_after_first}
 use Rattle.mt_macro.specs.declared.pieces.Closing.{Closing}
 use Rattle.mt_macro.specs.declared.pieces.Closing.TheVariants.{At, Open}
 use Rattle.mt_macro.specs.inner.Ends.{end_index}

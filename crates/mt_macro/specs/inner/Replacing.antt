@@ -16,7 +16,7 @@ pub record ExceedsBudget (passed n : ℕ) (s : MacroStep) : Type 0 where
 -- a step leaves these tokens from the macro's index on, and the list has at most max_tokens tokens
 pub record FitsBudget (passed : ℕ) (s : MacroStep) (after : List Token) : Type 0 where
   pub is : s ≡ Next after
-  pub room : passed + length after ≤ max_tokens
+  pub few : passed + length after ≤ max_tokens
 
 -- what became of a macro is what the step makes of it, where so many tokens stand before it
 abbrev pub Replaces : ℕ → Replacement → MacroStep → List Token → Type 0
