@@ -1,16 +1,16 @@
 //! Units of length.
 ghost use Rattle.std.specs.Prelude.{◌≡◌, ◌≤◌, ◌<◌, ◌^◌, pos, ◌+ℤ◌, ◌*ℤ◌, ◌≤ℤ◌, length, IfOk};
 ghost use Rattle.mt_scaled.specs.Number.{Within, max_dimen};
-ghost use Rattle.mt_scaled.specs.Units.{unit_length, font_length};
+ghost use Rattle.mt_scaled.specs.Units.{factor_of, unit_length, font_length};
 ghost use Rattle.mt_scan.specs.Dimensions.{small_letter, letter, measures, begins_measure, measure_of};
-ghost use Rattle.mt_scan.specs.Dimensions.{after_first_letter, measure, length_of};
+ghost use Rattle.mt_scan.specs.Dimensions.{after_first_letter, measure, by_factor, length_of};
 ghost use Rattle.mt_scan.specs.Meets.{Meets};
 
 use crate::decimals::{Decimal, bad_dimension};
 use crate::fault::Fault;
 use crate::scanned::Scanned;
 use crate::spaces::after_one_space;
-use mt_scaled::{Unit, Units, xn_over_d};
+use mt_scaled::{Unit, Units, unit_factor, xn_over_d};
 use mt_token::{Token, character_code};
 
 fn small_letter(c: u8) -> u8
@@ -176,6 +176,20 @@ fn font_length(whole: u64, part: u64, x: i64) -> i64
     )
 }
 
+// So many points, or so many units of which a number of points make a number.
+#[tactic(auto, using(crate::proofs::Factors::has_small_factor))]
+fn by_factor(unit: Unit, whole: u64, part: u64) -> i64
+    requires whole { whole ≤ max_dimen }
+    requires part { part ≤ 65536 }
+    ensures is { result ≡ by_factor (factor_of unit) whole part }
+    ensures small { Within (2 ^ 62) result }
+{
+    match unit_factor(unit) {
+        Some((n, d)) => natural(unit_length(whole, part, n.unsigned_abs(), d.unsigned_abs())),
+        None => natural(65536 * whole + part),
+    }
+}
+
 /// So many units, in scaled points, or in 65536ths of a math unit.
 pub fn length_of(units: Units, unit: Unit, f: Decimal) -> i64
     requires whole { f.whole ≤ max_dimen }
@@ -187,16 +201,17 @@ pub fn length_of(units: Units, unit: Unit, f: Decimal) -> i64
 {
     let Decimal { whole, part } = f;
     match unit {
-        Unit::Pt | Unit::Mu => natural(65536 * whole + part),
         Unit::Sp => natural(whole),
-        Unit::In => natural(unit_length(whole, part, 7227, 100)),
-        Unit::Pc => natural(unit_length(whole, part, 12, 1)),
-        Unit::Cm => natural(unit_length(whole, part, 7227, 254)),
-        Unit::Mm => natural(unit_length(whole, part, 7227, 2540)),
-        Unit::Bp => natural(unit_length(whole, part, 7227, 7200)),
-        Unit::Dd => natural(unit_length(whole, part, 1238, 1157)),
-        Unit::Cc => natural(unit_length(whole, part, 14856, 1157)),
         Unit::Em => font_length(whole, part, units.em),
         Unit::Ex => font_length(whole, part, units.ex),
+        Unit::Pt
+        | Unit::In
+        | Unit::Pc
+        | Unit::Cm
+        | Unit::Mm
+        | Unit::Bp
+        | Unit::Dd
+        | Unit::Cc
+        | Unit::Mu => by_factor(unit, whole, part),
     }
 }
