@@ -1,5 +1,5 @@
 //! A sink over a stream. It tells no bytes; its own clauses say what the stream got.
-ghost use Rattle.std.specs.Prelude.{◌≡◌, ◌<◌, ◌≤◌, IfOk, OnErr, None, length};
+ghost use Rattle.std.specs.Prelude.{◌≡◌, ◌<◌, ◌≤◌, IfOk, OnErr, None, length, nat_lt};
 ghost use Rattle.std.specs.Io.KnownBytes.{WriteAppends};
 ghost use Rattle.mt_outside.specs.Counts.{WriteLeaves, next_count};
 
@@ -11,8 +11,8 @@ use std::marker::Model;
 /// and the count of faults.
 ///
 /// It never flushes, so it asks for a stream that puts out what its `write` takes, as standard
-/// output does. Who lends one that keeps bytes back, as a `BufWriter`, flushes it, and sees to it
-/// where that fails: it is not counted here.
+/// output does. A stream that keeps bytes back, as a `BufWriter` does, has to be flushed by its owner,
+/// and a flush that fails is not counted here.
 #[derive(Drop)]
 pub struct StreamSink<W: Write + Drop> {
     stream: W,
@@ -33,6 +33,13 @@ impl<W: Write + Drop> StreamSink<W> {
         ensures { result ≡ record { contents = W.contents stream; faults = 0 } }
     {
         StreamSink { stream, faults: 0 }
+    }
+
+    /// Whether a call failed.
+    pub fn has_failed(&self) -> bool
+        ensures { result ≡ nat_lt 0 self.now.faults }
+    {
+        self.faults > 0
     }
 }
 

@@ -52,6 +52,9 @@ const READ_CAUSES: [&str; 10] = [
     "\\eqno and \\leqno may stand once in a display, outside of groups",
 ];
 
+/// Why a macro of a formula is refused (`MISSING_ARGUMENT`).
+const NO_ARGUMENT: &str = "a macro without one of its arguments";
+
 /// The number of the first cause of `OutsideCause` of mt_reader.
 const FIRST_OUTSIDE: u8 = 31;
 
@@ -128,7 +131,7 @@ pub fn token_cause(cause: u8) -> &'static str
     ensures { IsLine result.now }
 {
     if cause == MISSING_ARGUMENT {
-        "a macro without one of its arguments"
+        NO_ARGUMENT
     } else if cause < FIRST_OUTSIDE {
         text_of(&READ_CAUSES, 1, cause)
     } else {
