@@ -19,7 +19,7 @@ pub mod FontLemmas
 pub mod PlaceLemmas
 -- the places of a page
 pub mod PagePlaces
--- a page, and all pages
+-- a page, and the pages with one page more
 pub mod PageLemmas
 -- at most 48 fonts are defined
 pub mod DistinctLemmas
@@ -29,5 +29,7 @@ pub mod UsedFonts
 pub mod AfterPages
 -- the greatest edge
 pub mod Greatest
+-- a file so far, to which pages are added
+pub mod FileLemmas
 -- a file from its first byte to its last
 pub mod WholeFile

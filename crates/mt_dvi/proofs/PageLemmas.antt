@@ -1,13 +1,13 @@
--- A page (`page_written`), and the pages so far (`pages_next`).
-use Rattle.std.proofs.Common.{◌≡◌, ℕ, zero, suc, ◌+◌, ◌*◌, ◌<◌, ◌≤◌, List, [], ◌∷◌, ◌++◌, length, take, get_or, refl, sym, ◌∙◌, ap, subst, arith, append_assoc, length-append}
+-- A page (`page_written`), and the pages with one page more (`page_more`).
+use Rattle.std.proofs.Common.{◌≡◌, ℕ, zero, suc, ◌+◌, ◌<◌, ◌≤◌, List, [], ◌∷◌, ◌++◌, length, take, get_or, refl, sym, ◌∙◌, ap, subst, arith, append_assoc, length-append}
 use Rattle.std.specs.Prelude.{ℤ, pos, negsuc, true, All, min, ◌^◌, ◌-◌}
 use Rattle.std.specs.Ordering.{int_eq}
 use Rattle.std.proofs.lemmas.Bool.Decides.{nat_tests}
 use Rattle.std.proofs.lemmas.List.{append-nil, take_more}
 use Rattle.std.proofs.lemmas.List.Elements.{All-append}
-use Rattle.mt_dvi.specs.Limits.{max_dvi_pages, max_places}
+use Rattle.mt_dvi.specs.Limits.{max_places}
 use Rattle.mt_dvi.specs.Codes.{Bop, Eop}
-use Rattle.mt_dvi.specs.writer.Emits.{FitsFourBytes, Emits}
+use Rattle.mt_dvi.specs.writer.Emits.{Emits}
 use Rattle.mt_dvi.specs.File.{BetweenPages, Continues, Page, at_start, empty_page, file_step}
 use Rattle.mt_dvi.specs.Trace.{Opcode, no_trace}
 use Rattle.mt_dvi.specs.Lean.{LeanPage}
@@ -15,8 +15,7 @@ use Rattle.mt_dvi.specs.writer.LeadsTo.{LeadsTo, Reached, at_origin, in_page, nu
 use Rattle.mt_dvi.specs.writer.Stands.{Arrived, StandsWith, WritesPlaces}
 use Rattle.mt_dvi.specs.Machine.{WrittenPlace}
 use Rattle.mt_dvi.specs.WrittenPlaces.{all_places, written_places, numbered_pages, page_counts, numbered_page}
-use Rattle.mt_dvi.specs.writer.Pages.{PagesWritten, WritesPage, WrittenPages, between_pages}
-use Rattle.mt_family.specs.Limits.{max_fonts}
+use Rattle.mt_dvi.specs.writer.Pages.{WritesPage, WrittenPages, between_pages}
 use Rattle.mt_family.specs.SetValue.{SetValue}
 use Rattle.mt_box.specs.declared.place.Place.{Place}
 use Rattle.mt_dvi.specs.declared.page.Cursor.{Cursor}
@@ -68,7 +67,7 @@ page_written fonts o0 o1 o2 o3 old_defined new_defined number last page bop plac
       leads = subst (λ (n : ℕ). LeadsTo fonts o3 (between_pages fonts new_defined (pages ++ numbered_page fonts number page ∷ []) (pos (length o0)) (place_count + n) (before ++ s2.1.page ∷ []))) (long fonts page) s3;
     }
 
-joined_more : (pages : List (List Place)) (page : List Place) → all_places (pages ++ page ∷ []) ≡ all_places pages ++ page
+pub joined_more : (pages : List (List Place)) (page : List Place) → all_places (pages ++ page ∷ []) ≡ all_places pages ++ page
 joined_more [] page = append-nil page
 joined_more (p ∷ pages) page = ap (λ (l : List Place). p ++ l) (joined_more pages page) ∙ sym (append_assoc p (all_places pages) page)
 
@@ -78,42 +77,13 @@ numbered_more fonts n (p ∷ pages) page =
     let e : n + 1 + length pages ≡ n + length (p ∷ pages) = omega arith in
     ap (λ (l : List Page). numbered_page fonts n p ∷ l) (numbered_more fonts (n + 1) pages page ∙ ap (λ (k : ℕ). numbered_pages fonts (n + 1) pages ++ numbered_page fonts k page ∷ []) e)
 
-used_more : (numbers : List ℕ) (xs ys : List Place) → numbers_after_all numbers (xs ++ ys) ≡ numbers_after_all (numbers_after_all numbers xs) ys
+pub used_more : (numbers : List ℕ) (xs ys : List Place) → numbers_after_all numbers (xs ++ ys) ≡ numbers_after_all (numbers_after_all numbers xs) ys
 used_more numbers [] ys = refl
 used_more numbers (x ∷ xs) ys = used_more (numbers_after numbers x) xs ys
 
--- the pages so far
-pub record PagesSoFar (fonts : SetValue) (old_out out defined : List ℕ) (last : ℤ) (pages : List (List Place)) : Type 0 where
-  pub used : defined ≡ numbers_after_all [] (all_places pages)
-  pub written : LeadsTo fonts old_out (between_pages fonts [] [] (negsuc 0) 0 [])
-      → WrittenPages fonts out defined (numbered_pages fonts 1 pages) last (length (all_places pages))
-  pub long : length out ≤ length old_out + 19 * length (all_places pages) + 46 * length pages + 271 * length defined
-
-pub pages_none : (fonts : SetValue) (out : List ℕ) → PagesSoFar fonts out out [] (negsuc 0) []
-pages_none fonts out = record { used = refl; written = λ leads. record { opcodes = []; lean = λ k d lt. absurd (omega arith); leads = leads }; long = omega arith }
-
-pub take_long : (xs : List (List Place)) (i : ℕ) → i ≤ length xs → length (take i xs) ≡ i
-take_long xs zero lt = refl
-take_long [] (suc i) lt = absurd (omega arith)
-take_long (x ∷ xs) (suc i) lt = omega (arith, take_long xs i (omega arith))
-
-take_whole : (xs : List (List Place)) (i : ℕ) → length xs ≤ i → take i xs ≡ xs
-take_whole [] zero lt = refl
-take_whole [] (suc i) lt = refl
-take_whole (x ∷ xs) zero lt = absurd (omega arith)
-take_whole (x ∷ xs) (suc i) lt = ap (λ (l : List (List Place)). x ∷ l) (take_whole xs i (omega arith))
-
--- no page is left
-pub pages_end : (fonts : SetValue) (old_out out defined : List ℕ) (last : ℤ) (all : List (List Place)) (i : ℕ) → length all ≤ i → PagesSoFar fonts old_out out defined last (take i all)
-    → FitsFourBytes last → length defined ≤ max_fonts → All (λ (n : ℕ). n < length fonts.fonts) defined → PagesWritten fonts old_out out defined last all
-pages_end fonts old_out out defined last all i lt so_far fits few there =
-    let whole = subst (λ (pages : List (List Place)). PagesSoFar fonts old_out out defined last pages) (take_whole all i lt) so_far in
-    record { used = whole.used; written = whole.written; long = whole.long; last_fits = fits; few = few; there = there }
-
-pub joined_take : (xs : List (List Place)) (i : ℕ) → length (all_places (take i xs)) ≤ length (all_places xs)
-joined_take xs zero = omega arith
-joined_take [] (suc i) = omega arith
-joined_take (x ∷ xs) (suc i) = omega (arith, joined_take xs i, length-append x (all_places (take i xs)), length-append x (all_places xs))
+-- how many places they are
+pub joined_long : (pages : List (List Place)) (page : List Place) → length (all_places (pages ++ page ∷ [])) ≡ length (all_places pages) + length page
+joined_long pages page = ap length (joined_more pages page) ∙ length-append (all_places pages) page
 
 one_of : (page : List Opcode) → LeanPage page → All LeanPage (page ∷ [])
 one_of page lean zero d lt = lean
@@ -123,58 +93,25 @@ counted_so : (fonts : SetValue) (out defined : List ℕ) (pages all : List Page)
 counted_so fonts out defined pages all last m n opcodes e f leads =
     subst (λ (ps : List Page). LeadsTo fonts out (between_pages fonts defined ps last n opcodes)) e (subst (λ (k : ℕ). LeadsTo fonts out (between_pages fonts defined pages last k opcodes)) f leads)
 
-pages_more : (fonts : SetValue) (old_out out new_out defined new_defined : List ℕ) (last : ℤ) (pages : List (List Place)) (page : List Place)
-    → PagesSoFar fonts old_out out defined last pages
-    → length (all_places (pages ++ page ∷ [])) ≤ max_places
-    → new_defined ≡ numbers_after_all defined page
+-- of a file one page longer
+pub page_more : (fonts : SetValue) (out new_out defined new_defined : List ℕ) (last : ℤ) (pages : List (List Place)) (page : List Place)
+    → length (all_places pages) + length page ≤ max_places
+    → WrittenPages fonts out defined (numbered_pages fonts 1 pages) last (length (all_places pages))
     → WritesPage fonts out new_out defined new_defined (length pages + 1) last page
-    → length new_out + 271 * length defined ≤ length out + 271 * length new_defined + (19 * length page + 46)
-    → PagesSoFar fonts old_out new_out new_defined (pos (length out)) (pages ++ page ∷ [])
-pages_more fonts old_out out new_out defined new_defined last pages page so_far few used one long =
-    let all : all_places (pages ++ page ∷ []) ≡ all_places pages ++ page = joined_more pages page in
-    let count : length (all_places (pages ++ page ∷ [])) ≡ length (all_places pages) + length page = ap length all ∙ length-append (all_places pages) page in
+    → WrittenPages fonts new_out new_defined (numbered_pages fonts 1 (pages ++ page ∷ [])) (pos (length out)) (length (all_places (pages ++ page ∷ [])))
+page_more fonts out new_out defined new_defined last pages page few written one =
     let number : 1 + length pages ≡ length pages + 1 = omega arith in
-    let before = so_far.long in
+    let s = one (numbered_pages fonts 1 pages) (length (all_places pages)) written.opcodes few written.leads in
     record {
-      used = used ∙ ap (λ (l : List ℕ). numbers_after_all l page) so_far.used ∙ sym (used_more [] (all_places pages) page) ∙ ap (λ (l : List Place). numbers_after_all [] l) (sym all);
-      written = λ leads.
-          let w = so_far.written leads in
-          let s = one (numbered_pages fonts 1 pages) (length (all_places pages)) w.opcodes (omega (arith, few, count)) w.leads in
-          record {
-            opcodes = w.opcodes ++ s.opcodes ∷ [];
-            lean = All-append LeanPage w.opcodes (s.opcodes ∷ []) w.lean (one_of s.opcodes s.lean);
-            leads = counted_so fonts new_out new_defined _ _ (pos (length out)) _ _ _ (sym (numbered_more fonts 1 pages page ∙ ap (λ (k : ℕ). numbered_pages fonts 1 pages ++ numbered_page fonts k page ∷ []) number)) (sym count) s.leads;
-          };
-      long = omega (arith, before, long, count, length-append pages (page ∷ []));
+      opcodes = written.opcodes ++ s.opcodes ∷ [];
+      lean = All-append LeanPage written.opcodes (s.opcodes ∷ []) written.lean (one_of s.opcodes s.lean);
+      leads = counted_so fonts new_out new_defined _ _ (pos (length out)) _ _ _ (sym (numbered_more fonts 1 pages page ∙ ap (λ (k : ℕ). numbered_pages fonts 1 pages ++ numbered_page fonts k page ∷ []) number)) (sym (joined_long pages page)) s.leads;
     }
-
-pub pages_next : (fonts : SetValue) (old_out out new_out defined new_defined : List ℕ) (last : ℤ) (all : List (List Place)) (i : ℕ) (d : List Place) (number : ℕ)
-    → i < length all → number ≡ i + 1
-    → length (all_places all) ≤ max_places
-    → PagesSoFar fonts old_out out defined last (take i all)
-    → new_defined ≡ numbers_after_all defined (get_or all i d)
-    → WritesPage fonts out new_out defined new_defined number last (get_or all i d)
-    → length new_out + 271 * length defined ≤ length out + 271 * length new_defined + (19 * length (get_or all i d) + 46)
-    → PagesSoFar fonts old_out new_out new_defined (pos (length out)) (take (i + 1) all)
-pages_next fonts old_out out new_out defined new_defined last all i d number lt is few so_far used one long =
-    let e : take (i + 1) all ≡ take i all ++ get_or all i d ∷ [] = take_more all i d lt in
-    let n : number ≡ length (take i all) + 1 = omega (arith, take_long all i (omega arith)) in
-    let less : length (all_places (take (i + 1) all)) ≤ max_places = omega (arith, joined_take all (i + 1), few) in
-    subst (λ (l : List (List Place)). PagesSoFar fonts old_out new_out new_defined (pos (length out)) l) (sym e)
-    (pages_more fonts old_out out new_out defined new_defined last (take i all) (get_or all i d) so_far (subst (λ (l : List (List Place)). length (all_places l) ≤ max_places) e less) used
-    (subst (λ (k : ℕ). WritesPage fonts out new_out defined new_defined k last (get_or all i d)) n one) long)
-
-pub pages_size : (fonts : SetValue) (old_out out defined : List ℕ) (last : ℤ) (all : List (List Place)) (i : ℕ) → PagesSoFar fonts old_out out defined last (take i all)
-    → length old_out ≤ 15 → length all ≤ max_dvi_pages → length (all_places all) ≤ max_places → length defined ≤ max_fonts → i ≤ length all → length out ≤ 41027633
-pages_size fonts old_out out defined last all i so_far first few places fonts_few lt =
-    let a = so_far.long in omega (arith, a, take_long all i lt, joined_take all i)
 
 pub count_more : (pages : List (List Place)) (i : ℕ) (d page : List Place) (count next : ℕ) → i < length pages → page ≡ get_or pages i d → count ≡ min (length (all_places (take i pages))) (2 ^ 64 - 1) → next ≡ min (count + length page) (2 ^ 64 - 1)
     → next ≡ min (length (all_places (take (i + 1) pages))) (2 ^ 64 - 1)
 count_more pages i d page count next lt at is add =
     let e : take (i + 1) pages ≡ take i pages ++ get_or pages i d ∷ [] = take_more pages i d lt in
     let l : length (all_places (take (i + 1) pages)) ≡ length (all_places (take i pages)) + length (get_or pages i d) =
-    ap (λ (ps : List (List Place)). length (all_places ps)) e
-    ∙ ap length (joined_more (take i pages) (get_or pages i d))
-    ∙ length-append (all_places (take i pages)) (get_or pages i d) in
+    ap (λ (ps : List (List Place)). length (all_places ps)) e ∙ joined_long (take i pages) (get_or pages i d) in
     omega (arith, l, ap length at, is, add)

@@ -9,7 +9,9 @@ mod fonts;
 mod moves;
 pub mod opcode;
 mod page;
+mod write;
 
 pub use error::DviWriteError;
-pub use file::{DviBytes, MAX_PLACES, write_dvi};
+pub use file::{DviBytes, DviFile};
 pub use moves::{MoveForm, move_code};
+pub use write::{MAX_PLACES, write_dvi};

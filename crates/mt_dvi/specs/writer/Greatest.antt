@@ -12,6 +12,10 @@ with_edges greatest right lower = record {
   lower = max greatest.lower (or_zero lower);
 }
 
+-- of no place
+abbrev pub no_edges : GreatestEdges
+no_edges = record { right = 0; lower = 0 }
+
 -- these places more
 abbrev pub edges_after : SetValue → GreatestEdges → List Place → GreatestEdges
 edges_after fonts greatest places = record {
