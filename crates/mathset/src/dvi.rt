@@ -15,7 +15,7 @@ use mt_family::FontSet;
 use mt_outside::Cabinet;
 use mt_pages::listing;
 use mt_status::Status;
-use mt_words::DviFile;
+use mt_words::DviSource;
 use std::alloc::Global;
 
 // A DVI file that is refused.
@@ -64,7 +64,7 @@ fn read_file<C: Cabinet>(
 /// fault. `OutOfMemory` where memory ran out.
 pub fn read<C: Cabinet>(
     alloc: Global,
-    words: &DviFile<'_>,
+    words: &DviSource<'_>,
     cabinet: &mut C,
 ) -> Result<Product, Status>
     ensures is { IsStep C.holds C.faults C.lost cabinet.old cabinet.new

@@ -89,7 +89,7 @@ impl Cabinet for MemoryCabinet {
         ensures fails { Fails self.old name.now
             → (result ≡ Err FetchError.Failed) ⊎ (result ≡ Err FetchError.OutOfMemory) }
     {
-        // A call without memory for the name is counted too, so it gives up only after the count.
+        // A call without memory for the name is counted too, so it ends only after the count.
         let lost = Name::from_slice(alloc, name.as_bytes());
         self.calls = self.calls.saturating_add(1);
         let lost = lost?;

@@ -7,7 +7,7 @@ use crate::{PutError, Sink};
 use std::alloc::{AllocError, Global};
 use std::marker::Model;
 
-/// Bytes in memory that never fail. Past its capacity it takes every byte and tells nothing more.
+/// Bytes in memory; a put never fails. Past its capacity it takes every byte and tells nothing more.
 #[derive(Debug, Drop)]
 pub struct SteadySink {
     bytes: Vec<u8>,

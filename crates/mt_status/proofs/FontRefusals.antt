@@ -1,4 +1,4 @@
--- The fonts are never refused for want of memory (`fonts_avoid`).
+-- No definition refuses a font for want of memory (`list_avoids`, `font_avoids`, `set_avoids`).
 use Rattle.std.proofs.Common.{◌≡◌, ◌+◌, ◌*◌, ◌&&◌, ℕ, length, Bool, true, false, List, [], ◌∷◌, refl, ap}
 use Rattle.std.specs.Prelude.{Option, Some, None, Result, Ok, Err, nat_le, ◌==◌, codes}
 use Rattle.std.specs.Str.{bytes_eq}

@@ -68,7 +68,7 @@ const OUTSIDE_CAUSES: [&str; 6] = [
     "a bad character or code after \\mathcode or \\delcode",
 ];
 
-/// Why a byte of a DVI file is refused, in the order of `Cause` of mt_dviread.
+/// Why a byte of a DVI file is refused, in the order of `DviError` of mt_dviread.
 const DVI_CAUSES: [&str; 11] = [
     "the DVI file ends too early",
     "this opcode cannot stand here",

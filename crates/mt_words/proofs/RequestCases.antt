@@ -1,9 +1,16 @@
 -- What small command lines ask for.
 use Rattle.std.proofs.Common.{◌≡◌, [], ◌∷◌, refl, codes}
-use Rattle.std.specs.Prelude.{pos, Some, None}
+use Rattle.std.specs.Prelude.{pos, Some, None, decimal}
+use Rattle.std.specs.Fmt.{digits}
 use Rattle.clap.proofs.OnLiterals.{clap_on_literals}
+use Rattle.mt_words.specs.Limits.{default_line, default_line_word}
 use Rattle.mt_words.specs.Request.{request_of}
 use Rattle.mt_words.specs.declared.request.Request.TheVariants.{Set, Read}
+
+-- the two forms of the width by default agree
+word_of_line : decimal default_line ≡ default_line_word
+unfolding digits
+word_of_line = refl
 
 case_1 : request_of (codes "mathset" ∷ codes "set" ∷ codes "F" ∷ codes "S" ∷ []) ≡ Some (Set (record { fonts = codes "F"; source = codes "S"; line = pos 30785863 }))
 unfolding clap_on_literals

@@ -5,6 +5,6 @@ use Rattle.std.specs.Prelude.{ℕ, List, codes}
 abbrev pub default_line : ℕ
 default_line = 30785863
 
--- the same as a word, as `clap` is told it
+-- the same as a word, as `clap` is told it (the two agree: `proofs/RequestCases.antt`)
 abbrev pub default_line_word : List ℕ
 default_line_word = codes "30785863"

@@ -8,7 +8,7 @@ ghost use Rattle.mt_words.specs.Request.{request_of, sample_of, source_of};
 
 use crate::command_line::match_words;
 use crate::number::decimal_between;
-use crate::request::{DviFile, Request, Sample, Source};
+use crate::request::{DviSource, Request, Sample, Source};
 use clap::ArgMatches;
 use clap::parser::ValueSource;
 use mt_samples::MAX_COUNT;
@@ -79,7 +79,7 @@ fn request_by<'a>(action: &str, names: &[&'a str], matches: &ArgMatches<'a>) -> 
         "set" => Some(Request::Set(source_of(first, second, matches)?)),
         "places" => Some(Request::Places(source_of(first, second, matches)?)),
         _ if has_line(matches) => None,
-        "read" => Some(Request::Read(DviFile {
+        "read" => Some(Request::Read(DviSource {
             fonts: first,
             dvi: second,
         })),

@@ -8,4 +8,4 @@ mod request;
 
 pub use command_line::DEFAULT_LINE;
 pub use forms::read_words;
-pub use request::{DviFile, Request, Sample, Source};
+pub use request::{DviSource, Request, Sample, Source};

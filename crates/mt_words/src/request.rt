@@ -2,7 +2,7 @@
 use std::marker::Model;
 
 /// A source to be set in the fonts of a list.
-#[derive(Drop)]
+#[derive(Debug, Drop)]
 pub struct Source<'a> {
     /// The name of the font list.
     pub fonts: &'a str,
@@ -25,15 +25,15 @@ impl<'a> Model for Source<'a> {
 }
 
 /// A DVI file to be read with the fonts of a list.
-#[derive(Drop)]
-pub struct DviFile<'a> {
+#[derive(Debug, Drop)]
+pub struct DviSource<'a> {
     /// The name of the font list.
     pub fonts: &'a str,
     /// The name of the DVI file.
     pub dvi: &'a str,
 }
 
-impl<'a> Model for DviFile<'a> {
+impl<'a> Model for DviSource<'a> {
     ghost use Rattle.mt_words.specs.RequestValues.{DviValue};
 
     ghost Value = { DviValue };
@@ -42,7 +42,7 @@ impl<'a> Model for DviFile<'a> {
 }
 
 /// Formulas to be generated.
-#[derive(Drop)]
+#[derive(Debug, Drop)]
 pub struct Sample {
     /// The seed of the generator.
     pub seed: u64,
@@ -63,14 +63,14 @@ impl Model for Sample {
 }
 
 /// What the words of a command line ask for.
-#[derive(Drop)]
+#[derive(Debug, Drop)]
 pub enum Request<'a> {
     /// `set FONTS SOURCE`: the DVI file of the source's pages.
     Set(Source<'a>),
     /// `places FONTS SOURCE`: the same pages as a text.
     Places(Source<'a>),
     /// `read FONTS DVI`: the places of the DVI file as a text.
-    Read(DviFile<'a>),
+    Read(DviSource<'a>),
     /// `gen SEED COUNT`: a summary of generated formulas.
     Gen(Sample),
 }
