@@ -25,6 +25,9 @@ use mt_rules::with_width;
 use mt_scaled::{Length, half};
 use std::alloc::{AllocError, Global};
 
+// The most entries of the column of an operator with limits: two kerns beside each limit.
+const MAX_ENTRIES: usize = 7;
+
 /// An operator with its superscript above it and its subscript below it. `delta` is the operator's
 /// italic correction: the superscript stands half of it to the right, the subscript as much to the
 /// left.
@@ -235,7 +238,7 @@ fn limits_column(
     ensures level { IfOk result (λ column. column_level column
         ≤ max nucleus.level (max (script_level sup) (script_level sub)) + 1) }
 {
-    let mut entries = Vec::new(alloc);
+    let mut entries = Vec::with_capacity(alloc, MAX_ENTRIES)?;
     push_upper(&mut entries, fonts, size, sup)?;
     entries.push(Entry::Boxed {
         shift: 0,
