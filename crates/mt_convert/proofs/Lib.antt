@@ -6,6 +6,8 @@ pub mod Packable
 pub mod SetNuclei
 -- rows with scripts
 pub mod SetRows
+-- the clean box of a character
+pub mod CleanGlyphs
 -- lists made part by part
 pub mod Appending
 -- boxes of boundaries

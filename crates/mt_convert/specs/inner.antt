@@ -12,6 +12,8 @@ pub mod Boundaries
 pub mod Stack
 -- a nucleus of the code
 pub mod Nucleus
+-- the clean box of a character
+pub mod Glyphs
 -- the kern of a joined pair
 pub mod Lengths
 -- final classes in the list of the code

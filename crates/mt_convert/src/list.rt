@@ -123,7 +123,7 @@ pub fn first_pass(
     ensures fits { IfOk result (λ half. HalvesFit (12 * list_nesting list) half.items) }
 {
     let mut rest = Worklist::of(list);
-    let mut halves = Vec::new(alloc);
+    let mut halves = Vec::with_capacity(alloc, rest.len())?;
     let mut current = Current { style, last: None };
     while let Some(front) = rest.pop() {
         if let Some(passed) = turn(fonts, current, front, &mut rest)? {
@@ -246,6 +246,7 @@ fn set_scripts(
 
 // The row of an operator with its scripts above and below it.
 #[cycle(setting)]
+#[inline(never)]
 fn set_limits(
     alloc: Global,
     fonts: &FontSet,
@@ -400,6 +401,7 @@ fn pack_list(
 
 // An operator under limits.
 #[cycle(setting)]
+#[inline(never)]
 fn set_operator(
     alloc: Global,
     fonts: &FontSet,
@@ -421,6 +423,7 @@ fn set_operator(
 // ---- parts round a nucleus
 
 #[cycle(setting)]
+#[inline(never)]
 fn set_radical(
     alloc: Global,
     fonts: &FontSet,
@@ -437,6 +440,7 @@ fn set_radical(
 }
 
 #[cycle(setting)]
+#[inline(never)]
 fn set_overline(
     alloc: Global,
     fonts: &FontSet,
@@ -452,6 +456,7 @@ fn set_overline(
 }
 
 #[cycle(setting)]
+#[inline(never)]
 fn set_underline(
     alloc: Global,
     fonts: &FontSet,
@@ -468,6 +473,7 @@ fn set_underline(
 
 // An accent over a nucleus whose scripts belong to the whole.
 #[cycle(setting)]
+#[inline(never)]
 fn set_accent(
     alloc: Global,
     fonts: &FontSet,
@@ -497,6 +503,7 @@ fn set_accent(
 
 // An accent over a symbol whose scripts belong under it.
 #[cycle(setting)]
+#[inline(never)]
 fn set_accent_inside(
     alloc: Global,
     fonts: &FontSet,
@@ -544,6 +551,7 @@ fn set_accent_inside(
 }
 
 #[cycle(setting)]
+#[inline(never)]
 fn set_vcenter(
     alloc: Global,
     fonts: &FontSet,
@@ -595,6 +603,7 @@ fn push_box(boxes: &mut Vec<Packed>, body: Packed) -> Result<(), AllocError>
 
 // The row of a fraction.
 #[cycle(setting)]
+#[inline(never)]
 fn set_fraction(
     alloc: Global,
     fonts: &FontSet,

@@ -46,6 +46,11 @@ impl Worklist {
         Worklist { items }
     }
 
+    // How many items are left.
+    pub(crate) fn len(&self) -> usize {
+        self.items.len()
+    }
+
     pub(crate) fn pop(&mut self) -> Option<Item>
         ensures { MatchOption result ((self.old ≡ End) × (self.new ≡ End))
             (λ item. self.old ≡ More (element_of item) self.new) }

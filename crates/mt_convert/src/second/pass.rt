@@ -67,7 +67,7 @@ fn join_rows(
     ensures few { IfOk result (λ row. length row ≤ 2 ^ 21) }
     ensures fits { IfOk result (λ row. (n : ℕ) → 2 ≤ n → HalvesFit n items → RowFits n row) }
 {
-    let mut pieces = Vec::new(alloc);
+    let mut pieces = Vec::with_capacity(alloc, most_pieces(&items))?;
     let mut current = Current { style, last: None };
     for item in items.into_vec() {
         let next = after_half(current, &item);
@@ -75,6 +75,24 @@ fn join_rows(
         current = next;
     }
     tested(Row::from_vec(pieces))
+}
+
+// At most how many pieces these items have.
+fn most_pieces(items: &HalfList) -> usize {
+    let mut count = 0usize;
+    for item in items.as_slice() {
+        count = count.saturating_add(most_of(item));
+    }
+    count
+}
+
+fn most_of(item: &Half) -> usize {
+    match item {
+        Half::Set { row, .. } => row.as_slice().len().saturating_add(1),
+        Half::Left(_) | Half::Right(_) => 2,
+        Half::Style(_) => 0,
+        Half::Kern(_) | Half::Space(_) => 1,
+    }
 }
 
 // Where a list has come to after an item.

@@ -77,6 +77,7 @@ fn push_row(
     Ok(())
 }
 
+#[inline(never)]
 fn push_boundary(
     alloc: Global,
     fonts: &FontSet,

@@ -1,21 +1,22 @@
 //! Symbols found, and the boxes of rows (tex.web, sections 720 and 722).
-ghost use Rattle.std.specs.Prelude.{◌≡◌, ◌≤◌, ◌+◌, ◌^◌, ℕ, IfOk, IsTrue, Ok, length};
+ghost use Rattle.std.specs.Prelude.{◌≡◌, ◌≤◌, ◌+◌, ◌^◌, ◌∷◌, [], ℕ, IfOk, IsTrue, Ok, length};
+ghost use Rattle.mt_scaled.specs.Number.{Within};
 ghost use Rattle.mt_tfm.specs.Font.{exists};
 ghost use Rattle.mt_box.specs.Extents.{ExtentsInRange};
-ghost use Rattle.mt_box.specs.Rows.{piece_values};
+ghost use Rattle.mt_box.specs.Rows.{PieceGlyph, PieceKern, piece_values};
 ghost use Rattle.mt_rules.specs.Nuclei;
 ghost use Rattle.mt_rules.specs.Setting.{empty_layout, pack_row};
 ghost use Rattle.mt_rules.specs.Symbols.{find_symbol, font_of_number};
 ghost use Rattle.mt_convert.specs.Halfway.{RowFits};
 ghost use Rattle.mt_convert.specs.inner.Answers.{SetsBox, SetsNumber};
+ghost use Rattle.mt_convert.specs.inner.Glyphs.{clean_glyph};
 
 use crate::SetFault;
-use crate::flat::passed::JoiningRole;
-use crate::set::nucleus::symbol_nucleus;
-use crate::set::row::tested;
-use mt_box::{Packed, Row, clean, hpack};
+use mt_box::{Extents, Packed, Row, clean, first_out, hpack, hpack_glyph};
 use mt_family::{FontSet, Size};
-use mt_rules::{Style, Symbol};
+use mt_rules::{Style, Symbol, extents_without_italic};
+use mt_scaled::Length;
+use mt_tfm::Font;
 use std::alloc::Global;
 
 // The number of the font in which a symbol is found.
@@ -65,9 +66,46 @@ pub(crate) fn clean_symbol(
     ensures in_range { IfOk result (λ b. ExtentsInRange b.extents) }
     ensures level { IfOk result (λ b. b.level ≤ 1) }
 {
-    let nucleus = symbol_nucleus(alloc, fonts, style, symbol, JoiningRole::Ordinary, false)?;
-    let row = tested(nucleus.row)?;
-    cleaned(alloc, row)
+    let number = find_symbol(fonts, style.size(), symbol)?;
+    let Some(font) = fonts.font(number) else {
+        unreachable!();
+    };
+    clean_glyph(alloc, number, font, symbol.code)
+}
+
+// The clean box of a character of a font: the glyph is tested, then its box, whose width has the
+// italic correction.
+fn clean_glyph(alloc: Global, number: u16, font: &Font, code: u8) -> Result<Packed, SetFault>
+    requires { IsTrue (exists font.now code) }
+    ensures is { SetsBox result (clean_glyph number font.now code) }
+    ensures in_range { IfOk result (λ b. ExtentsInRange b.extents) }
+    ensures level { IfOk result (λ b. b.level ≤ 1) }
+{
+    let extents = extents_without_italic(font, code);
+    if let Some(value) = first_out(extents) {
+        return Err(SetFault::Overflow(value));
+    }
+    let italic = Length {
+        sp: font.italic(code),
+    };
+    packed_glyph(alloc, number, code, extents, italic)
+}
+
+// A glyph with a kern after it, packed.
+fn packed_glyph(
+    alloc: Global,
+    number: u16,
+    code: u8,
+    extents: Extents,
+    kern: Length,
+) -> Result<Packed, SetFault>
+    requires extents { ExtentsInRange extents }
+    requires kern { Within (2 ^ 31) kern.sp }
+    ensures is { SetsBox result (pack_row (PieceGlyph number code extents ∷ PieceKern kern.sp ∷ [])) }
+    ensures in_range { IfOk result (λ b. ExtentsInRange b.extents) }
+    ensures level { IfOk result (λ b. b.level ≤ 1) }
+{
+    Ok(hpack_glyph(alloc, number, code, extents, kern.sp)?)
 }
 
 // The clean box of what holds nothing.

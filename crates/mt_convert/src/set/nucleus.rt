@@ -29,7 +29,7 @@ use crate::set::row::push_piece;
 use mt_box::{Extents, Packed, Piece, Row, first_out};
 use mt_family::{FontSet, Size};
 use mt_rules::parameters::axis_height;
-use mt_rules::{Style, Symbol, with_width};
+use mt_rules::{Style, Symbol, extents_without_italic, with_width};
 use mt_scaled::{Length, in_range};
 use mt_tfm::Font;
 use std::alloc::Global;
@@ -73,7 +73,7 @@ fn one_piece(alloc: Global, piece: Piece, delta: Length) -> Result<SetNucleus, S
     ensures delta { IfOk result (λ n. n.delta.sp ≡ delta.sp) }
     ensures memory { IfErr result (λ e. e ≡ OutOfMemory) }
 {
-    let mut pieces = Vec::new(alloc);
+    let mut pieces = Vec::with_capacity(alloc, 2)?;
     push_piece(&mut pieces, piece)?;
     Ok(SetNucleus {
         row: Row::from_vec(pieces),
@@ -124,11 +124,7 @@ fn glyph_nucleus(
     ensures is { SetsNucleus result (Nuclei.glyph_nucleus number font.now code (role_value role) has_subscript) }
     ensures fits { IfOk result (NucleusIsSmall 0) }
 {
-    let extents = Extents {
-        width: font.width(code),
-        height: font.height(code),
-        depth: font.depth(code),
-    };
+    let extents = extents_without_italic(font, code);
     if let Some(value) = first_out(extents) {
         return Err(SetFault::Overflow(value));
     }
@@ -182,7 +178,7 @@ fn with_kern(alloc: Global, piece: Piece, kern: Length) -> Result<SetNucleus, Se
     ensures delta { IfOk result (λ n. n.delta.sp ≡ pos 0) }
     ensures memory { IfErr result (λ e. e ≡ OutOfMemory) }
 {
-    let mut pieces = Vec::new(alloc);
+    let mut pieces = Vec::with_capacity(alloc, 2)?;
     push_piece(&mut pieces, piece)?;
     push_piece(&mut pieces, Piece::Kern(kern.sp))?;
     Ok(SetNucleus {
@@ -196,6 +192,7 @@ fn with_kern(alloc: Global, piece: Piece, kern: Length) -> Result<SetNucleus, Se
 // The nucleus of an operator that is a symbol: its clean box on the axis, and its italic
 // correction, which the box does not have where a subscript stands beside it.
 #[tactic(auto, unfolding(mt_rules::specs::Operators::operator_nucleus))]
+#[inline(never)]
 pub(crate) fn operator_nucleus(
     alloc: Global,
     fonts: &FontSet,

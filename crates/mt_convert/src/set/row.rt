@@ -21,6 +21,7 @@ pub(crate) fn push_piece(pieces: &mut Vec<Piece>, piece: Piece) -> Result<(), Al
 }
 
 // The row, tested as it packs.
+#[inline(always)]
 pub(crate) fn tested(row: Row) -> Result<Row, SetFault>
     requires few { length row ≤ 2 ^ 21 }
     requires measurable { AllMeasurable row }
@@ -40,7 +41,7 @@ pub(crate) fn box_row(alloc: Global, body: Packed) -> Result<Row, SetFault>
     ensures fits { IfOk result (λ row. (n : ℕ) → body.level ≤ n → RowFits n row) }
     ensures reach { IfOk result ReachInRange }
 {
-    let mut pieces = Vec::new(alloc);
+    let mut pieces = Vec::with_capacity(alloc, 1)?;
     push_piece(&mut pieces, Piece::Boxed { raise: 0, body })?;
     tested(Row::from_vec(pieces))
 }

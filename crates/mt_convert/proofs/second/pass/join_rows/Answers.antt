@@ -10,14 +10,14 @@ use Rattle.mt_convert.proofs.SecondPass.{so_far_start, so_far_step, so_far_err, 
 use Rattle.mt_convert.proofs.second.pass.join_rows.Goals as goal
 
 pub loop-item-init : goal.loop-item-init
-loop-item-init c = (tt, tt, so_far_start c.args.fonts.now c.args.frame.size c.args.frame.wanted.sp c.args.style c.args.items _ _ c.requires.meet c.requires.few c.requires.total (c.into_iter-item-iterator.ensures.into_iter_gives.0 ∙ c.into_vec-item-items.ensures) c.new-pieces.ensures.items)
+loop-item-init c = (tt, tt, so_far_start c.args.fonts.now c.args.frame.size c.args.frame.wanted.sp c.args.style c.args.items _ _ c.requires.meet c.requires.few c.requires.total (c.into_iter-item-iterator.ensures.into_iter_gives.0 ∙ c.into_vec-item-items.ensures) c.in_ok-pieces.ensures.items)
 
 pub push_half-requires-clause-meets : goal.push_half-requires-clause-meets
 push_half-requires-clause-meets c = next_meets _ _ _ _ _ _ _ _ _ _ c.loop-item.invariant.2 c.in-Some.ensures.steps.0
 
 pub returns-in_err-push_half-clause-is : goal.returns-in_err-push_half-clause-is
 returns-in_err-push_half-clause-is c =
-    let p = err_from_is_err_and c.from_residual.result c.from_residual.ensures.1 in
+    let p = err_from_is_err_and c.from_residual-in_err-push_half.result c.from_residual-in_err-push_half.ensures.1 in
     rw (p.1, p.2) (so_far_err _ _ _ _ _ c.loop-item.current _ _ c.in-Some.item _ _ c.loop-item.invariant.2 c.in-Some.ensures.steps.0 c.in_err-push_half.ensures.is)
 
 pub loop-item-preserved : goal.loop-item-preserved
