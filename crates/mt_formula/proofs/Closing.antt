@@ -15,7 +15,6 @@ use Rattle.mt_scan.specs.declared.role.FieldKind.{FieldKind}
 use Rattle.mt_scan.specs.declared.role.Side.{Side}
 use Rattle.mt_scan.specs.declared.role.Side.TheVariants.{Up}
 use Rattle.mt_formula.specs.declared.open.open_list.Stop.{Stop}
-use Rattle.mt_formula.specs.declared.open.open_list.Turned.{Turned}
 use Rattle.mt_scan.specs.Role.{nucleus_kind}
 use Rattle.mt_scan.specs.Parts.{Read, Fault}
 use Rattle.mt_formula.specs.Atoms.{InGroup, nucleus_atom, nucleus_of, with_script}
@@ -30,9 +29,9 @@ use Rattle.mt_formula.proofs.Standing.{no_items, resumed_put, resumed_fault}
 
 module _ (tables : CodeTables) (units : Units) where
   -- the owner of a frame
-  pub resumes_owner : (owner given : Owner) (l : OpenList) (outer : List Frame) (all : Sequence) (ts : List Token) (result : Result Turned Stop) (new : List Frame) → owner ≡ given
-      → Resumes tables units (record { owner = given; list = l }) outer all ts result new → Resumes tables units (record { owner = owner; list = l }) outer all ts result new
-  resumes_owner owner given l outer all ts result new e r = subst (λ (o : Owner). Resumes tables units (record { owner = o; list = l }) outer all ts result new) (sym e) r
+  pub resumes_owner : (owner given : Owner) (l : OpenList) (outer : List Frame) (all : Sequence) (ts : List Token) (result : Result (Bor (List Token)) Stop) (new : List Frame) (list : OpenList) → owner ≡ given
+      → Resumes tables units (record { owner = given; list = l }) outer all ts result new list → Resumes tables units (record { owner = owner; list = l }) outer all ts result new list
+  resumes_owner owner given l outer all ts result new list e r = subst (λ (o : Owner). Resumes tables units (record { owner = o; list = l }) outer all ts result new list) (sym e) r
 
   module _ (whole : Read Sequence) (l new : OpenList) (outer : List Frame) (all : Sequence) (ts : List Token) where
     pub nucleus_closed : (kind : FieldKind) (after : List Token) → after ≡ drop 1 ts → length after ≤ length ts → ResumesNucleus kind all l new → Resuming tables units whole (record { owner = Nucleus kind; list = l }) outer all ts → Stands tables units whole outer new after
@@ -59,14 +58,14 @@ module _ (tables : CodeTables) (units : Units) where
 kept : (owner given : Owner) (left : ℕ) → owner ≡ given → left_after given left ≡ left → left ≤ left_after owner left
 kept owner given left e is = subst (λ (o : Owner). left ≤ left_after o left) (sym e) (omega (arith, is))
 
-pub falls_by : (result : Result Turned Stop) (frames outer : List Frame) (owner given : Owner) (left : ℕ) → owner ≡ given → left_after given left ≡ left
-    → IfOk result (λ (turned : Turned). remaining frames (length turned.rest.now) ≤ remaining outer left) → IfOk result (λ (turned : Turned). remaining frames (length turned.rest.now) ≤ remaining outer (left_after owner left))
-falls_by (Ok turned) frames outer owner given left e is low = omega (arith, low, kept owner given left e is)
+pub falls_by : (result : Result (Bor (List Token)) Stop) (frames outer : List Frame) (owner given : Owner) (left : ℕ) → owner ≡ given → left_after given left ≡ left
+    → IfOk result (λ (rest : Bor (List Token)). remaining frames (length rest.now) ≤ remaining outer left) → IfOk result (λ (rest : Bor (List Token)). remaining frames (length rest.now) ≤ remaining outer (left_after owner left))
+falls_by (Ok rest) frames outer owner given left e is low = omega (arith, low, kept owner given left e is)
 falls_by (Err stop) frames outer owner given left e is low = low
 
-pub shortens_by : (result : Result Turned Stop) (outer : List Frame) (owner given : Owner) (left : ℕ) → owner ≡ given → left_after given left ≡ left
-    → IfOk result (λ (turned : Turned). length turned.rest.now ≤ left) → IfOk result (λ (turned : Turned). remaining outer (length turned.rest.now) ≤ remaining outer (left_after owner left))
-shortens_by (Ok turned) outer owner given left e is low = omega (arith, low, kept owner given left e is)
+pub shortens_by : (result : Result (Bor (List Token)) Stop) (outer : List Frame) (owner given : Owner) (left : ℕ) → owner ≡ given → left_after given left ≡ left
+    → IfOk result (λ (rest : Bor (List Token)). length rest.now ≤ left) → IfOk result (λ (rest : Bor (List Token)). remaining outer (length rest.now) ≤ remaining outer (left_after owner left))
+shortens_by (Ok rest) outer owner given left e is low = omega (arith, low, kept owner given left e is)
 shortens_by (Err stop) outer owner given left e is low = low
 
 pub argument_falls : (outer : List Frame) (owner : Owner) (after rest : Bor (List Token)) (count left : ℕ) → owner ≡ Argument after count → rest ≡ after → remaining outer (length rest.now) ≤ remaining outer (left_after owner left)

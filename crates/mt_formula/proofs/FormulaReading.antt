@@ -53,12 +53,12 @@ pub first_of : (ts : List Token) (t : Token) → 1 ≤ length ts → t ≡ get_o
 first_of [] t low e = absurd (omega (arith, low))
 first_of (x ∷ xs) t low e = ap (λ (y : Token). y ∷ xs) (sym e) ∙ ap (λ (r : List Token). t ∷ r) (sym (take_all (length (x ∷ xs) - 1) xs (omega arith)))
 
-module _ (tables : CodeTables) (units : Units) (before : Read Sequence → Type 0) (frames : List Frame) where
+module _ (tables : CodeTables) (units : Units) (before : Read Sequence → Type 0) (frames : List Frame) (l : OpenList) where
   -- the whole is read
-  pub whole_read : (progress : Progress) (part : Scanned InnerItems) → progress ≡ Whole part → Progressed tables units before (Ok progress) frames → (whole : Read Sequence) → before whole → whole ≡ Got (inner_sequence part.value) part.rest.now
-  whole_read progress part e t = subst (λ (p : Progress). Progressed tables units before (Ok p) frames) e t
+  pub whole_read : (progress : Progress) (part : Scanned InnerItems) → progress ≡ Whole part → Progressed tables units before (Ok progress) frames l → (whole : Read Sequence) → before whole → whole ≡ Got (inner_sequence part.value) part.rest.now
+  whole_read progress part e t = subst (λ (p : Progress). Progressed tables units before (Ok p) frames l) e t
 
-  pub whole_stopped : (stop result : Stop) → Progressed tables units before (Err stop) frames → IsWholeStop result stop frames → (whole : Read Sequence) → before whole → HasFault result whole
+  pub whole_stopped : (stop result : Stop) → Progressed tables units before (Err stop) frames l → IsWholeStop result stop frames → (whole : Read Sequence) → before whole → HasFault result whole
   whole_stopped (AtFault fault) result t is whole g = whole_fault whole frames fault result (t whole g) is
   whole_stopped OutOfMemory (AtFault fault) t is whole g = absurd is
   whole_stopped OutOfMemory OutOfMemory t is whole g = tt

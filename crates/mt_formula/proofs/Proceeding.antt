@@ -115,13 +115,13 @@ module _ (tables : CodeTables) (units : Units) where
         resuming tables units whole f fs l ts all (subst (λ x. Finishing tables units whole x l ts) e g.finishing) (λ again. g.is again ∙ ap (λ s. Got s ts) (sym is_all))
 
   -- a turn and a step of it
-  module _ (P Q : Read Sequence → Type 0) (frames : List Frame) (f : (whole : Read Sequence) → P whole → Q whole) where
-    pub progressed_stop : (stop : Stop) → Leaves tables units Q (Err stop) frames → Progressed tables units P (Err stop) frames
+  module _ (P Q : Read Sequence → Type 0) (frames : List Frame) (l : OpenList) (f : (whole : Read Sequence) → P whole → Q whole) where
+    pub progressed_stop : (stop : Stop) → Leaves tables units Q (Err stop) frames l → Progressed tables units P (Err stop) frames l
     progressed_stop (AtFault fault) t = λ whole p. t whole (f whole p)
     progressed_stop OutOfMemory t = tt
 
-    pub progressed_from : (result : Result Progress Stop) → Progressed tables units Q result frames → Progressed tables units P result frames
-    progressed_from (Ok (Open turned)) t = λ whole p. t whole (f whole p)
+    pub progressed_from : (result : Result Progress Stop) → Progressed tables units Q result frames l → Progressed tables units P result frames l
+    progressed_from (Ok (Open rest)) t = λ whole p. t whole (f whole p)
     progressed_from (Ok (Whole part)) t = λ whole p. t whole (f whole p)
     progressed_from (Err (AtFault fault)) t = λ whole p. t whole (f whole p)
     progressed_from (Err OutOfMemory) t = tt
@@ -135,12 +135,12 @@ pub spent_one : (a : Action) → (a ≡ StopAction → ⊥) → spent a ≡ 1
 spent_one StopAction n = absurd (n refl)
 spent_one _ n = refl
 
-pub open_less : (result : Result Progress Stop) (frames : List Frame) (less left : ℕ) → IfOpen result (λ t. length t.rest.now ≤ less) → less < left → IfOpen result (λ t. remaining frames (length t.rest.now) < remaining frames left)
-open_less (Ok (Open turned)) frames less left h k = omega (arith, h, k)
+pub open_less : (result : Result Progress Stop) (frames : List Frame) (less left : ℕ) → IfOpen result (λ t. length t.now ≤ less) → less < left → IfOpen result (λ t. remaining frames (length t.now) < remaining frames left)
+open_less (Ok (Open rest)) frames less left h k = omega (arith, h, k)
 open_less (Ok (Whole part)) frames less left h k = tt
 open_less (Err stop) frames less left h k = tt
 
-pub open_lower : (result : Result Progress Stop) (old new : List Frame) (less left : ℕ) → IfOpen result (λ t. remaining new (length t.rest.now) < remaining old less) → less ≤ left → IfOpen result (λ t. remaining new (length t.rest.now) < remaining old left)
-open_lower (Ok (Open turned)) old new less left h k = omega (arith, h, k)
+pub open_lower : (result : Result Progress Stop) (old new : List Frame) (less left : ℕ) → IfOpen result (λ t. remaining new (length t.now) < remaining old less) → less ≤ left → IfOpen result (λ t. remaining new (length t.now) < remaining old left)
+open_lower (Ok (Open rest)) old new less left h k = omega (arith, h, k)
 open_lower (Ok (Whole part)) old new less left h k = tt
 open_lower (Err stop) old new less left h k = tt

@@ -1,5 +1,6 @@
 -- Lists that go on after what was read of one of their items (`Continuing`).
 use Rattle.std.specs.Prelude.{ℕ, ◌+◌, ◌<◌, Bool, true, false, List, [], ◌∷◌, length, Result, ⊤, if◌then◌else◌}
+use Rattle.std.specs.Borrow.{Bor}
 use Rattle.mt_token.specs.declared.token.Token.{Token}
 use Rattle.mt_scaled.specs.declared.unit.Units.{Units}
 use Rattle.mt_rules.specs.declared.kind.Kind.TheVariants.{Vcenter}
@@ -12,7 +13,6 @@ use Rattle.mt_scan.specs.declared.fault.ReadCause.TheVariants.{MissingField}
 use Rattle.mt_scan.specs.declared.role.Role.{Role}
 use Rattle.mt_scan.specs.declared.role.Role.TheVariants.{CloseBrace, HboxWord}
 use Rattle.mt_formula.specs.declared.open.open_list.Stop.{Stop}
-use Rattle.mt_formula.specs.declared.open.open_list.Turned.{Turned}
 use Rattle.mt_scan.specs.Role.{role_of, is_open_brace, is_math_shift, is_close_brace}
 use Rattle.mt_scan.specs.Parts.{Read, Got, Fault, then_read, opening, after_spaces}
 use Rattle.mt_formula.specs.Atoms.{plain_atom}
@@ -82,8 +82,8 @@ module _ (tables : CodeTables) (units : Units) where
     pub is : Unwinds tables units outer left (then_read (r (item_run tables units n)) (list_with tables units (item_run tables units m) l)) whole
 
   -- what a list leaves that goes on so
-  abbrev pub Continues : List Frame → OpenList → ℕ → (ItemRunReader → Read ItemRun) → Result Turned Stop → List Frame → Type 0
-  Continues outer l left r result new = Leaves tables units (λ (whole : Read Sequence). Continuing whole outer l left r) result new
+  abbrev pub Continues : List Frame → OpenList → ℕ → (ItemRunReader → Read ItemRun) → Result (Bor (List Token)) Stop → List Frame → OpenList → Type 0
+  Continues outer l left r result new list = Leaves tables units (λ (whole : Read Sequence). Continuing whole outer l left r) result new list
 
   -- after Spaces, another list of a choice that has these
   abbrev pub list_of_choice : OpenList → ChoiceLists → List Token → ItemRunReader → Read ItemRun
@@ -107,5 +107,5 @@ module _ (tables : CodeTables) (units : Units) where
     pub enough_rows : length tokens < k
     pub continues : Continuing whole outer l (length tokens) (more_rows l k done begins tokens)
 
-  abbrev pub LeavesRows : List Frame → OpenList → Rows → Bool → List Token → Result Turned Stop → List Frame → Type 0
-  LeavesRows outer l done begins tokens result new = Leaves tables units (λ (whole : Read Sequence). NextRows whole outer l done begins tokens) result new
+  abbrev pub LeavesRows : List Frame → OpenList → Rows → Bool → List Token → Result (Bor (List Token)) Stop → List Frame → OpenList → Type 0
+  LeavesRows outer l done begins tokens result new list = Leaves tables units (λ (whole : Read Sequence). NextRows whole outer l done begins tokens) result new list

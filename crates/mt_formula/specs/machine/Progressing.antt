@@ -1,5 +1,6 @@
 -- What a turn gives (`Progressed`), where an item stands, where a list ends (`Ended`) and where a fraction word divides it (`Divided`).
 use Rattle.std.specs.Prelude.{◌≡◌, ℕ, ◌+◌, ◌<◌, Bool, List, length, Result, Ok, Err, ⊤}
+use Rattle.std.specs.Borrow.{Bor}
 use Rattle.mt_token.specs.declared.token.Token.{Token}
 use Rattle.mt_scaled.specs.declared.unit.Units.{Units}
 use Rattle.mt_rules.specs.Sequence.{Sequence}
@@ -11,7 +12,6 @@ use Rattle.mt_formula.specs.declared.step.turn.Progress.TheVariants.{Open, Whole
 use Rattle.mt_scan.specs.declared.role.Bar.{Bar}
 use Rattle.mt_formula.specs.declared.open.open_list.Stop.{Stop}
 use Rattle.mt_formula.specs.declared.open.open_list.Stop.TheVariants.{Fault as AtFault, OutOfMemory}
-use Rattle.mt_formula.specs.declared.open.open_list.Turned.{Turned}
 use Rattle.mt_scan.specs.Parts.{Read, Got, Fault, then_read}
 use Rattle.mt_formula.specs.Atoms.{append, last_atom_items}
 use Rattle.mt_formula.specs.Lists.{ItemRunReader, fraction_head, denominator}
@@ -42,14 +42,14 @@ module _ (tables : CodeTables) (units : Units) where
     pub is : Finishes l ts (λ again. then_read (fraction_head tables units delims bar rest)
         (denominator tables units again l.ending l.level (record { items = append (items_of l) (last_atom_items (last_atom_of l.last)); family = l.family })))
 
-  -- from what holds before of the whole reading: these frames, the list and the tokens left give it, or it is this, or its fault is this
-  abbrev pub Progressed : (Read Sequence → Type 0) → Result Progress Stop → List Frame → Type 0
-  Progressed before (Ok (Open turned)) frames = (whole : Read Sequence) → before whole → Stands tables units whole frames turned.list turned.rest.now
-  Progressed before (Ok (Whole part)) frames = (whole : Read Sequence) → before whole → whole ≡ Got (inner_sequence part.value) part.rest.now
-  Progressed before (Err (AtFault fault)) frames = (whole : Read Sequence) → before whole → whole ≡ Fault fault.cause (fault.left + tokens_after_all frames)
-  Progressed before (Err OutOfMemory) frames = ⊤
+  -- from what holds before of the whole reading: these frames, this list and the tokens left give it, or it is this, or its fault is this
+  abbrev pub Progressed : (Read Sequence → Type 0) → Result Progress Stop → List Frame → OpenList → Type 0
+  Progressed before (Ok (Open rest)) frames l = (whole : Read Sequence) → before whole → Stands tables units whole frames l rest.now
+  Progressed before (Ok (Whole part)) frames l = (whole : Read Sequence) → before whole → whole ≡ Got (inner_sequence part.value) part.rest.now
+  Progressed before (Err (AtFault fault)) frames l = (whole : Read Sequence) → before whole → whole ≡ Fault fault.cause (fault.left + tokens_after_all frames)
+  Progressed before (Err OutOfMemory) frames l = ⊤
 
 -- where a list is still open
-abbrev pub IfOpen : Result Progress Stop → (Turned → Type 0) → Type 0
-IfOpen (Ok (Open turned)) holds = holds turned
+abbrev pub IfOpen : Result Progress Stop → (Bor (List Token) → Type 0) → Type 0
+IfOpen (Ok (Open rest)) holds = holds rest
 IfOpen _ holds = ⊤

@@ -10,9 +10,7 @@ ghost use Rattle.mt_formula.specs.machine.Turned.{Resumes};
 use crate::forms::resume::{after_first, resume_choice};
 use crate::open::groups::open_brace;
 use crate::open::lists::open_group;
-use crate::open::open_list::{
-    ChoiceLists, Ending, Frame, InnerItems, OpenList, Owner, Stop, Turned,
-};
+use crate::open::open_list::{ChoiceLists, Ending, Frame, InnerItems, OpenList, Owner, Stop};
 use mt_plain::Codes;
 use mt_scan::after_spaces;
 use mt_token::Token;
@@ -23,27 +21,20 @@ fn open_next<'a>(
     alloc: Global,
     codes: &Codes,
     frames: &mut Vec<Frame<'a>>,
-    list: OpenList,
+    list: &mut OpenList,
     lists: ChoiceLists,
     tokens: &'a [Token],
-) -> Result<Turned<'a>, Stop>
+) -> Result<&'a [Token], Stop>
     ensures is { (units : Units) →
-        Continues codes.now units (reverse frames.old.items) list (length tokens.now)
-        (list_of_choice codes.now units list lists tokens.now)
-        result (reverse frames.new.items) }
-    ensures falls { IfOk result (λ turned. remaining (reverse frames.new.items) (length turned.rest.now)
+        Continues codes.now units (reverse frames.old.items) list.old (length tokens.now)
+        (list_of_choice codes.now units list.old lists tokens.now)
+        result (reverse frames.new.items) list.new }
+    ensures falls { IfOk result (λ rest. remaining (reverse frames.new.items) (length rest.now)
         ≤ remaining (reverse frames.old.items) (length tokens.now)) }
 {
-    match open_brace(codes, list.level, after_spaces(tokens)) {
-        Ok(inside) => {
-            let inner = open_group(alloc, frames, list, Owner::Choice(lists), Ending::AtBrace)?;
-            Ok(Turned {
-                list: inner,
-                rest: inside,
-            })
-        }
-        Err(fault) => Err(Stop::Fault(fault)),
-    }
+    let inside = open_brace(codes, list.level, after_spaces(tokens))?;
+    open_group(alloc, frames, list, Owner::Choice(lists), Ending::AtBrace)?;
+    Ok(inside)
 }
 
 /// What becomes of a list when one of the lists of a choice in it ends, at `}`: after Spaces and `{`
@@ -53,16 +44,16 @@ pub fn close_choice<'a>(
     alloc: Global,
     codes: &Codes,
     frames: &mut Vec<Frame<'a>>,
-    list: OpenList,
+    list: &mut OpenList,
     lists: ChoiceLists,
     all: InnerItems,
     tokens: &'a [Token],
-) -> Result<Turned<'a>, Stop>
+) -> Result<&'a [Token], Stop>
     ensures is { (units : Units) →
-        Resumes codes.now units (record { owner = Choice lists; list = list }) (reverse frames.old.items)
+        Resumes codes.now units (record { owner = Choice lists; list = list.old }) (reverse frames.old.items)
         (inner_sequence all) tokens.now
-        result (reverse frames.new.items) }
-    ensures falls { IfOk result (λ turned. remaining (reverse frames.new.items) (length turned.rest.now)
+        result (reverse frames.new.items) list.new }
+    ensures falls { IfOk result (λ rest. remaining (reverse frames.new.items) (length rest.now)
         ≤ remaining (reverse frames.old.items) (length tokens.now)) }
 {
     let after = after_first(tokens);
@@ -82,9 +73,9 @@ pub fn close_choice<'a>(
             let lists = ChoiceLists::Three(display, text, all);
             open_next(alloc, codes, frames, list, lists, after)
         }
-        ChoiceLists::Three(display, text, script) => Ok(Turned {
-            list: resume_choice(alloc, list, display, text, script, all)?,
-            rest: after,
-        }),
+        ChoiceLists::Three(display, text, script) => {
+            resume_choice(alloc, list, display, text, script, all)?;
+            Ok(after)
+        }
     }
 }

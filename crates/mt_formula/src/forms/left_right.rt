@@ -12,7 +12,7 @@ ghost use Rattle.mt_formula.specs.machine.Turned.{Resumes};
 use crate::forms::resume::after_first;
 use crate::open::last_atom::plain_last_atom;
 use crate::open::lists::put_last_atom;
-use crate::open::open_list::{InnerItems, OpenList, Stop, Turned};
+use crate::open::open_list::{InnerItems, OpenList, Stop};
 use mt_plain::Codes;
 use mt_rules::{Class, Delim, Field, Item, MathList};
 use mt_scan::{FieldKind, scan_delimiter};
@@ -37,18 +37,16 @@ fn into_bounded(left: Delim, items: InnerItems, right: Delim) -> Result<MathList
 
 fn resume_left_right(
     alloc: Global,
-    list: OpenList,
+    list: &mut OpenList,
     left: Delim,
     all: InnerItems,
     right: Delim,
-) -> Result<OpenList, AllocError>
-    ensures { IfOk result (λ new. ResumesLeftRight left (inner_sequence all) right list new) }
+) -> Result<(), AllocError>
+    ensures { OnOk result (ResumesLeftRight left (inner_sequence all) right list.old list.new) }
 {
     let inner = Field::List(into_bounded(left, all, right)?);
-    put_last_atom(
-        list,
-        plain_last_atom(alloc, FieldKind::Class(Class::Inner), inner)?,
-    )
+    let atom = plain_last_atom(alloc, FieldKind::Class(Class::Inner), inner)?;
+    put_last_atom(list, atom)
 }
 
 /// What becomes of a list when the one between boundaries in it ends, at `\right`: a delimiter
@@ -57,21 +55,17 @@ fn resume_left_right(
 pub fn close_left_right<'a>(
     alloc: Global,
     codes: &Codes,
-    list: OpenList,
+    list: &mut OpenList,
     left: Delim,
     all: InnerItems,
     tokens: &'a [Token],
-) -> Result<Turned<'a>, Stop>
+) -> Result<&'a [Token], Stop>
     ensures is { (units : Units) (outer : List Frame) →
-        Resumes codes.now units (record { owner = LeftRight left; list = list }) outer
-        (inner_sequence all) tokens.now result outer }
-    ensures falls { IfOk result (λ turned. length turned.rest.now ≤ length tokens.now) }
+        Resumes codes.now units (record { owner = LeftRight left; list = list.old }) outer
+        (inner_sequence all) tokens.now result outer list.new }
+    ensures falls { IfOk result (λ rest. length rest.now ≤ length tokens.now) }
 {
-    match scan_delimiter(codes, after_first(tokens)) {
-        Ok(right) => Ok(Turned {
-            list: resume_left_right(alloc, list, left, all, right.value)?,
-            rest: right.rest,
-        }),
-        Err(fault) => Err(Stop::Fault(fault)),
-    }
+    let right = scan_delimiter(codes, after_first(tokens))?;
+    resume_left_right(alloc, list, left, all, right.value)?;
+    Ok(right.rest)
 }

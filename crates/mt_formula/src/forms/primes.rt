@@ -20,13 +20,14 @@ use crate::open::groups::{check_level, missing_field};
 use crate::open::items::into_list;
 use crate::open::last_atom::plain_last_atom;
 use crate::open::lists::{finish_items, new_list, push_frame, put_last_atom, put_script};
-use crate::open::open_list::{Ending, Frame, LastAtom, OpenList, Owner, Stop, Turned};
+use crate::open::open_list::{Ending, Frame, LastAtom, OpenList, Owner, Stop};
 use mt_macro::closing_brace;
 use mt_plain::Codes;
 use mt_rules::{Class, Field, Symbol};
 use mt_scan::{Fault, FieldKind, Role, Scanned, Side, after_spaces, role_of};
 use mt_token::Token;
 use std::alloc::{AllocError, Global};
+use std::mem;
 
 /// The argument of a superscript that primes begin, which is read as a list to the end of its tokens.
 #[derive(Drop)]
@@ -92,10 +93,10 @@ fn prime_list(
     ensures { IfOk result (λ new.
         Begins (prime_items count) (Some prime_atom) level family AtEnd new) }
 {
-    let empty = new_list(alloc, level, family, Ending::AtEnd);
-    let mut list = put_last_atom(empty, prime_last_atom(alloc)?)?;
+    let mut list = new_list(alloc, level, family, Ending::AtEnd);
+    put_last_atom(&mut list, prime_last_atom(alloc)?)?;
     for _put in 0..count {
-        list = put_last_atom(list, prime_last_atom(alloc)?)?;
+        put_last_atom(&mut list, prime_last_atom(alloc)?)?;
     }
     Ok(list)
 }
@@ -104,8 +105,8 @@ fn prime_list(
 fn prime_field(alloc: Global, count: usize) -> Result<Field, AllocError>
     ensures { IfOk result (λ script. part_of_field script ≡ ListPart (prime_items (count + 1))) }
 {
-    let list = prime_list(alloc, 0, None, count)?;
-    Ok(Field::List(into_list(finish_items(alloc, list)?)))
+    let mut list = prime_list(alloc, 0, None, count)?;
+    Ok(Field::List(into_list(finish_items(alloc, &mut list)?)))
 }
 
 fn first_tokens<'a>(tokens: &'a [Token], count: usize) -> &'a [Token]
@@ -160,10 +161,10 @@ fn argument_here<'a>(
     match tokens {
         [token, after @ ..] => match role_of(codes, token) {
             Role::CloseBrace => Err(missing_field(tokens.len())),
-            Role::OpenBrace => match check_level(level, tokens.len()) {
-                Ok(()) => Ok(braced_argument(level + 1, after)),
-                Err(fault) => Err(fault),
-            },
+            Role::OpenBrace => {
+                check_level(level, tokens.len())?;
+                Ok(braced_argument(level + 1, after))
+            }
             _ => {
                 let rest = tokens_from(tokens, 1);
                 Ok(ScriptArgument {
@@ -177,20 +178,20 @@ fn argument_here<'a>(
     }
 }
 
-// The list of a superscript, with so many primes and one more, and an argument to be read in it.
+// Opens the list of a superscript, with so many primes and one more, and an argument to be read in it.
 fn open_argument<'a>(
     alloc: Global,
     frames: &mut Vec<Frame<'a>>,
-    list: OpenList,
+    list: &mut OpenList,
     count: usize,
     argument: ScriptArgument<'a>,
-) -> Result<Turned<'a>, AllocError>
+) -> Result<&'a [Token], AllocError>
     requires { argument.level ≤ max_groups }
-    ensures begins { IfOk result (λ turned.
-        Begins (prime_items count) (Some prime_atom) argument.entry.level list.family AtEnd turned.list) }
-    ensures inside { IfOk result (λ turned. turned.rest.now ≡ argument.entry.inside.now) }
+    ensures begins { OnOk result
+        (Begins (prime_items count) (Some prime_atom) argument.entry.level list.old.family AtEnd list.new) }
+    ensures inside { IfOk result (λ rest. rest.now ≡ argument.entry.inside.now) }
     ensures pushed { OnOk result (reverse frames.new.items
-        ≡ record { owner = argument.entry.owner; list = list } ∷ reverse frames.old.items) }
+        ≡ record { owner = argument.entry.owner; list = list.old } ∷ reverse frames.old.items) }
 {
     let ScriptArgument {
         owner,
@@ -198,11 +199,9 @@ fn open_argument<'a>(
         inside,
     } = argument;
     let inner = prime_list(alloc, level, list.family, count)?;
-    push_frame(frames, Frame { owner, list })?;
-    Ok(Turned {
-        list: inner,
-        rest: inside,
-    })
+    let outer = mem::replace(list, inner);
+    push_frame(frames, Frame { owner, list: outer })?;
+    Ok(inside)
 }
 
 /// What becomes of a list after a prime: adjacent primes follow, and then perhaps directly `^` with
@@ -212,25 +211,26 @@ pub fn put_primes<'a>(
     alloc: Global,
     codes: &Codes,
     frames: &mut Vec<Frame<'a>>,
-    list: OpenList,
+    list: &mut OpenList,
     tokens: &'a [Token],
-) -> Result<Turned<'a>, Stop>
+) -> Result<&'a [Token], Stop>
     ensures is { (units : Units) →
-        Performs codes.now units (reverse frames.old.items) list Prime tokens.now
-        result (reverse frames.new.items) }
-    ensures falls { IfOk result (λ turned.
-        remaining (reverse frames.new.items) (length turned.rest.now)
+        Performs codes.now units (reverse frames.old.items) list.old Prime tokens.now
+        result (reverse frames.new.items) list.new }
+    ensures falls { IfOk result (λ rest.
+        remaining (reverse frames.new.items) (length rest.now)
         ≤ remaining (reverse frames.old.items) (length tokens.now) + 1) }
 {
     let more = primes(codes, tokens);
     match after_superscript(codes, more.rest) {
-        Some(after) => match argument_here(codes, list.level, after) {
-            Ok(argument) => Ok(open_argument(alloc, frames, list, more.value, argument)?),
-            Err(fault) => Err(Stop::Fault(fault)),
-        },
-        None => Ok(Turned {
-            list: put_script(alloc, list, Side::Up, prime_field(alloc, more.value)?)?,
-            rest: more.rest,
-        }),
+        Some(after) => {
+            let argument = argument_here(codes, list.level, after)?;
+            Ok(open_argument(alloc, frames, list, more.value, argument)?)
+        }
+        None => {
+            let field = prime_field(alloc, more.value)?;
+            put_script(alloc, list, Side::Up, field)?;
+            Ok(more.rest)
+        }
     }
 }

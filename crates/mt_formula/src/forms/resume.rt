@@ -1,5 +1,5 @@
 //! What a group stands for, and what it makes of the list in which it stands.
-ghost use Rattle.std.specs.Prelude.{◌≡◌, ◌≤◌, true, false, drop, length, IfOk};
+ghost use Rattle.std.specs.Prelude.{◌≡◌, ◌≤◌, true, false, drop, length, IfOk, OnOk};
 ghost use Rattle.mt_rules.specs.Sequence.{ChoiceElement};
 ghost use Rattle.mt_rules.specs.View.{element_of, part_of_field};
 ghost use Rattle.mt_scan.specs.Role.{nucleus_kind};
@@ -73,26 +73,27 @@ fn nucleus_last_atom(
     }
 }
 
-/// A list with a group as the nucleus of a new atom.
+/// Puts a group to a list, as the nucleus of a new atom.
 pub fn resume_nucleus(
     alloc: Global,
-    list: OpenList,
+    list: &mut OpenList,
     kind: FieldKind,
     all: InnerItems,
-) -> Result<OpenList, AllocError>
-    ensures { IfOk result (λ new. ResumesNucleus kind (inner_sequence all) list new) }
+) -> Result<(), AllocError>
+    ensures { OnOk result (ResumesNucleus kind (inner_sequence all) list.old list.new) }
 {
-    put_last_atom(list, nucleus_last_atom(alloc, kind, all)?)
+    let atom = nucleus_last_atom(alloc, kind, all)?;
+    put_last_atom(list, atom)
 }
 
-/// A list with a group as a script.
+/// Puts a group to a list, as a script.
 pub fn resume_script(
     alloc: Global,
-    list: OpenList,
+    list: &mut OpenList,
     side: Side,
     all: InnerItems,
-) -> Result<OpenList, AllocError>
-    ensures { IfOk result (λ new. ResumesScript side (inner_sequence all) list new) }
+) -> Result<(), AllocError>
+    ensures { OnOk result (ResumesScript side (inner_sequence all) list.old list.new) }
 {
     put_script(alloc, list, side, nucleus_of(all))
 }
@@ -120,17 +121,17 @@ fn choice_item(
     Ok(Item::Choice(Box::new(alloc, choice)?))
 }
 
-/// A list with a choice.
+/// Puts a choice to a list.
 pub fn resume_choice(
     alloc: Global,
-    list: OpenList,
+    list: &mut OpenList,
     display: InnerItems,
     text: InnerItems,
     script: InnerItems,
     small: InnerItems,
-) -> Result<OpenList, AllocError>
-    ensures { IfOk result (λ new. ResumesChoice (inner_sequence display) (inner_sequence text)
-        (inner_sequence script) (inner_sequence small) list new) }
+) -> Result<(), AllocError>
+    ensures { OnOk result (ResumesChoice (inner_sequence display) (inner_sequence text)
+        (inner_sequence script) (inner_sequence small) list.old list.new) }
 {
     let item = choice_item(
         alloc,

@@ -23,12 +23,13 @@ use crate::open::groups::{check_level, missing_field, open_brace};
 use crate::open::items::into_list;
 use crate::open::last_atom::vcenter_last_atom;
 use crate::open::lists::{new_list, push_frame, put_last_atom};
-use crate::open::open_list::{Ending, Frame, InnerItems, OpenList, Owner, Stop, Turned};
+use crate::open::open_list::{Ending, Frame, InnerItems, OpenList, Owner, Stop};
 use mt_plain::Codes;
 use mt_rules::{MathList, RowList};
 use mt_scan::{Fault, Role, Scanned, after_spaces, role_of};
 use mt_token::Token;
 use std::alloc::{AllocError, Global};
+use std::mem;
 
 // The tokens after a `$` that must stand here and opens a group.
 fn open_dollar<'a>(codes: &Codes, level: usize, tokens: &'a [Token]) -> Result<&'a [Token], Fault>
@@ -131,11 +132,12 @@ fn push_row(rows: &mut Vec<MathList>, row: MathList) -> Result<(), AllocError>
     Ok(())
 }
 
-// The list with a vcenter atom of these rows.
-fn put_rows(alloc: Global, list: OpenList, rows: Vec<MathList>) -> Result<OpenList, AllocError>
-    ensures { IfOk result (λ new. ResumesRows (rows_of rows.items) list new) }
+// Puts a vcenter atom of these rows to the list.
+fn put_rows(alloc: Global, list: &mut OpenList, rows: Vec<MathList>) -> Result<(), AllocError>
+    ensures { OnOk result (ResumesRows (rows_of rows.items) list.old list.new) }
 {
-    put_last_atom(list, vcenter_last_atom(alloc, RowList::from_vec(rows))?)
+    let atom = vcenter_last_atom(alloc, RowList::from_vec(rows))?;
+    put_last_atom(list, atom)
 }
 
 // A row of the vcenter atom in this list, after these rows and a `\hbox`.
@@ -143,33 +145,25 @@ fn open_row<'a>(
     alloc: Global,
     codes: &Codes,
     frames: &mut Vec<Frame<'a>>,
-    list: OpenList,
+    list: &mut OpenList,
     done: Vec<MathList>,
     tokens: &'a [Token],
-) -> Result<Turned<'a>, Stop>
+) -> Result<&'a [Token], Stop>
     ensures is { (units : Units) →
-        LeavesRows codes.now units (reverse frames.old.items) list (rows_of done.items) true tokens.now
-        result (reverse frames.new.items) }
-    ensures falls { IfOk result (λ turned. remaining (reverse frames.new.items) (length turned.rest.now)
+        LeavesRows codes.now units (reverse frames.old.items) list.old (rows_of done.items) true tokens.now
+        result (reverse frames.new.items) list.new }
+    ensures falls { IfOk result (λ rest. remaining (reverse frames.new.items) (length rest.now)
         ≤ remaining (reverse frames.old.items) (length tokens.now)) }
 {
     let level = list.level + 1;
-    match open_row_list(codes, level, tokens) {
-        Ok(inside) => {
-            push_frame(
-                frames,
-                Frame {
-                    owner: Owner::Row(done),
-                    list,
-                },
-            )?;
-            Ok(Turned {
-                list: new_list(alloc, level + 2, None, Ending::AtDollar),
-                rest: inside,
-            })
-        }
-        Err(fault) => Err(Stop::Fault(fault)),
-    }
+    let inside = open_row_list(codes, level, tokens)?;
+    let row = new_list(alloc, level + 2, None, Ending::AtDollar);
+    let frame = Frame {
+        owner: Owner::Row(done),
+        list: mem::replace(list, row),
+    };
+    push_frame(frames, frame)?;
+    Ok(inside)
 }
 
 // After these rows, another one where one begins, or else the atom.
@@ -177,24 +171,22 @@ fn next_row<'a>(
     alloc: Global,
     codes: &Codes,
     frames: &mut Vec<Frame<'a>>,
-    list: OpenList,
+    list: &mut OpenList,
     done: Vec<MathList>,
     begins: bool,
     tokens: &'a [Token],
-) -> Result<Turned<'a>, Stop>
+) -> Result<&'a [Token], Stop>
     ensures is { (units : Units) →
-        LeavesRows codes.now units (reverse frames.old.items) list (rows_of done.items) begins tokens.now
-        result (reverse frames.new.items) }
-    ensures falls { IfOk result (λ turned. remaining (reverse frames.new.items) (length turned.rest.now)
+        LeavesRows codes.now units (reverse frames.old.items) list.old (rows_of done.items) begins tokens.now
+        result (reverse frames.new.items) list.new }
+    ensures falls { IfOk result (λ rest. remaining (reverse frames.new.items) (length rest.now)
         ≤ remaining (reverse frames.old.items) (length tokens.now)) }
 {
     if begins {
         open_row(alloc, codes, frames, list, done, tokens)
     } else {
-        Ok(Turned {
-            list: put_rows(alloc, list, done)?,
-            rest: tokens,
-        })
+        put_rows(alloc, list, done)?;
+        Ok(tokens)
     }
 }
 
@@ -204,27 +196,18 @@ pub fn open_rows<'a>(
     alloc: Global,
     codes: &Codes,
     frames: &mut Vec<Frame<'a>>,
-    list: OpenList,
+    list: &mut OpenList,
     tokens: &'a [Token],
-) -> Result<Turned<'a>, Stop>
+) -> Result<&'a [Token], Stop>
     ensures is { (units : Units) →
-        Performs codes.now units (reverse frames.old.items) list Rows tokens.now
-        result (reverse frames.new.items) }
-    ensures falls { IfOk result (λ turned. remaining (reverse frames.new.items) (length turned.rest.now)
+        Performs codes.now units (reverse frames.old.items) list.old Rows tokens.now
+        result (reverse frames.new.items) list.new }
+    ensures falls { IfOk result (λ rest. remaining (reverse frames.new.items) (length rest.now)
         ≤ remaining (reverse frames.old.items) (length tokens.now)) }
 {
-    match first_row_begins(codes, tokens) {
-        Ok(row) => next_row(
-            alloc,
-            codes,
-            frames,
-            list,
-            Vec::new(alloc),
-            row.value,
-            row.rest,
-        ),
-        Err(fault) => Err(Stop::Fault(fault)),
-    }
+    let row = first_row_begins(codes, tokens)?;
+    let rows = Vec::new(alloc);
+    next_row(alloc, codes, frames, list, rows, row.value, row.rest)
 }
 
 /// What becomes of a list when a row of the vcenter atom in it ends, at `$`: after `}` another row
@@ -233,24 +216,20 @@ pub fn close_row<'a>(
     alloc: Global,
     codes: &Codes,
     frames: &mut Vec<Frame<'a>>,
-    list: OpenList,
+    list: &mut OpenList,
     done: Vec<MathList>,
     all: InnerItems,
     tokens: &'a [Token],
-) -> Result<Turned<'a>, Stop>
+) -> Result<&'a [Token], Stop>
     ensures is { (units : Units) →
-        Resumes codes.now units (record { owner = Row done; list = list }) (reverse frames.old.items)
+        Resumes codes.now units (record { owner = Row done; list = list.old }) (reverse frames.old.items)
         (inner_sequence all) tokens.now
-        result (reverse frames.new.items) }
-    ensures falls { IfOk result (λ turned. remaining (reverse frames.new.items) (length turned.rest.now)
+        result (reverse frames.new.items) list.new }
+    ensures falls { IfOk result (λ rest. remaining (reverse frames.new.items) (length rest.now)
         ≤ remaining (reverse frames.old.items) (length tokens.now)) }
 {
-    match row_ends(codes, after_first(tokens)) {
-        Ok(row) => {
-            let mut rows = done;
-            push_row(&mut rows, into_list(all))?;
-            next_row(alloc, codes, frames, list, rows, row.value, row.rest)
-        }
-        Err(fault) => Err(Stop::Fault(fault)),
-    }
+    let row = row_ends(codes, after_first(tokens))?;
+    let mut rows = done;
+    push_row(&mut rows, into_list(all))?;
+    next_row(alloc, codes, frames, list, rows, row.value, row.rest)
 }

@@ -1,14 +1,13 @@
 //! Items between which no boundary stands: putting items to them, and what they make.
-ghost use Rattle.std.specs.Prelude.{◌≡◌, true, false, IfOk, OnOk, MatchOption, [], ◌∷◌, ◌++◌, is_some, Some, None};
+ghost use Rattle.std.specs.Prelude.{◌≡◌, true, false, OnOk, MatchOption, [], ◌∷◌, ◌++◌, is_some, Some, None};
 ghost use Rattle.mt_rules.specs.Sequence.{End, More};
 ghost use Rattle.mt_rules.specs.View.{element_of, sequence_of};
-ghost use Rattle.mt_formula.specs.Atoms.{append, last_atom_items, only_atom, is_bare_ord, is_accent_kind};
+ghost use Rattle.mt_formula.specs.Atoms.{append, only_atom, is_bare_ord, is_accent_kind};
 ghost use Rattle.std.specs.Option.{option_map};
 ghost use Rattle.mt_formula.specs.machine.Facts.{stands_inside, is_inside};
-ghost use Rattle.mt_formula.specs.machine.OpenLists.{fits_option, inner_sequence, last_atom_value, last_atom_of};
+ghost use Rattle.mt_formula.specs.machine.OpenLists.{fits_option, inner_sequence, last_atom_value};
 ghost use Rattle.mt_formula.specs.machine.OpenLists.{atom_value, is_only_bare, is_only_accent};
 
-use crate::open::last_atom::into_item;
 use crate::open::open_list::{InnerItems, LastAtom};
 use mt_rules::{Atom, Class, Field, Item, Kind, MathList};
 use std::alloc::{AllocError, Global};
@@ -26,31 +25,18 @@ fn push_item(items: &mut Vec<Item>, item: Item) -> Result<(), AllocError>
     ensures is { OnOk result (sequence_of items.new.items ≡ append (sequence_of items.old.items)
         (More (element_of item) End)) }
     ensures inside { is_inside (sequence_of items.old.items) ≡ true → stands_inside (element_of item) ≡ true
-        → OnOk result (is_inside (sequence_of items.new.items) ≡ true) }
+        → is_inside (sequence_of items.new.items) ≡ true }
 {
     items.push(item)?;
     Ok(())
 }
 
-/// The items with another one at their end.
-pub fn with_item(items: InnerItems, item: Item) -> Result<InnerItems, AllocError>
+/// Puts another item at the end of the items.
+pub fn add_item(items: &mut InnerItems, item: Item) -> Result<(), AllocError>
     requires { stands_inside (element_of item) ≡ true }
-    ensures { IfOk result (λ new. inner_sequence new ≡ append (inner_sequence items) (More (element_of item) End)) }
+    ensures { OnOk result (inner_sequence items.new ≡ append (inner_sequence items.old) (More (element_of item) End)) }
 {
-    let InnerItems { mut items } = items;
-    push_item(&mut items, item)?;
-    Ok(InnerItems { items })
-}
-
-/// The items with the last atom at their end.
-pub fn with_last_atom(items: InnerItems, last: Option<LastAtom>) -> Result<InnerItems, AllocError>
-    ensures { IfOk result (λ new. inner_sequence new
-        ≡ append (inner_sequence items) (last_atom_items (last_atom_of last))) }
-{
-    match last {
-        Some(last) => with_item(items, into_item(last)),
-        None => Ok(items),
-    }
+    push_item(&mut items.items, item)
 }
 
 fn is_bare_atom(atom: &Atom) -> bool

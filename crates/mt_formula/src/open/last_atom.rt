@@ -1,10 +1,10 @@
 //! The last atom: how it is made, and what it becomes.
-ghost use Rattle.std.specs.Prelude.{◌≡◌, true, false, IfOk};
+ghost use Rattle.std.specs.Prelude.{◌≡◌, true, false, Some, IfOk, OnOk};
 ghost use Rattle.mt_rules.specs.Sequence.{RowsPart};
 ghost use Rattle.mt_rules.specs.declared.kind.Kind.TheVariants.{Vcenter};
 ghost use Rattle.mt_rules.specs.View.{element_of, part_of_field};
 ghost use Rattle.mt_scan.specs.Role.{nucleus_kind};
-ghost use Rattle.mt_formula.specs.Atoms.{element_of_atom, plain_atom, scripted_atom, is_empty_field, is_free};
+ghost use Rattle.mt_formula.specs.Atoms.{element_of_atom, plain_atom, is_empty_field, is_free};
 ghost use Rattle.mt_formula.specs.Atoms.{is_op_kind, is_op, with_script, with_limits};
 ghost use Rattle.mt_formula.specs.machine.Facts.{stands_inside, holds_rows};
 ghost use Rattle.mt_formula.specs.machine.OpenLists.{atom_value, last_atom_value, last_atom_of};
@@ -68,49 +68,36 @@ pub fn vcenter_last_atom(alloc: Global, rows: RowList) -> Result<LastAtom, Alloc
     Ok(LastAtom { atom })
 }
 
-fn scripted(alloc: Global, last: Option<LastAtom>) -> Result<LastAtom, AllocError>
-    ensures { IfOk result (λ new. last_atom_value new ≡ scripted_atom (last_atom_of last)) }
+fn set_script(last: &mut LastAtom, side: Side, part: Field)
+    requires { holds_rows (part_of_field part) ≡ false }
+    ensures { last_atom_value last.new ≡ with_script side (part_of_field part) (Some (last_atom_value last.old)) }
 {
-    match last {
-        Some(last) => Ok(last),
-        None => plain_last_atom(alloc, FieldKind::Class(Class::Ord), Field::Empty),
+    match side {
+        Side::Up => last.atom.sup = part,
+        Side::Down => last.atom.sub = part,
     }
 }
 
-fn with_sup(last: LastAtom, part: Field) -> LastAtom
-    requires { holds_rows (part_of_field part) ≡ false }
-    ensures { last_atom_value result ≡ record (last_atom_value last) { sup = part_of_field part } }
-{
-    let LastAtom { mut atom } = last;
-    atom.sup = part;
-    LastAtom { atom }
-}
-
-fn with_sub(last: LastAtom, part: Field) -> LastAtom
-    requires { holds_rows (part_of_field part) ≡ false }
-    ensures { last_atom_value result ≡ record (last_atom_value last) { sub = part_of_field part } }
-{
-    let LastAtom { mut atom } = last;
-    atom.sub = part;
-    LastAtom { atom }
-}
-
-/// The last atom, or a new one, with a script.
-pub fn with_script(
+/// Puts a script at the last atom, or at a new one where there is none.
+pub fn put_script_at(
     alloc: Global,
+    last: &mut Option<LastAtom>,
     side: Side,
     part: Field,
-    last: Option<LastAtom>,
-) -> Result<LastAtom, AllocError>
+) -> Result<(), AllocError>
     requires { holds_rows (part_of_field part) ≡ false }
-    ensures { IfOk result (λ new. last_atom_value new
-        ≡ with_script side (part_of_field part) (last_atom_of last)) }
+    ensures { OnOk result (last_atom_of last.new
+        ≡ Some (with_script side (part_of_field part) (last_atom_of last.old))) }
 {
-    let last = scripted(alloc, last)?;
-    Ok(match side {
-        Side::Up => with_sup(last, part),
-        Side::Down => with_sub(last, part),
-    })
+    match last {
+        Some(atom) => set_script(atom, side, part),
+        None => {
+            let mut atom = plain_last_atom(alloc, FieldKind::Class(Class::Ord), Field::Empty)?;
+            set_script(&mut atom, side, part);
+            *last = Some(atom);
+        }
+    }
+    Ok(())
 }
 
 fn is_empty_field(part: &Field) -> bool
@@ -148,16 +135,12 @@ pub fn is_op(last: &Option<LastAtom>) -> bool
     }
 }
 
-/// The last atom with its limits at another place.
-pub fn with_limits(limits: Limits, last: Option<LastAtom>) -> Option<LastAtom>
-    ensures { last_atom_of result ≡ with_limits limits (last_atom_of last) }
+/// Places the limits of the last atom.
+pub fn set_limits(last: &mut Option<LastAtom>, limits: Limits)
+    ensures { last_atom_of last.new ≡ with_limits limits (last_atom_of last.old) }
 {
     match last {
-        None => None,
-        Some(last) => {
-            let LastAtom { mut atom } = last;
-            atom.limits = limits;
-            Some(LastAtom { atom })
-        }
+        None => (),
+        Some(last) => last.atom.limits = limits,
     }
 }

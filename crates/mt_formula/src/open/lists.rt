@@ -1,4 +1,4 @@
-//! What becomes of a list that is open.
+//! How a list that is open is changed.
 ghost use Rattle.std.specs.Prelude.{◌≡◌, ◌≤◌, ◌<◌, ◌+◌, [], ◌∷◌, IfOk, OnOk, MatchOption, Some, None, true, false};
 ghost use Rattle.std.specs.Prelude.{length, reverse};
 ghost use Rattle.mt_rules.specs.Sequence.{End, More, FractionElement};
@@ -10,14 +10,15 @@ ghost use Rattle.mt_formula.specs.machine.OpenLists.{last_atom_value, last_atom_
 ghost use Rattle.mt_formula.specs.machine.OpenLists.{finished_items, Begins, Becomes, Divides};
 ghost use Rattle.mt_scan.specs.Limits.{max_groups};
 
-use crate::open::items::{into_list, no_items, with_item, with_last_atom};
-use crate::open::last_atom::{with_limits, with_script};
+use crate::open::items::{add_item, into_list, no_items};
+use crate::open::last_atom::{into_item, put_script_at, set_limits};
 use crate::open::open_list::{
     Ending, FractionHead, Frame, InnerItems, LastAtom, Numerator, OpenList, Owner,
 };
 use mt_rules::{Field, Fraction, Item, Limits, MathList};
 use mt_scan::Side;
 use std::alloc::{AllocError, Global};
+use std::mem;
 
 /// A list that begins.
 pub fn new_list(alloc: Global, level: usize, family: Option<u8>, ending: Ending) -> OpenList
@@ -34,125 +35,70 @@ pub fn new_list(alloc: Global, level: usize, family: Option<u8>, ending: Ending)
     }
 }
 
-/// The list with a new last atom; the one before is closed.
-pub fn put_last_atom(list: OpenList, atom: LastAtom) -> Result<OpenList, AllocError>
-    ensures { IfOk result (λ new. Becomes (last_atom_items (last_atom_of list.last)) (Some (last_atom_value atom))
-        list.family list new) }
+// Puts the last atom at the end of the items, and leaves none.
+fn close_last_atom(list: &mut OpenList) -> Result<(), AllocError>
+    ensures { OnOk result (Becomes (last_atom_items (last_atom_of list.old.last)) None
+        list.old.family list.old list.new) }
 {
-    let OpenList {
-        items,
-        last,
-        level,
-        family,
-        ending,
-        numerator,
-    } = list;
-    Ok(OpenList {
-        items: with_last_atom(items, last)?,
-        last: Some(atom),
-        level,
-        family,
-        ending,
-        numerator,
-    })
+    match list.last.take() {
+        Some(last) => {
+            add_item(&mut list.items, into_item(last))?;
+            Ok(())
+        }
+        None => Ok(()),
+    }
 }
 
-/// The list with another item, after the last atom.
-pub fn put_item(list: OpenList, item: Item) -> Result<OpenList, AllocError>
+/// Puts a new last atom to the list; the one before is closed.
+pub fn put_last_atom(list: &mut OpenList, atom: LastAtom) -> Result<(), AllocError>
+    ensures { OnOk result (Becomes (last_atom_items (last_atom_of list.old.last)) (Some (last_atom_value atom))
+        list.old.family list.old list.new) }
+{
+    close_last_atom(list)?;
+    list.last = Some(atom);
+    Ok(())
+}
+
+/// Puts another item to the list, after the last atom.
+pub fn put_item(list: &mut OpenList, item: Item) -> Result<(), AllocError>
     requires { stands_inside (element_of item) ≡ true }
-    ensures { IfOk result (λ new. Becomes
-        (append (last_atom_items (last_atom_of list.last)) (More (element_of item) End)) None list.family list new) }
+    ensures { OnOk result (Becomes
+        (append (last_atom_items (last_atom_of list.old.last)) (More (element_of item) End)) None
+        list.old.family list.old list.new) }
 {
-    let OpenList {
-        items,
-        last,
-        level,
-        family,
-        ending,
-        numerator,
-    } = list;
-    let items = with_last_atom(items, last)?;
-    Ok(OpenList {
-        items: with_item(items, item)?,
-        last: None,
-        level,
-        family,
-        ending,
-        numerator,
-    })
+    close_last_atom(list)?;
+    add_item(&mut list.items, item)?;
+    Ok(())
 }
 
-/// The list with a script at its last atom, or at a new one.
+/// Puts a script at the last atom of the list, or at a new one.
 pub fn put_script(
     alloc: Global,
-    list: OpenList,
+    list: &mut OpenList,
     side: Side,
     part: Field,
-) -> Result<OpenList, AllocError>
+) -> Result<(), AllocError>
     requires { holds_rows (part_of_field part) ≡ false }
-    ensures { IfOk result (λ new. Becomes End
-        (Some (with_script side (part_of_field part) (last_atom_of list.last))) list.family list new) }
+    ensures { OnOk result (Becomes End
+        (Some (with_script side (part_of_field part) (last_atom_of list.old.last)))
+        list.old.family list.old list.new) }
 {
-    let OpenList {
-        items,
-        last,
-        level,
-        family,
-        ending,
-        numerator,
-    } = list;
-    Ok(OpenList {
-        items,
-        last: Some(with_script(alloc, side, part, last)?),
-        level,
-        family,
-        ending,
-        numerator,
-    })
+    put_script_at(alloc, &mut list.last, side, part)?;
+    Ok(())
 }
 
-/// The list with other limits at its last atom.
-pub fn put_limits(list: OpenList, limits: Limits) -> OpenList
-    ensures { Becomes End (with_limits limits (last_atom_of list.last)) list.family list result }
+/// Places the limits of the last atom of the list.
+pub fn put_limits(list: &mut OpenList, limits: Limits)
+    ensures { Becomes End (with_limits limits (last_atom_of list.old.last)) list.old.family list.old list.new }
 {
-    let OpenList {
-        items,
-        last,
-        level,
-        family,
-        ending,
-        numerator,
-    } = list;
-    OpenList {
-        items,
-        last: with_limits(limits, last),
-        level,
-        family,
-        ending,
-        numerator,
-    }
+    set_limits(&mut list.last, limits);
 }
 
-/// The list with another current family.
-pub fn put_family(list: OpenList, family: Option<u8>) -> OpenList
-    ensures { Becomes End (last_atom_of list.last) family list result }
+/// Sets the current family of the list.
+pub fn put_family(list: &mut OpenList, family: Option<u8>)
+    ensures { Becomes End (last_atom_of list.old.last) family list.old list.new }
 {
-    let OpenList {
-        items,
-        last,
-        level,
-        ending,
-        numerator,
-        ..
-    } = list;
-    OpenList {
-        items,
-        last,
-        level,
-        family,
-        ending,
-        numerator,
-    }
+    list.family = family;
 }
 
 // The fraction with this denominator.
@@ -173,49 +119,33 @@ fn fraction_item(alloc: Global, numerator: Numerator, den: MathList) -> Result<I
     Ok(Item::Fraction(Box::new(alloc, fraction)?))
 }
 
-/// All the items of a list that ends: those that are there, or the fraction that divides it.
-pub fn finish_items(alloc: Global, list: OpenList) -> Result<InnerItems, AllocError>
-    ensures { IfOk result (λ all. inner_sequence all ≡ finished_items (numerator_of list)
-        (append (items_of list) (last_atom_items (last_atom_of list.last)))) }
+/// All the items of a list that ends: those that are there, or the fraction that divides it. They
+/// are taken from the list.
+pub fn finish_items(alloc: Global, list: &mut OpenList) -> Result<InnerItems, AllocError>
+    ensures { IfOk result (λ all. inner_sequence all ≡ finished_items (numerator_of list.old)
+        (append (items_of list.old) (last_atom_items (last_atom_of list.old.last)))) }
 {
-    let OpenList {
-        items,
-        last,
-        numerator,
-        ..
-    } = list;
-    let last = with_last_atom(items, last)?;
-    match numerator {
-        None => Ok(last),
+    close_last_atom(list)?;
+    let items = mem::replace(&mut list.items, no_items(alloc));
+    match list.numerator.take() {
+        None => Ok(items),
         Some(numerator) => {
-            let item = fraction_item(alloc, Box::into_inner(numerator), into_list(last))?;
-            with_item(no_items(alloc), item)
+            let item = fraction_item(alloc, Box::into_inner(numerator), into_list(items))?;
+            let mut fraction = no_items(alloc);
+            add_item(&mut fraction, item)?;
+            Ok(fraction)
         }
     }
 }
 
-/// The denominator of a list, after a fraction word.
-pub fn divide(alloc: Global, list: OpenList, head: FractionHead) -> Result<OpenList, AllocError>
-    ensures { IfOk result (λ new. Divides head list new) }
+/// Begins the denominator of the list, after a fraction word.
+pub fn divide(alloc: Global, list: &mut OpenList, head: FractionHead) -> Result<(), AllocError>
+    ensures { OnOk result (Divides head list.old list.new) }
 {
-    let OpenList {
-        items,
-        last,
-        level,
-        family,
-        ending,
-        ..
-    } = list;
-    let num = into_list(with_last_atom(items, last)?);
-    let numerator = Box::new(alloc, Numerator { head, list: num })?;
-    Ok(OpenList {
-        items: no_items(alloc),
-        last: None,
-        level,
-        family,
-        ending,
-        numerator: Some(numerator),
-    })
+    close_last_atom(list)?;
+    let num = into_list(mem::replace(&mut list.items, no_items(alloc)));
+    list.numerator = Some(Box::new(alloc, Numerator { head, list: num })?);
+    Ok(())
 }
 
 /// Puts a frame inside of all others.
@@ -235,22 +165,22 @@ pub fn pop_frame<'a>(frames: &mut Vec<Frame<'a>>) -> Option<Frame<'a>>
     frames.pop()
 }
 
-/// A list in a group of this list, which is read for this.
+/// Opens a list in a group of this list, which is read for this: it takes the place of the list.
 pub fn open_group<'a>(
     alloc: Global,
     frames: &mut Vec<Frame<'a>>,
-    list: OpenList,
+    list: &mut OpenList,
     owner: Owner<'a>,
     ending: Ending,
-) -> Result<OpenList, AllocError>
-    requires { list.level < max_groups }
-    ensures begins { IfOk result (λ new. Begins End None (list.level + 1) list.family ending new) }
+) -> Result<(), AllocError>
+    requires { list.old.level < max_groups }
+    ensures begins { OnOk result (Begins End None (list.old.level + 1) list.old.family ending list.new) }
     ensures pushed { OnOk result (reverse frames.new.items
-        ≡ record { owner = owner.entry; list = list } ∷ reverse frames.old.items) }
+        ≡ record { owner = owner.entry; list = list.old } ∷ reverse frames.old.items) }
     ensures count { OnOk result (length frames.new.items ≡ length frames.old.items + 1) }
 {
-    let level = list.level + 1;
-    let family = list.family;
-    push_frame(frames, Frame { owner, list })?;
-    Ok(new_list(alloc, level, family, ending))
+    let inner = new_list(alloc, list.level + 1, list.family, ending);
+    let outer = mem::replace(list, inner);
+    push_frame(frames, Frame { owner, list: outer })?;
+    Ok(())
 }

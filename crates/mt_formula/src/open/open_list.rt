@@ -2,7 +2,7 @@
 ghost use Rattle.std.specs.Prelude.{◌≡◌, true, ◌≤◌};
 ghost use Rattle.mt_rules.specs.View.{sequence_of, part_of_field};
 ghost use Rattle.mt_formula.specs.machine.Facts.{is_inside, atom_fits};
-ghost use Rattle.mt_formula.specs.declared.open.open_list.Stop.TheVariants.{OutOfMemory};
+ghost use Rattle.mt_formula.specs.declared.open.open_list.Stop.TheVariants.{Fault as AtFault, OutOfMemory};
 ghost use Rattle.mt_scan.specs.Limits.{max_groups};
 
 use mt_rules::{Atom, Delim, Item, MathList};
@@ -122,15 +122,6 @@ pub struct Frame<'a> {
     pub list: OpenList,
 }
 
-/// The innermost list that is open after a turn, and the tokens that are left.
-#[derive(Drop)]
-pub struct Turned<'a> {
-    /// The list.
-    pub list: OpenList,
-    /// The tokens that are left.
-    pub rest: &'a [Token],
-}
-
 /// Why a formula is not read on.
 #[derive(Clone, Copy, Debug, PartialEq, Eq)]
 pub enum Stop {
@@ -138,6 +129,14 @@ pub enum Stop {
     Fault(Fault),
     /// Memory ran out.
     OutOfMemory,
+}
+
+impl From<Fault> for Stop {
+    ghost from_gives = { λ fault e. e ≡ AtFault fault };
+
+    fn from(fault: Fault) -> Self {
+        Stop::Fault(fault)
+    }
 }
 
 impl From<AllocError> for Stop {

@@ -1,8 +1,8 @@
 //! What becomes of a list when one in it ends.
-ghost use Rattle.std.specs.Prelude.{◌≡◌, ◌≤◌, List, length, reverse, IfOk};
+ghost use Rattle.std.specs.Prelude.{◌≡◌, ◌≤◌, List, length, reverse, IfOk, OnOk};
 ghost use Rattle.mt_plain.specs.CodeTables.{CodeTables};
 ghost use Rattle.mt_scaled.specs.declared.unit.Units.{Units};
-ghost use Rattle.mt_formula.specs.declared.open.open_list.Frame.{Frame};
+ghost use Rattle.mt_formula.specs.declared.open.open_list.Frame.{Frame as FrameType};
 ghost use Rattle.mt_formula.specs.declared.open.open_list.Owner.TheVariants.{Nucleus, Script};
 ghost use Rattle.mt_formula.specs.machine.Frames.{left_after};
 ghost use Rattle.mt_formula.specs.machine.OpenLists.{inner_sequence};
@@ -16,7 +16,7 @@ use crate::forms::resume::{after_first, resume_nucleus, resume_script};
 use crate::forms::rows::close_row;
 use crate::open::items::into_list;
 use crate::open::lists::put_script;
-use crate::open::open_list::{Frame, InnerItems, OpenList, Owner, Stop, Turned};
+use crate::open::open_list::{Frame, InnerItems, OpenList, Owner, Stop};
 use mt_plain::Codes;
 use mt_rules::Field;
 use mt_scan::{Fault, FieldKind, ReadCause, Side};
@@ -26,74 +26,68 @@ use std::alloc::{AllocError, Global};
 // A group ends that is the nucleus of an atom of this kind.
 fn close_nucleus<'a>(
     alloc: Global,
-    list: OpenList,
+    list: &mut OpenList,
     kind: FieldKind,
     all: InnerItems,
     tokens: &'a [Token],
-) -> Result<Turned<'a>, Stop>
-    ensures is { (tables : CodeTables) (units : Units) (outer : List Frame) →
-        Resumes tables units (record { owner = Nucleus kind; list = list }) outer
-        (inner_sequence all) tokens.now result outer }
-    ensures falls { IfOk result (λ turned. length turned.rest.now ≤ length tokens.now) }
+) -> Result<&'a [Token], Stop>
+    ensures is { (tables : CodeTables) (units : Units) (outer : List FrameType) →
+        Resumes tables units (record { owner = Nucleus kind; list = list.old }) outer
+        (inner_sequence all) tokens.now result outer list.new }
+    ensures falls { IfOk result (λ rest. length rest.now ≤ length tokens.now) }
 {
-    Ok(Turned {
-        list: resume_nucleus(alloc, list, kind, all)?,
-        rest: after_first(tokens),
-    })
+    resume_nucleus(alloc, list, kind, all)?;
+    Ok(after_first(tokens))
 }
 
 // A group ends that is a script.
 fn close_script<'a>(
     alloc: Global,
-    list: OpenList,
+    list: &mut OpenList,
     side: Side,
     all: InnerItems,
     tokens: &'a [Token],
-) -> Result<Turned<'a>, Stop>
-    ensures is { (tables : CodeTables) (units : Units) (outer : List Frame) →
-        Resumes tables units (record { owner = Script side; list = list }) outer
-        (inner_sequence all) tokens.now result outer }
-    ensures falls { IfOk result (λ turned. length turned.rest.now ≤ length tokens.now) }
+) -> Result<&'a [Token], Stop>
+    ensures is { (tables : CodeTables) (units : Units) (outer : List FrameType) →
+        Resumes tables units (record { owner = Script side; list = list.old }) outer
+        (inner_sequence all) tokens.now result outer list.new }
+    ensures falls { IfOk result (λ rest. length rest.now ≤ length tokens.now) }
 {
-    Ok(Turned {
-        list: resume_script(alloc, list, side, all)?,
-        rest: after_first(tokens),
-    })
+    resume_script(alloc, list, side, all)?;
+    Ok(after_first(tokens))
 }
 
 // The argument ends of a superscript that primes begin, with these tokens after it.
 fn close_argument<'a>(
     alloc: Global,
-    list: OpenList,
+    list: &mut OpenList,
     all: InnerItems,
     after: &'a [Token],
-) -> Result<Turned<'a>, AllocError>
-    ensures list { IfOk result (λ turned. ResumesArgument (inner_sequence all) list turned.list) }
-    ensures rest { IfOk result (λ turned. turned.rest ≡ after.entry) }
+) -> Result<&'a [Token], AllocError>
+    ensures list { OnOk result (ResumesArgument (inner_sequence all) list.old list.new) }
+    ensures rest { IfOk result (λ rest. rest ≡ after.entry) }
 {
-    Ok(Turned {
-        list: put_script(alloc, list, Side::Up, Field::List(into_list(all)))?,
-        rest: after,
-    })
+    put_script(alloc, list, Side::Up, Field::List(into_list(all)))?;
+    Ok(after)
 }
 
-/// What becomes of the list of a frame when the one in it ends, with these items: by what that one
-/// is read for, its token at the end is dropped and what must follow is read.
+/// What becomes of a list when the one in it ends, with these items: by what that one is read for,
+/// its token at the end is dropped and what must follow is read.
 pub fn close_list<'a>(
     alloc: Global,
     codes: &Codes,
     frames: &mut Vec<Frame<'a>>,
-    frame: Frame<'a>,
+    list: &mut OpenList,
+    owner: Owner<'a>,
     all: InnerItems,
     tokens: &'a [Token],
-) -> Result<Turned<'a>, Stop>
+) -> Result<&'a [Token], Stop>
     ensures is { (units : Units) →
-        Resumes codes.now units frame.entry (reverse frames.old.items)
-        (inner_sequence all) tokens.now result (reverse frames.new.items) }
-    ensures falls { IfOk result (λ turned. remaining (reverse frames.new.items) (length turned.rest.now)
-        ≤ remaining (reverse frames.old.items) (left_after frame.entry.owner (length tokens.now))) }
+        Resumes codes.now units (record { owner = owner.entry; list = list.old }) (reverse frames.old.items)
+        (inner_sequence all) tokens.now result (reverse frames.new.items) list.new }
+    ensures falls { IfOk result (λ rest. remaining (reverse frames.new.items) (length rest.now)
+        ≤ remaining (reverse frames.old.items) (left_after owner.entry (length tokens.now))) }
 {
-    let Frame { owner, list } = frame;
     match owner {
         Owner::Nucleus(kind) => close_nucleus(alloc, list, kind, all, tokens),
         Owner::Script(side) => close_script(alloc, list, side, all, tokens),

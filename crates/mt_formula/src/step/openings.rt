@@ -8,7 +8,7 @@ ghost use Rattle.mt_formula.specs.machine.Turned.{Performs};
 ghost use Rattle.mt_scan.specs.Limits.{max_groups};
 
 use crate::open::lists::open_group;
-use crate::open::open_list::{ChoiceLists, Ending, Frame, OpenList, Owner, Stop, Turned};
+use crate::open::open_list::{ChoiceLists, Ending, Frame, OpenList, Owner, Stop};
 use crate::step::action::Action;
 use mt_token::Token;
 use std::alloc::Global;
@@ -42,22 +42,19 @@ fn opened_ending(action: Action) -> Ending
 pub fn open_list<'a>(
     alloc: Global,
     frames: &mut Vec<Frame<'a>>,
-    list: OpenList,
+    list: &mut OpenList,
     action: Action,
     tokens: &'a [Token],
-) -> Result<Turned<'a>, Stop>
+) -> Result<&'a [Token], Stop>
     requires opens { opens_list action ≡ true }
-    requires level { list.level < max_groups }
+    requires level { list.old.level < max_groups }
     ensures is { (tables : CodeTables) (units : Units) →
-        Performs tables units (reverse frames.old.items) list action tokens.now
-        result (reverse frames.new.items) }
-    ensures falls { IfOk result (λ turned. remaining (reverse frames.new.items) (length turned.rest.now)
+        Performs tables units (reverse frames.old.items) list.old action tokens.now
+        result (reverse frames.new.items) list.new }
+    ensures falls { IfOk result (λ rest. remaining (reverse frames.new.items) (length rest.now)
         ≤ remaining (reverse frames.old.items) (length tokens.now) + 1) }
 {
     let owner = opened_owner(action);
-    let inner = open_group(alloc, frames, list, owner, opened_ending(action))?;
-    Ok(Turned {
-        list: inner,
-        rest: tokens,
-    })
+    open_group(alloc, frames, list, owner, opened_ending(action))?;
+    Ok(tokens)
 }

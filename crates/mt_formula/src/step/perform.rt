@@ -1,5 +1,5 @@
 //! What an action leaves of the open lists.
-ghost use Rattle.std.specs.Prelude.{◌≡◌, ◌≢◌, ◌≤◌, ◌<◌, ◌+◌, List, length, reverse, true, IfOk};
+ghost use Rattle.std.specs.Prelude.{◌≡◌, ◌≢◌, ◌≤◌, ◌<◌, ◌+◌, List, length, reverse, true, IfOk, OnOk};
 ghost use Rattle.mt_plain.specs.CodeTables.{CodeTables};
 ghost use Rattle.mt_scaled.specs.declared.unit.Units.{Units as UnitsType};
 ghost use Rattle.mt_scan.specs.Role.{simple_element};
@@ -17,7 +17,7 @@ use crate::forms::primes::put_primes;
 use crate::forms::rows::open_rows;
 use crate::open::last_atom::plain_last_atom;
 use crate::open::lists::{put_family, put_item, put_last_atom, put_limits, put_script};
-use crate::open::open_list::{Frame, OpenList, Stop, Turned};
+use crate::open::open_list::{Frame, OpenList, Stop};
 use crate::step::action::Action;
 use crate::step::openings::open_list;
 use mt_plain::Codes;
@@ -26,20 +26,27 @@ use mt_scan::Simple;
 use mt_token::Token;
 use std::alloc::{AllocError, Global};
 
-/// The list after an action that reads no list.
-pub fn put_action(alloc: Global, list: OpenList, action: Action) -> Result<OpenList, AllocError>
+/// Does to the list what an action says that reads no list.
+pub fn put_action(alloc: Global, list: &mut OpenList, action: Action) -> Result<(), AllocError>
     requires { is_plain_action action ≡ true }
-    ensures { IfOk result (λ new. PutsAction action list new) }
+    ensures { OnOk result (PutsAction action list.old list.new) }
 {
     match action {
-        Action::Skip => Ok(list),
+        Action::Skip => Ok(()),
         Action::Atom(kind, symbol) => {
-            put_last_atom(list, plain_last_atom(alloc, kind, Field::Sym(symbol))?)
+            let atom = plain_last_atom(alloc, kind, Field::Sym(symbol))?;
+            put_last_atom(list, atom)
         }
         Action::Script(side, symbol) => put_script(alloc, list, side, Field::Sym(symbol)),
         Action::Item(item) => put_item(list, simple_item(item)),
-        Action::Family(family) => Ok(put_family(list, family)),
-        Action::Limits(limits) => Ok(put_limits(list, limits)),
+        Action::Family(family) => {
+            put_family(list, family);
+            Ok(())
+        }
+        Action::Limits(limits) => {
+            put_limits(list, limits);
+            Ok(())
+        }
         _ => unreachable!(),
     }
 }
@@ -61,19 +68,17 @@ fn simple_item(item: Simple) -> Item
 // After an action that reads no list.
 fn put_plain<'a>(
     alloc: Global,
-    list: OpenList,
+    list: &mut OpenList,
     action: Action,
     tokens: &'a [Token],
-) -> Result<Turned<'a>, Stop>
+) -> Result<&'a [Token], Stop>
     requires { is_plain_action action ≡ true }
     ensures is { (tables : CodeTables) (units : UnitsType) (frames : List FrameType) →
-        Performs tables units frames list action tokens.now result frames }
-    ensures falls { IfOk result (λ turned. length turned.rest.now ≤ length tokens.now) }
+        Performs tables units frames list.old action tokens.now result frames list.new }
+    ensures falls { IfOk result (λ rest. length rest.now ≤ length tokens.now) }
 {
-    Ok(Turned {
-        list: put_action(alloc, list, action)?,
-        rest: tokens,
-    })
+    put_action(alloc, list, action)?;
+    Ok(tokens)
 }
 
 /// What becomes of the open lists after an action, where these tokens follow it.
@@ -81,17 +86,17 @@ pub fn perform<'a>(
     alloc: Global,
     codes: &Codes,
     frames: &mut Vec<Frame<'a>>,
-    list: OpenList,
+    list: &mut OpenList,
     action: Action,
     tokens: &'a [Token],
-) -> Result<Turned<'a>, Stop>
+) -> Result<&'a [Token], Stop>
     requires not_stop { action ≢ StopAction }
-    requires level { opens_list action ≡ true → list.level < max_groups }
+    requires level { opens_list action ≡ true → list.old.level < max_groups }
     ensures is { (units : UnitsType) →
-        Performs codes.now units (reverse frames.old.items) list action tokens.now
-        result (reverse frames.new.items) }
-    ensures falls { IfOk result (λ turned.
-        remaining (reverse frames.new.items) (length turned.rest.now)
+        Performs codes.now units (reverse frames.old.items) list.old action tokens.now
+        result (reverse frames.new.items) list.new }
+    ensures falls { IfOk result (λ rest.
+        remaining (reverse frames.new.items) (length rest.now)
         ≤ remaining (reverse frames.old.items) (length tokens.now) + 1) }
 {
     match action {

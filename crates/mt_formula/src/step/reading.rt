@@ -71,12 +71,9 @@ fn read_open<'a>(
     let mut list = list;
     let mut rest = tokens;
     loop {
-        match turn(alloc, codes, units, &mut frames, list, rest) {
+        match turn(alloc, codes, units, &mut frames, &mut list, rest) {
             Ok(progress) => match progress {
-                Progress::Open(turned) => {
-                    list = turned.list;
-                    rest = turned.rest;
-                }
+                Progress::Open(left) => rest = left,
                 Progress::Whole(part) => {
                     return Ok(Scanned {
                         value: into_list(part.value),

@@ -11,7 +11,7 @@ ghost use Rattle.mt_formula.specs.machine.Stands.{Stands};
 use crate::forms::fraction::fraction_head;
 use crate::forms::resume::after_first;
 use crate::open::lists::{divide, finish_items, pop_frame};
-use crate::open::open_list::{Frame, InnerItems, OpenList, Stop, Turned};
+use crate::open::open_list::{Frame, InnerItems, OpenList, Stop};
 use crate::step::action::Action;
 use crate::step::closings::close_list;
 use crate::step::perform::perform;
@@ -26,8 +26,8 @@ use std::alloc::Global;
 /// How far a list is read after a turn.
 #[derive(Drop)]
 pub enum Progress<'a> {
-    /// A list is still open.
-    Open(Turned<'a>),
+    /// A list is still open, and these tokens are left.
+    Open(&'a [Token]),
     /// The whole is read.
     Whole(Scanned<'a, InnerItems>),
 }
@@ -37,23 +37,25 @@ fn end_list<'a>(
     alloc: Global,
     codes: &Codes,
     frames: &mut Vec<Frame<'a>>,
-    list: OpenList,
+    list: &mut OpenList,
     tokens: &'a [Token],
 ) -> Result<Progress<'a>, Stop>
     ensures is { (units : UnitsType) →
         Progressed codes.now units
-        (λ whole. Ended codes.now units whole (reverse frames.old.items) list tokens.now)
-        result (reverse frames.new.items) }
-    ensures falls { IfOpen result (λ turned.
-        remaining (reverse frames.new.items) (length turned.rest.now)
+        (λ whole. Ended codes.now units whole (reverse frames.old.items) list.old tokens.now)
+        result (reverse frames.new.items) list.new }
+    ensures falls { IfOpen result (λ rest.
+        remaining (reverse frames.new.items) (length rest.now)
         < remaining (reverse frames.old.items) (length tokens.now)) }
 {
     let all = finish_items(alloc, list)?;
     match pop_frame(frames) {
-        Some(frame) => match close_list(alloc, codes, frames, frame, all, tokens) {
-            Ok(turned) => Ok(Progress::Open(turned)),
-            Err(stop) => Err(stop),
-        },
+        Some(frame) => {
+            let Frame { owner, list: outer } = frame;
+            *list = outer;
+            let rest = close_list(alloc, codes, frames, list, owner, all, tokens)?;
+            Ok(Progress::Open(rest))
+        }
         None => Ok(Progress::Whole(Scanned {
             value: all,
             rest: tokens,
@@ -66,7 +68,7 @@ fn divide_list<'a>(
     alloc: Global,
     codes: &Codes,
     units: Units,
-    list: OpenList,
+    list: &mut OpenList,
     delims: bool,
     bar: Bar,
     tokens: &'a [Token],
@@ -75,17 +77,13 @@ fn divide_list<'a>(
     requires ex { Within (2 ^ 31) units.ex }
     ensures is { (frames : List FrameType) (ts : List TokenType) →
         Progressed codes.now units
-        (λ whole. Divided codes.now units whole frames list delims bar tokens.now ts)
-        result frames }
-    ensures falls { IfOpen result (λ turned. length turned.rest.now ≤ length tokens.now) }
+        (λ whole. Divided codes.now units whole frames list.old delims bar tokens.now ts)
+        result frames list.new }
+    ensures falls { IfOpen result (λ rest. length rest.now ≤ length tokens.now) }
 {
-    match fraction_head(codes, units, delims, bar, tokens) {
-        Ok(head) => Ok(Progress::Open(Turned {
-            list: divide(alloc, list, head.value)?,
-            rest: head.rest,
-        })),
-        Err(fault) => Err(Stop::Fault(fault)),
-    }
+    let head = fraction_head(codes, units, delims, bar, tokens)?;
+    divide(alloc, list, head.value)?;
+    Ok(Progress::Open(head.rest))
 }
 
 // Where no item stands.
@@ -94,27 +92,24 @@ fn stop_list<'a>(
     codes: &Codes,
     units: Units,
     frames: &mut Vec<Frame<'a>>,
-    list: OpenList,
+    list: &mut OpenList,
     tokens: &'a [Token],
 ) -> Result<Progress<'a>, Stop>
     requires em { Within (2 ^ 31) units.em }
     requires ex { Within (2 ^ 31) units.ex }
     ensures is { Progressed codes.now units
-        (λ whole. Finishing codes.now units whole (reverse frames.old.items) list tokens.now)
-        result (reverse frames.new.items) }
-    ensures falls { IfOpen result (λ turned.
-        remaining (reverse frames.new.items) (length turned.rest.now)
+        (λ whole. Finishing codes.now units whole (reverse frames.old.items) list.old tokens.now)
+        result (reverse frames.new.items) list.new }
+    ensures falls { IfOpen result (λ rest.
+        remaining (reverse frames.new.items) (length rest.now)
         < remaining (reverse frames.old.items) (length tokens.now)) }
 {
-    match list_stop(codes, &list, tokens) {
-        Ok(stop) => match stop {
-            ListStop::Ends => end_list(alloc, codes, frames, list, tokens),
-            ListStop::Divides(delims, bar) => {
-                let after = after_first(tokens);
-                divide_list(alloc, codes, units, list, delims, bar, after)
-            }
-        },
-        Err(fault) => Err(Stop::Fault(fault)),
+    match list_stop(codes, list, tokens)? {
+        ListStop::Ends => end_list(alloc, codes, frames, list, tokens),
+        ListStop::Divides(delims, bar) => {
+            let after = after_first(tokens);
+            divide_list(alloc, codes, units, list, delims, bar, after)
+        }
     }
 }
 
@@ -124,26 +119,24 @@ pub fn turn<'a>(
     codes: &Codes,
     units: Units,
     frames: &mut Vec<Frame<'a>>,
-    list: OpenList,
+    list: &mut OpenList,
     tokens: &'a [Token],
 ) -> Result<Progress<'a>, Stop>
     requires em { Within (2 ^ 31) units.em }
     requires ex { Within (2 ^ 31) units.ex }
     ensures is { Progressed codes.now units
-        (λ whole. Stands codes.now units whole (reverse frames.old.items) list tokens.now)
-        result (reverse frames.new.items) }
-    ensures falls { IfOpen result (λ turned.
-        remaining (reverse frames.new.items) (length turned.rest.now)
+        (λ whole. Stands codes.now units whole (reverse frames.old.items) list.old tokens.now)
+        result (reverse frames.new.items) list.new }
+    ensures falls { IfOpen result (λ rest.
+        remaining (reverse frames.new.items) (length rest.now)
         < remaining (reverse frames.old.items) (length tokens.now)) }
 {
-    match action_here(codes, units, &list, tokens) {
-        Ok(part) => match part.value {
-            Action::Stop => stop_list(alloc, codes, units, frames, list, part.rest),
-            action => match perform(alloc, codes, frames, list, action, part.rest) {
-                Ok(turned) => Ok(Progress::Open(turned)),
-                Err(stop) => Err(stop),
-            },
-        },
-        Err(fault) => Err(Stop::Fault(fault)),
+    let part = action_here(codes, units, list, tokens)?;
+    match part.value {
+        Action::Stop => stop_list(alloc, codes, units, frames, list, part.rest),
+        action => {
+            let rest = perform(alloc, codes, frames, list, action, part.rest)?;
+            Ok(Progress::Open(rest))
+        }
     }
 }

@@ -10,12 +10,12 @@ use Rattle.mt_formula.proofs.step.openings.open_list.Goals as goal
 
 pub returns-clause-is : goal.returns-clause-is
 returns-clause-is c = λ tables units ts less whole p.
-    opened tables units whole (reverse c.args.frames.now.items) (reverse c.open_group.new.frames.items) c.args.list c.in_ok-inner.inner ts c.args.action c.args.tokens.now p less c.requires.opens
-    (subst (λ (ending : Ending). Begins End None (c.args.list.level + 1) c.args.list.family ending c.in_ok-inner.inner) c.opened_ending.ensures c.in_ok-inner.ensures.begins)
-    (c.in_ok-inner.ensures.pushed ∙ ap (λ (owner : Owner). record { owner = owner; list = c.args.list } ∷ reverse c.args.frames.now.items) c.opened_owner-owner.ensures)
+    opened tables units whole (reverse c.args.frames.now.items) (reverse c.open_group.new.frames.items) c.args.list.now c.open_group.new.list ts c.args.action c.args.tokens.now p less c.requires.opens
+    (subst (λ (ending : Ending). Begins End None (c.args.list.now.level + 1) c.args.list.now.family ending c.open_group.new.list) c.opened_ending.ensures c.in_ok-open_group.ensures.begins)
+    (c.in_ok-open_group.ensures.pushed ∙ ap (λ (owner : Owner). record { owner = owner; list = c.args.list.now } ∷ reverse c.args.frames.now.items) c.opened_owner-owner.ensures)
 
 pub returns-clause-falls : goal.returns-clause-falls
 returns-clause-falls c =
-    opened_remaining (reverse c.args.frames.now.items) (reverse c.open_group.new.frames.items) (record { owner = opened_owner c.args.action; list = c.args.list }) (length c.args.tokens.now)
-    (c.in_ok-inner.ensures.pushed ∙ ap (λ (owner : Owner). record { owner = owner; list = c.args.list } ∷ reverse c.args.frames.now.items) c.opened_owner-owner.ensures)
+    opened_remaining (reverse c.args.frames.now.items) (reverse c.open_group.new.frames.items) (record { owner = opened_owner c.args.action; list = c.args.list.now }) (length c.args.tokens.now)
+    (c.in_ok-open_group.ensures.pushed ∙ ap (λ (owner : Owner). record { owner = owner; list = c.args.list.now } ∷ reverse c.args.frames.now.items) c.opened_owner-owner.ensures)
     (opened_left c.args.action 0)
