@@ -1,10 +1,10 @@
 //! What has been read of a document.
-ghost use Rattle.std.specs.Prelude.{◌≡◌, ◌≤◌, ◌<◌, ◌+◌, ◌-◌, ◌^◌, ◌==◌, ◌&&◌, length, nat_lt, pos, IfOk, OnOk, OnErr};
+ghost use Rattle.std.specs.Prelude.{◌≡◌, ◌≤◌, ◌<◌, ◌+◌, ◌-◌, ◌^◌, ◌==◌, ◌&&◌, length, nat_lt, pos, IfOk, OnOk, OnErr, IsTrue};
 ghost use Rattle.mt_scaled.specs.Number.{Within};
 ghost use Rattle.mt_plain.specs.CodeTables.{plain_codes};
 ghost use Rattle.mt_plain.specs.PlainMacros.{plain_table};
 ghost use Rattle.mt_macro.specs.Definition.{define, Answers};
-ghost use Rattle.mt_macro.specs.Expansion.{Expands, expansion};
+ghost use Rattle.mt_macro.specs.Expansion.{Expanded, Expands, expansion};
 ghost use Rattle.mt_formula.specs.Answers.{ReadsAs};
 ghost use Rattle.mt_formula.specs.Formulas.{reading};
 ghost use Rattle.mt_reader.specs.documents.Assignments.{math_code_assignment, delcode_assignment};
@@ -17,7 +17,7 @@ ghost use Rattle.mt_macro.specs.Limits.{max_tokens};
 use crate::assignments::{assign_delcode, assign_math_code};
 use crate::definitions::MacroDefinition;
 use mt_formula::{ReadError, read_formula};
-use mt_macro::{ExpandError, MacroError, Macros, expand};
+use mt_macro::{ExpandError, MacroError, Macros, expand, expands_to_itself};
 use mt_plain::{CodeError, Codes, plain_macros};
 use mt_rules::{Document, Formula, MathList, Page, Tag};
 use mt_scaled::{Items, Units};
@@ -102,6 +102,14 @@ impl DocumentState {
         assign_delcode(&mut self.codes, tokens)
     }
 
+    /// Whether a formula is read by its tokens as they are, since nothing in them is to be expanded.
+    pub fn is_expanded(&self, tokens: &[Token]) -> bool
+        ensures is { IsTrue result → expansion self.now.macros tokens.now ≡ Expanded tokens.now }
+        ensures short { IsTrue result → length tokens.now ≤ max_tokens }
+    {
+        expands_to_itself(&self.macros, tokens)
+    }
+
     /// The tokens of a formula without macros.
     pub fn expand(&self, alloc: Global, tokens: &[Token]) -> Result<TokenList, ExpandError>
         ensures is { Expands result (expansion self.now.macros tokens.now) }
@@ -111,7 +119,7 @@ impl DocumentState {
     }
 
     /// How many tokens all formulas have after expansion, with these.
-    pub fn total_with(&self, list: &TokenList) -> u64
+    pub fn total_with(&self, list: &[Token]) -> u64
         requires total { self.now.total ≤ max_total_tokens }
         requires list { length list.now ≤ max_tokens }
         ensures { result ≡ self.now.total + length list.now }
@@ -125,14 +133,14 @@ impl DocumentState {
         alloc: Global,
         units: Units,
         display: bool,
-        list: &TokenList,
+        list: &[Token],
     ) -> Result<(MathList, Option<Tag>), ReadError>
         requires length { length list.now ≤ 2 ^ 31 }
         requires em { Within (2 ^ 31) units.em }
         requires ex { Within (2 ^ 31) units.ex }
         ensures { ReadsAs result (reading self.now.codes units display list.now) }
     {
-        read_formula(alloc, &self.codes, units, display, list.as_slice())
+        read_formula(alloc, &self.codes, units, display, list)
     }
 
     /// Puts a formula on the page, after which all formulas have so many tokens after expansion.

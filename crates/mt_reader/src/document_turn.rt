@@ -23,7 +23,7 @@ use crate::taken::Taken;
 use mt_formula::ReadError;
 use mt_macro::{ExpandError, MacroError};
 use mt_scaled::Units;
-use mt_token::{Token, TokenList};
+use mt_token::Token;
 use std::alloc::Global;
 
 /// The greatest number of tokens of all formulas after expansion.
@@ -153,7 +153,7 @@ fn read_expanded<'a>(
     units: Units,
     state: &mut DocumentState,
     display: bool,
-    list: &TokenList,
+    list: &[Token],
     total: u64,
     rest: &'a [Token],
 ) -> Result<AfterTurn<'a>, DocError>
@@ -181,7 +181,7 @@ fn count_expanded<'a>(
     units: Units,
     state: &mut DocumentState,
     display: bool,
-    list: &TokenList,
+    list: &[Token],
     rest: &'a [Token],
 ) -> Result<AfterTurn<'a>, DocError>
     requires em { Within (2 ^ 31) units.em }
@@ -203,7 +203,7 @@ fn count_expanded<'a>(
     read_expanded(alloc, units, state, display, list, total, rest)
 }
 
-// Expands a formula, counts its tokens and reads it.
+// Expands a formula where there is something to expand, counts its tokens and reads it.
 fn formula_between<'a>(
     alloc: Global,
     units: Units,
@@ -219,8 +219,11 @@ fn formula_between<'a>(
         taken.entry.after.now (expansion state.old.macros taken.entry.argument.now)) }
     ensures reads { ReadsOne result state.old state.new display taken.entry.after.now }
 {
+    if state.is_expanded(taken.argument) {
+        return count_expanded(alloc, units, state, display, taken.argument, taken.after);
+    }
     match state.expand(alloc, taken.argument) {
-        Ok(list) => count_expanded(alloc, units, state, display, &list, taken.after),
+        Ok(list) => count_expanded(alloc, units, state, display, list.as_slice(), taken.after),
         Err(cause) => Err(expand_error(state.next(), cause)),
     }
 }
