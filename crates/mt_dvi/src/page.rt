@@ -13,7 +13,7 @@ ghost use Rattle.mt_dvi.specs.Writable.{HasGlyph, InRange, IsWritable};
 ghost use Rattle.mt_dvi.specs.WrittenPlaces.{first_of};
 ghost use Rattle.mt_dvi.specs.writer.LeadsTo.{GrowsBy, GrowsWith, Reached, cursor_past, is_beyond, numbers_after, numbers_after_all, with_number};
 
-use crate::edges::{GreatestEdges, lower_edge, right_edge};
+use crate::edges::{GreatestEdges, edges_of};
 use crate::emit;
 use crate::emit::Register;
 use crate::fonts::{define, is_defined};
@@ -312,11 +312,11 @@ pub fn write_places(
     let mut cursor = AT_ORIGIN;
     let mut rest = page;
     while let [place, later @ ..] = rest {
-        let edge = right_edge(fonts, *place);
-        let put = must_put(edge, later);
+        let edges = edges_of(fonts, *place);
+        let put = must_put(edges.right, later);
         write_place(out, defined, fonts, &mut cursor, *place, put)?;
-        pass(&mut cursor, *place, put, edge);
-        greatest.include(edge, lower_edge(fonts, *place));
+        pass(&mut cursor, *place, put, edges.right);
+        greatest.include(edges);
         rest = later;
     }
     Ok(())

@@ -16,14 +16,14 @@ loop-rest-preserved c =
     let shorter = later_length c.loop-rest.rest.now c.in-len1-up.len_at_least in
     let before = c.loop-rest.invariant.long in
     let now = c.in_ok-write_place.ensures.long in
-    let edge : to_z w64 (of_z w64 c.right_edge-edge.result) ≡ c.right_edge-edge.result = omega (arith, ints, c.right_edge-edge.ensures.small) in
-    let lower : to_z w64 (of_z w64 c.lower_edge.result) ≡ c.lower_edge.result = omega (arith, ints, c.lower_edge.ensures.small) in
+    let edges = c.edges_of-edges.ensures in
+    let small = edges.small_right in
+    let edge : to_z w64 (of_z w64 c.edges_of-edges.result.right) ≡ c.edges_of-edges.result.right = omega (arith, ints, small) in
     let put = rw edge at c.must_put-put.ensures in
     let passed = rw edge at c.pass.ensures in
-    let included = rw (edge, lower) at c.include.ensures in
     record {
-      written = places_next _ _ _ _ _ _ _ _ c.loop-rest.cursor c.write_place.new.cursor _ _ _ _ _ c.in-len1-up.len_at_least c.loop-rest.invariant.written c.right_edge-edge.ensures.is put c.in_ok-write_place.ensures.defined c.in_ok-write_place.ensures.there c.in_ok-write_place.ensures.leads passed;
-      edges = edges_next c.args.fonts.now c.loop-rest.greatest _ c.loop-rest.rest.now _ _ _ c.in-len1-up.len_at_least c.right_edge-edge.ensures.is c.lower_edge.ensures.is included ∙ c.loop-rest.invariant.edges;
+      written = places_next _ _ _ _ _ _ _ _ c.loop-rest.cursor c.write_place.new.cursor _ _ _ _ _ c.in-len1-up.len_at_least c.loop-rest.invariant.written edges.right put c.in_ok-write_place.ensures.defined c.in_ok-write_place.ensures.there c.in_ok-write_place.ensures.leads passed;
+      edges = edges_next c.args.fonts.now c.loop-rest.greatest _ c.loop-rest.rest.now _ _ _ c.in-len1-up.len_at_least edges.right edges.lower c.include.ensures ∙ c.loop-rest.invariant.edges;
       long = omega (arith, shorter, before, now);
     }
 
