@@ -28,7 +28,7 @@ abbrev pub known_of : SetValue → Definition → Known
 known_of fonts d = record { name = d.name; size = d.size; font = font_meant fonts d.area d }
 
 abbrev pub known_font : DefinedFont → Known
-known_font entry = record { name = entry.name.now; size = entry.size; font = entry.font }
+known_font defined = record { name = defined.name.now; size = defined.size; font = defined.font }
 
 -- what the reader keeps of a number
 abbrev pub known_at : Definitions → ℕ → Option Known

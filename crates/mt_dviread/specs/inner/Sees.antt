@@ -11,7 +11,7 @@ use Rattle.mt_dviread.specs.declared.cause.Cause.{Cause}
 use Rattle.mt_dviread.specs.declared.file.Phase.{Phase}
 use Rattle.mt_dviread.specs.declared.file.Phase.TheVariants as phases
 use Rattle.mt_dviread.specs.declared.file.AfterOperation.{AfterOperation}
-use Rattle.mt_dviread.specs.declared.file.AfterOperation.TheVariants as turns
+use Rattle.mt_dviread.specs.declared.file.AfterOperation.TheVariants as outcomes
 use Rattle.mt_dviread.specs.declared.file.OpenFile.{OpenFile}
 use Rattle.mt_dviread.specs.inner.Operations.{cause_of}
 use Rattle.mt_dviread.specs.inner.Defined.{Knows}
@@ -78,9 +78,9 @@ Fills (Err cause) old new place =
 
 -- the result is what comes of an operation
 abbrev pub Follows : SetValue → Result AfterOperation Cause → OpenFile → Continuation → Type 0
-Follows fonts (Ok turns.Continues) new continuation =
+Follows fonts (Ok outcomes.Continues) new continuation =
     (next : files.File) × (continuation ≡ Continues next) × Sees fonts new next
-Follows fonts (Ok turns.Ends) new continuation =
+Follows fonts (Ok outcomes.Ends) new continuation =
     (last : files.File) × (continuation ≡ Ends last) × (places_of last ≡ new.pages.items)
     × (length (all_places new.pages.items) ≤ max_places)
 Follows fonts (Err cause) new continuation = IfSome (cause_of cause) (λ c. continuation ≡ Fails c)
