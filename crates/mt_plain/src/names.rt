@@ -1,31 +1,44 @@
 //! What names mean.
-ghost use Rattle.std.specs.Prelude.{◌≡◌, true, map, length, ◌≤◌};
-ghost use Rattle.mt_plain.specs.Names.{control, name_length, row_name, in_order, Finds};
+ghost use Rattle.std.specs.Prelude.{◌≡◌, true, map, []};
+ghost use Rattle.std.specs.Ordering.{nat_cmp};
+ghost use Rattle.std.specs.Cmp.Lexicographic.{slice_cmp};
+ghost use Rattle.mt_plain.specs.Names.{control, row_name, in_order, Finds};
 
 use crate::meaning::Meaning;
 use crate::meanings::{NameRow, meanings};
+use std::cmp::Ordering;
 
-// How many bytes stand before the first blank.
-fn name_length(bytes: &[u8]) -> usize
-    ensures is { result ≡ name_length bytes.now }
-    ensures within { result ≤ length bytes.now }
+// How nothing stands to the rest of a name.
+fn compare_nothing(rest: &[u8]) -> Ordering
+    ensures { result ≡ slice_cmp nat_cmp [] rest.now }
 {
-    let mut count = 0;
-    for b in bytes {
-        if *b == b' ' {
-            return count;
-        }
-        count += 1;
+    match rest {
+        [] => Ordering::Equal,
+        _ => Ordering::Less,
     }
-    count
 }
 
-// The name of a row.
-fn row_name(row: &NameRow) -> &[u8]
-    ensures { result.now ≡ row_name row.now }
+// How the name of a row stands to a name. Most names part at the first bytes, so the row's is not
+// sought for its end before.
+fn compare_row(row: &NameRow, name: &[u8]) -> Ordering
+    ensures { result ≡ slice_cmp nat_cmp (row_name row.now) name.now }
 {
-    let bytes = &row.0;
-    &bytes[..name_length(bytes)]
+    let mut bytes: &[u8] = &row.0;
+    let mut left = name;
+    while let [byte, rest @ ..] = bytes {
+        if *byte == b' ' {
+            return compare_nothing(left);
+        }
+        match left {
+            [first, after @ ..] if *first == *byte => {
+                bytes = rest;
+                left = after;
+            }
+            [first, ..] => return byte.cmp(first),
+            [] => return Ordering::Greater,
+        }
+    }
+    compare_nothing(left)
 }
 
 // What a table has for a name.
@@ -33,7 +46,7 @@ fn meaning_in(table: &[NameRow], name: &[u8]) -> Option<Meaning>
     requires { in_order (map row_name table.now) ≡ true }
     ensures { Finds result table.now name.now }
 {
-    match table.binary_search_by(|row| row_name(row).cmp(name)) {
+    match table.binary_search_by(|row| compare_row(row, name)) {
         Ok(at) => Some(table[at].1),
         Err(_) => None,
     }
