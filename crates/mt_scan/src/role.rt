@@ -1,5 +1,6 @@
 //! What a token is in a formula.
 ghost use Rattle.std.specs.Prelude.{◌≡◌, ◌<◌};
+ghost use Rattle.mt_plain.specs.Names.{control};
 ghost use Rattle.mt_scan.specs.Role.{role_of, command_role, meaning_role, code_role, character_role, mu_space};
 
 use mt_plain::{Codes, Command, MAX_MATH_CODE, Meaning};
@@ -223,12 +224,21 @@ fn character_role(codes: &Codes, c: u8) -> Role
     }
 }
 
+// A name by its meaning. It is not inlined, so that `role_of` is small enough to be.
+#[inline(never)]
+fn name_role(codes: &Codes, name: &[u8]) -> Role
+    ensures { result ≡ meaning_role (control name.now) }
+{
+    meaning_role(codes.control(name))
+}
+
 /// What a token is in a formula, with these codes.
+#[inline]
 pub fn role_of(codes: &Codes, token: &Token) -> Role
     ensures { result ≡ role_of codes.now token.now }
 {
     match &token.kind {
-        TokenKind::Control(name) => meaning_role(codes.control(name.as_slice())),
+        TokenKind::Control(name) => name_role(codes, name.as_slice()),
         TokenKind::Char(c) => character_role(codes, *c),
         TokenKind::Space => Role::Blank,
     }
