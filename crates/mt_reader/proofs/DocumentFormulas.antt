@@ -38,11 +38,11 @@ module _ (P : Formula → Type 0) (units : Units) where
   abbrev pub OfPages : List (List Formula) → Type 0
   OfPages pages = All (All P) pages
 
-  record OfState (s : DocumentState) : Type 0 where
+  pub record OfState (s : DocumentState) : Type 0 where
     pub pages : All (All P) s.pages
     pub page : All P s.page
 
-  abbrev OfTurn : DocumentTurn → Type 0
+  abbrev pub OfTurn : DocumentTurn → Type 0
   OfTurn (Goes s rest) = OfState s
   OfTurn (Ends s) = OfState s
   OfTurn (Stops refusal) = ⊤
@@ -134,3 +134,6 @@ modest units tables display list body tag n few e = formula_modest tables units 
 
 pub formulas_modest : (units : Units) (tables : CodeTables) (macros : Table) (tokens : List Token) (result : Result (List (List Formula)) DocError) → IsDocument result (document units tables macros tokens) → IfOk result IsModestDocument
 formulas_modest units tables macros tokens result e = all_formulas HasModestLists units (modest units) tables macros tokens result e
+
+pub turn_modest : (units : Units) (s : DocumentState) (rest : List Token) (role : OutsideRole) → OfState HasModestLists units s → OfTurn HasModestLists units (turn_by units s rest role)
+turn_modest units s rest role h = turned HasModestLists units (modest units) s rest role h

@@ -4,8 +4,12 @@ mod Cutting
 mod Defining
 -- how long an expanded list is
 mod Expanding
--- the loop over the tokens of a document
+-- what does not depend on the pages before
+mod PagesMoved
+-- what becomes of what was read, turn by turn
 mod DocumentLoop
+-- the bounds within which a reader reads on
+mod Going
 -- what holds of each formula of a document
 mod DocumentFormulas
 -- how many pages a document has

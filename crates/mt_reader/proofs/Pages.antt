@@ -24,7 +24,7 @@ use Rattle.mt_reader.specs.documents.Refusals.{IsDocument}
 use Rattle.mt_reader.specs.documents.Limits.{max_total_tokens, max_document_pages}
 
 -- what has been read makes at most so many pages
-abbrev FewPages : DocumentState → Type 0
+abbrev pub FewPages : DocumentState → Type 0
 FewPages s = length (state_pages s) ≤ max_document_pages
 
 push_length : (pages : List (List Formula)) (page : List Formula) → length (pages ++ page ∷ []) ≡ length pages + 1
@@ -37,7 +37,7 @@ push_page pages [] f h e = grind (arith, push_length pages (f ∷ []), h, e)
 push_page pages (p ∷ ps) f h e = omega (arith, h, push_length pages (p ∷ ps), push_length pages (p ∷ ps ++ f ∷ []))
 
 -- what a turn goes on with, or ends with, has few pages
-abbrev TurnFits : DocumentTurn → Type 0
+abbrev pub TurnFits : DocumentTurn → Type 0
 TurnFits (Goes s rest) = FewPages s
 TurnFits (Ends s) = FewPages s
 TurnFits (Stops refusal) = ⊤
@@ -89,7 +89,7 @@ module _ (units : Units) where
   formula_turn_fits s rest true room f = tt
   formula_turn_fits s rest false room f = formula_in_fits s (begins_display rest) (length rest + 1) (between_dollars rest) f room
 
-  turn_by_fits : (s : DocumentState) (rest : List Token) (role : OutsideRole) → FewPages s → TurnFits (turn_by units s rest role)
+  pub turn_by_fits : (s : DocumentState) (rest : List Token) (role : OutsideRole) → FewPages s → TurnFits (turn_by units s rest role)
   turn_by_fits s rest Passed f = f
   turn_by_fits s rest Defines f = definition_fits s (length rest + 1) (macro_definition rest) f
   turn_by_fits s rest SetsMathCode f = assignment_fits s (length rest + 1) (math_code_assignment s.tables rest) f

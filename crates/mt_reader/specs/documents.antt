@@ -19,3 +19,5 @@ pub mod Weights
 -- lent tokens, and what a turn leaves: only inner contracts cite these
 pub mod Lent
 pub mod DocumentTurns
+-- documents that are read page by page
+pub mod PageReading

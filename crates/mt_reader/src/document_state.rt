@@ -8,9 +8,8 @@ ghost use Rattle.mt_macro.specs.Expansion.{Expanded, Expands, expansion};
 ghost use Rattle.mt_formula.specs.Answers.{ReadsAs};
 ghost use Rattle.mt_formula.specs.Formulas.{reading};
 ghost use Rattle.mt_reader.specs.documents.Assignments.{math_code_assignment, delcode_assignment};
-ghost use Rattle.mt_reader.specs.documents.Documents.{start_state, state_pages, after_page_end};
-ghost use Rattle.mt_reader.specs.documents.Documents.{is_page_limit, with_formula};
-ghost use Rattle.mt_reader.specs.documents.DocumentTurns.{state_of, SetsTables, changes_macros};
+ghost use Rattle.mt_reader.specs.documents.Documents.{start_state, is_page_limit, with_formula};
+ghost use Rattle.mt_reader.specs.documents.DocumentTurns.{state_of, SetsTables, TakesPage, changes_macros};
 ghost use Rattle.mt_reader.specs.documents.Limits.{max_total_tokens};
 ghost use Rattle.mt_macro.specs.Limits.{max_tokens};
 
@@ -19,7 +18,7 @@ use crate::definitions::MacroDefinition;
 use mt_formula::{ReadError, read_formula};
 use mt_macro::{ExpandError, MacroError, Macros, expand, expands_to_itself};
 use mt_plain::{CodeError, Codes, plain_macros};
-use mt_rules::{Document, Formula, MathList, Page, Tag};
+use mt_rules::{Formula, MathList, Page, Tag};
 use mt_scaled::{Items, Units};
 use mt_scan::Fault;
 use mt_token::{Token, TokenList};
@@ -29,13 +28,13 @@ use std::mem;
 /// The greatest number of pages.
 pub const MAX_DOCUMENT_PAGES: u32 = 5_000;
 
-/// What has been read of a document: the codes and macros, the pages that are ended, the formulas of the page that is
+/// What has been read of a document: the codes and macros, how many pages are ended, the formulas of the page that is
 /// not, how many formulas there are, and how many tokens they had after expansion.
 #[derive(Drop)]
 pub struct DocumentState {
     codes: Codes,
     macros: Macros,
-    pages: Vec<Page>,
+    ended: u32,
     page: Vec<Formula>,
     count: u32,
     total: u64,
@@ -51,7 +50,7 @@ impl DocumentState {
         Ok(DocumentState {
             codes,
             macros,
-            pages: Vec::new(alloc),
+            ended: 0,
             page: Vec::new(alloc),
             count: 0,
             total: 0,
@@ -67,10 +66,11 @@ impl DocumentState {
     }
 
     /// Whether the next formula would begin a page too many.
+    #[tactic(auto, using(crate::proofs::PagesMoved::placeholders))]
     pub fn is_page_limit(&self) -> bool
         ensures { result ≡ is_page_limit (state_of self.now) }
     {
-        self.page.is_empty() && self.pages.len() == MAX_DOCUMENT_PAGES as usize
+        self.page.is_empty() && self.ended == MAX_DOCUMENT_PAGES
     }
 
     /// Puts in a definition. After an error all is as before.
@@ -79,6 +79,7 @@ impl DocumentState {
         ensures is { Answers result self.new.macros
             (define self.old.macros definition.now.name.now definition.now.params definition.now.body.now) }
         ensures others { state_of self.new ≡ changes_macros (state_of self.old) self.new.macros }
+        ensures ended { self.new.ended ≡ self.old.ended }
     {
         self.macros
             .define(definition.name, definition.params, definition.body)
@@ -88,6 +89,7 @@ impl DocumentState {
     pub fn assign_math_code<'a>(&mut self, tokens: &'a [Token]) -> Result<&'a [Token], Fault>
         ensures is { SetsTables result (state_of self.old) (state_of self.new)
             (math_code_assignment self.old.codes tokens.now) }
+        ensures ended { self.new.ended ≡ self.old.ended }
         ensures falls { IfOk result (λ rest. length rest.now ≤ length tokens.now) }
     {
         assign_math_code(&mut self.codes, tokens)
@@ -97,6 +99,7 @@ impl DocumentState {
     pub fn assign_delcode<'a>(&mut self, tokens: &'a [Token]) -> Result<&'a [Token], Fault>
         ensures is { SetsTables result (state_of self.old) (state_of self.new)
             (delcode_assignment self.old.codes tokens.now) }
+        ensures ended { self.new.ended ≡ self.old.ended }
         ensures falls { IfOk result (λ rest. length rest.now ≤ length tokens.now) }
     {
         assign_delcode(&mut self.codes, tokens)
@@ -152,7 +155,8 @@ impl DocumentState {
         total: u64,
     ) -> Result<(), AllocError>
         requires { self.old.count < 2 ^ 32 - 1 }
-        ensures { OnOk result (state_of self.new ≡ with_formula (state_of self.old) display total body tag) }
+        ensures is { OnOk result (state_of self.new ≡ with_formula (state_of self.old) display total body tag) }
+        ensures ended { OnOk result (self.new.ended ≡ self.old.ended) }
     {
         let formula = Formula {
             number: self.count + 1,
@@ -166,23 +170,16 @@ impl DocumentState {
         Ok(())
     }
 
-    /// Ends the page; without formulas it is none.
-    pub fn end_page(&mut self, alloc: Global) -> Result<(), AllocError>
-        ensures { OnOk result (state_of self.new ≡ after_page_end (state_of self.old)) }
+    /// Ends the page and hands it out; without formulas it is none.
+    pub fn take_page(&mut self, alloc: Global) -> Option<Page>
+        requires { self.old.ended < 2 ^ 32 - 1 }
+        ensures { TakesPage result self.old self.new }
     {
-        if !self.page.is_empty() {
-            let page = mem::replace(&mut self.page, Vec::new(alloc));
-            self.pages.push(Items::from_vec(page))?;
+        if self.page.is_empty() {
+            return None;
         }
-        Ok(())
-    }
-
-    /// The pages, where the document ends.
-    pub fn into_document(self, alloc: Global) -> Result<Document, AllocError>
-        ensures { IfOk result (λ pages. pages ≡ state_pages (state_of self)) }
-    {
-        let mut last = self;
-        last.end_page(alloc)?;
-        Ok(Document::from_vec(last.pages))
+        self.ended += 1;
+        let page = mem::replace(&mut self.page, Vec::new(alloc));
+        Some(Items::from_vec(page))
     }
 }

@@ -1,15 +1,14 @@
 //! What becomes of a token outside of formulas, and of those after it.
-ghost use Rattle.std.specs.Prelude.{◌≡◌, ℕ, ◌≤◌, ◌<◌, ◌+◌, ◌-◌, ◌^◌, length};
+ghost use Rattle.std.specs.Prelude.{◌≡◌, ℕ, ◌≤◌, ◌<◌, ◌+◌, ◌-◌, ◌^◌, false, length};
 ghost use Rattle.mt_scaled.specs.Number.{Within};
 ghost use Rattle.mt_reader.specs.documents.Definitions.{macro_definition};
 ghost use Rattle.mt_reader.specs.documents.Assignments.{math_code_assignment, delcode_assignment};
 ghost use Rattle.mt_reader.specs.documents.Documents.{after_definition, after_assignment, after_reading};
-ghost use Rattle.mt_reader.specs.documents.Documents.{after_expansion, formula_turn, after_page_end};
-ghost use Rattle.mt_reader.specs.documents.Documents.{is_page_limit, turn_by, outside_role, Goes};
+ghost use Rattle.mt_reader.specs.documents.Documents.{after_expansion, formula_turn, is_page_limit, turn_by};
 ghost use Rattle.mt_macro.specs.Expansion.{Expanded, expansion};
 ghost use Rattle.mt_formula.specs.Formulas.{reading};
 ghost use Rattle.mt_reader.specs.documents.DocumentTurns.{state_of, MeetsTurn, Spends, ReadsOne};
-ghost use Rattle.mt_reader.specs.documents.DocumentTurns.{expand_error, read_error};
+ghost use Rattle.mt_reader.specs.documents.DocumentTurns.{ends_page, expand_error, read_error};
 ghost use Rattle.mt_reader.specs.documents.Limits.{max_total_tokens};
 ghost use Rattle.mt_macro.specs.Limits.{max_tokens};
 
@@ -18,7 +17,7 @@ use crate::document_error::DocError;
 use crate::document_state::{DocumentState, MAX_DOCUMENT_PAGES};
 use crate::dollars::{begins_display, between_dollars};
 use crate::outside_cause::OutsideCause;
-use crate::outside_role::{OutsideRole, outside_role};
+use crate::outside_role::OutsideRole;
 use crate::taken::Taken;
 use mt_formula::ReadError;
 use mt_macro::{ExpandError, MacroError};
@@ -258,28 +257,14 @@ fn formula_turn<'a>(
     }
 }
 
-// What becomes of `\eject` and the tokens after it.
-fn page_turn<'a>(
-    alloc: Global,
-    state: &mut DocumentState,
-    tokens: &'a [Token],
-) -> Result<AfterTurn<'a>, DocError>
-    requires total { state.old.total ≤ max_total_tokens }
-    ensures is { (whole : ℕ) → MeetsTurn result state.new whole
-        (Goes (after_page_end (state_of state.old)) tokens.now) }
-    ensures spends { Spends result state.old state.new tokens.now }
-{
-    state.end_page(alloc)?;
-    Ok(AfterTurn::Left(tokens))
-}
-
-/// What becomes of a token outside of formulas and of those after it, in a source of so many tokens.
+/// What becomes of a token outside of formulas, by what it is, and of those after it, in a source of so many tokens.
+/// It ends no page.
 pub fn document_turn<'a>(
     alloc: Global,
     units: Units,
     state: &mut DocumentState,
     whole: usize,
-    token: &Token,
+    role: OutsideRole,
     tokens: &'a [Token],
 ) -> Result<AfterTurn<'a>, DocError>
     requires em { Within (2 ^ 31) units.em }
@@ -288,17 +273,17 @@ pub fn document_turn<'a>(
     requires total { state.old.total ≤ max_total_tokens }
     requires whole { whole < 2 ^ 32 }
     requires tokens { length tokens.now < whole }
-    ensures is { MeetsTurn result state.new whole
-        (turn_by units (state_of state.old) tokens.now (outside_role token.now.kind)) }
+    requires page { ends_page role ≡ false }
+    ensures is { MeetsTurn result state.new whole (turn_by units (state_of state.old) tokens.now role) }
     ensures spends { Spends result state.old state.new tokens.now }
 {
-    match outside_role(token) {
+    match role {
         OutsideRole::Passed => Ok(AfterTurn::Left(tokens)),
         OutsideRole::Defines => definition_turn(state, whole, tokens),
         OutsideRole::SetsMathCode => math_code_turn(state, whole, tokens),
         OutsideRole::SetsDelimiterCode => delcode_turn(state, whole, tokens),
         OutsideRole::BeginsFormula => formula_turn(alloc, units, state, whole, tokens),
-        OutsideRole::EndsPage => page_turn(alloc, state, tokens),
+        OutsideRole::EndsPage => unreachable!(),
         OutsideRole::EndsDocument => Ok(AfterTurn::Ended),
         OutsideRole::Misplaced => {
             let left = tokens.len() + 1;

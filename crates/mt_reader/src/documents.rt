@@ -1,21 +1,43 @@
 //! Documents.
-ghost use Rattle.std.specs.Prelude.{◌≡◌, ◌≤◌, ◌+◌, ◌^◌, length, IfOk};
+ghost use Rattle.std.specs.Prelude.{◌≡◌, ◌≤◌, ◌^◌, ◌++◌, ◌∷◌, [], length, IfOk, OnOk};
 ghost use Rattle.mt_scaled.specs.Number.{Within};
 ghost use Rattle.mt_plain.specs.CodeTables.{plain_codes};
 ghost use Rattle.mt_plain.specs.PlainMacros.{plain_table};
 ghost use Rattle.mt_reader.specs.documents.Documents.{document};
-ghost use Rattle.mt_reader.specs.documents.Sources.{source_document};
+ghost use Rattle.mt_reader.specs.documents.Sources.{AreSourceTokens, source_document};
 ghost use Rattle.mt_reader.specs.documents.Refusals.{IsDocument};
 ghost use Rattle.mt_reader.specs.documents.Weights.{pages_weight, HaveFewItems, IsModestDocument};
 ghost use Rattle.mt_reader.specs.documents.Limits.{max_document_pages};
 
 use crate::document_error::DocError;
-use crate::document_state::DocumentState;
-use crate::document_turn::{AfterTurn, document_turn};
-use mt_rules::Document;
+use crate::page_reader::PageReader;
+use mt_rules::{Document, Page};
 use mt_scaled::Units;
-use mt_token::{Token, TokenError, tokens};
-use std::alloc::Global;
+use mt_token::{Token, TokenError, TokenList, tokens};
+use std::alloc::{AllocError, Global};
+
+/// The tokens of a source.
+///
+/// # Errors
+///
+/// Why it has none; `OutOfMemory` where memory ran out.
+pub fn source_tokens(alloc: Global, bytes: &[u8]) -> Result<TokenList, DocError>
+    ensures is { (units : Units) → AreSourceTokens units bytes.now result }
+    ensures few { IfOk result (λ list. length list ≤ 2 ^ 22) }
+{
+    match tokens(alloc, bytes) {
+        Ok(list) => Ok(list),
+        Err(TokenError::OutOfMemory) => Err(DocError::OutOfMemory),
+        Err(cause) => Err(DocError::Source(cause)),
+    }
+}
+
+fn push_page(pages: &mut Vec<Page>, page: Page) -> Result<(), AllocError>
+    ensures { OnOk result (pages.new.items ≡ pages.old.items ++ page ∷ []) }
+{
+    pages.push(page)?;
+    Ok(())
+}
 
 // The document that these tokens make, with plain TeX's codes and macros at its start.
 fn document_of(alloc: Global, units: Units, tokens: &[Token]) -> Result<Document, DocError>
@@ -25,16 +47,12 @@ fn document_of(alloc: Global, units: Units, tokens: &[Token]) -> Result<Document
     ensures is { IsDocument result (document units plain_codes plain_table tokens.now) }
     ensures few { IfOk result (λ pages. pages_weight pages ≤ 2 ^ 21) }
 {
-    let mut state = DocumentState::start(alloc)?;
-    let mut rest = tokens;
-    while let [token, after @ ..] = rest {
-        match document_turn(alloc, units, &mut state, tokens.len(), token, after) {
-            Ok(AfterTurn::Left(left)) => rest = left,
-            Ok(AfterTurn::Ended) => return Ok(state.into_document(alloc)?),
-            Err(e) => return Err(e),
-        }
+    let mut reader = PageReader::new(alloc, tokens)?;
+    let mut pages = Vec::new(alloc);
+    while let Some(page) = reader.next_page(alloc, units)? {
+        push_page(&mut pages, page)?;
     }
-    Ok(state.into_document(alloc)?)
+    Ok(Document::from_vec(pages))
 }
 
 /// The document of a source: its formulas, page by page, read with plain TeX's codes and macros and with those that the
@@ -55,9 +73,6 @@ pub fn read_document(alloc: Global, units: Units, bytes: &[u8]) -> Result<Docume
     ensures pages { IfOk result (λ pages. length pages ≤ max_document_pages) }
     ensures modest { IfOk result IsModestDocument }
 {
-    match tokens(alloc, bytes) {
-        Ok(list) => document_of(alloc, units, list.as_slice()),
-        Err(TokenError::OutOfMemory) => Err(DocError::OutOfMemory),
-        Err(cause) => Err(DocError::Source(cause)),
-    }
+    let list = source_tokens(alloc, bytes)?;
+    document_of(alloc, units, list.as_slice())
 }

@@ -10,9 +10,11 @@ mod documents;
 mod dollars;
 mod outside_cause;
 mod outside_role;
+mod page_reader;
 mod taken;
 
 pub use document_error::DocError;
-pub use documents::read_document;
+pub use documents::{read_document, source_tokens};
 pub use mt_formula::{ReadError, read_formula};
 pub use outside_cause::OutsideCause;
+pub use page_reader::PageReader;

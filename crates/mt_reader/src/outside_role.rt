@@ -25,6 +25,17 @@ pub enum OutsideRole {
     Misplaced,
 }
 
+impl OutsideRole {
+    ghost use Rattle.mt_reader.specs.documents.DocumentTurns.{ends_page};
+
+    /// Whether it ends a page.
+    pub fn ends_page(self) -> bool
+        ensures { result ≡ ends_page self }
+    {
+        matches!(self, OutsideRole::EndsPage)
+    }
+}
+
 fn name_role(name: &[u8]) -> OutsideRole
     ensures { result ≡ outside_name_role name.now }
 {

@@ -1,8 +1,9 @@
 -- What a turn of a document leaves.
-use Rattle.std.specs.Prelude.{◌≡◌, ℕ, ◌+◌, ◌-◌, ◌*◌, ◌≤◌, Bool, List, [], length, Result, Ok, Err, ⊤}
+use Rattle.std.specs.Prelude.{◌≡◌, ℕ, ◌+◌, ◌-◌, ◌*◌, ◌≤◌, Bool, true, false, List, [], length, replicate, Option, Some, None, Result, Ok, Err, ⊤}
 use Rattle.std.specs.Borrow.{Bor}
 use Rattle.mt_token.specs.declared.token.Token.{Token}
 use Rattle.mt_macro.specs.Table.{Table}
+use Rattle.mt_rules.specs.declared.document.Formula.{Formula}
 use Rattle.mt_plain.specs.CodeTables.{CodeTables}
 use Rattle.mt_scan.specs.Parts.{Read}
 use Rattle.mt_scan.specs.declared.fault.Fault.{Fault as FaultFields}
@@ -10,27 +11,49 @@ use Rattle.mt_macro.specs.declared.expansion.ExpandError.{ExpandError}
 use Rattle.mt_macro.specs.declared.expansion.ExpandError.TheVariants.{OutOfMemory as NoMemoryToExpand}
 use Rattle.mt_formula.specs.declared.read_error.ReadError.{ReadError}
 use Rattle.mt_formula.specs.declared.read_error.ReadError.TheVariants.{OutOfMemory as NoMemoryToRead}
+use Rattle.mt_reader.specs.declared.outside_role.OutsideRole.{OutsideRole}
+use Rattle.mt_reader.specs.declared.outside_role.OutsideRole.TheVariants.{EndsPage}
 use Rattle.mt_reader.specs.declared.document_turn.AfterTurn.{AfterTurn}
 use Rattle.mt_reader.specs.declared.document_turn.AfterTurn.TheVariants.{Left, Ended}
 use Rattle.mt_reader.specs.declared.document_error.DocError.{DocError}
 use Rattle.mt_reader.specs.declared.document_error.DocError.TheVariants.{Expand, Read as NotReadError, OutOfMemory}
 use Rattle.mt_reader.specs.declared.document_state.DocumentState.{DocumentState as StateFields}
-use Rattle.mt_reader.specs.documents.Documents.{DocumentState, DocumentAnswer, DocumentTurn, Goes, Ends, Stops, StopsOutside, Outside}
+use Rattle.mt_reader.specs.documents.Documents.{DocumentState, DocumentAnswer, DocumentTurn, Goes, Ends, Stops, StopsOutside, Outside, is_empty_page}
 use Rattle.mt_reader.specs.documents.Refusals.{IsRefusal}
 use Rattle.mt_reader.specs.documents.Lent.{Assigns}
-use Rattle.mt_reader.specs.documents.Weights.{dollars, page_weight, pages_weight}
+use Rattle.mt_reader.specs.documents.Weights.{dollars, page_weight}
 use Rattle.mt_reader.specs.documents.Limits.{max_total_tokens}
 
--- what has been read
+-- what has been read; of the pages that are ended only their number is kept, and each stands as one without formulas
 abbrev pub state_of : StateFields → DocumentState
 state_of s = record {
   tables = s.codes;
   macros = s.macros;
-  pages = s.pages.items;
+  pages = replicate s.ended [];
   page = s.page.items;
   count = s.count;
   total = s.total;
 }
+
+abbrev pub ends_page : OutsideRole → Bool
+ends_page EndsPage = true
+ends_page role = false
+
+-- a page that is ended
+pub record IsTaken (page : List Formula) (old new : StateFields) : Type 0 where
+  pub is : page ≡ old.page.items
+  pub some : is_empty_page page ≡ false
+  pub empty : new.page.items ≡ []
+  pub ended : new.ended ≡ old.ended + 1
+  pub codes : new.codes ≡ old.codes
+  pub macros : new.macros ≡ old.macros
+  pub count : new.count ≡ old.count
+  pub total : new.total ≡ old.total
+
+-- the page that was handed out, or that there was none
+abbrev pub TakesPage : Option (List Formula) → StateFields → StateFields → Type 0
+TakesPage (Some page) old new = IsTaken page old new
+TakesPage None old new = (old.page.items ≡ []) × (new ≡ old)
 
 abbrev pub changes_macros : DocumentState → Table → DocumentState
 changes_macros s macros = record s { macros = macros }
@@ -65,12 +88,13 @@ abbrev pub read_error : ℕ → ReadError → DocError
 read_error n NoMemoryToRead = OutOfMemory
 read_error n cause = NotReadError n cause
 
--- the formulas that are read, each display counted twice
+-- the formulas of the page, each display counted twice
 abbrev pub state_weight : StateFields → ℕ
-state_weight s = pages_weight s.pages.items + page_weight s.page.items
+state_weight s = page_weight s.page.items
 
 -- one more formula at most, which has at least two tokens, four in a display
 pub record IsSpent (old new : StateFields) (tokens rest : List Token) : Type 0 where
+  pub ended : new.ended ≡ old.ended
   pub falls : length rest ≤ length tokens
   pub count : new.count ≤ old.count + 1
   pub total : new.total ≤ max_total_tokens
@@ -79,6 +103,7 @@ pub record IsSpent (old new : StateFields) (tokens rest : List Token) : Type 0 w
 -- one more formula, and these tokens after it
 pub record IsReadOne (old new : StateFields) (display : Bool) (tokens left : List Token) : Type 0 where
   pub rest : left ≡ tokens
+  pub ended : new.ended ≡ old.ended
   pub count : new.count ≡ old.count + 1
   pub total : new.total ≤ max_total_tokens
   pub weight : state_weight new ≡ state_weight old + dollars display
@@ -91,5 +116,5 @@ ReadsOne (Err e) old new display tokens = ⊤
 -- what a turn takes for what it reads, of its first token and these
 abbrev pub Spends : Result AfterTurn DocError → StateFields → StateFields → List Token → Type 0
 Spends (Ok (Left rest)) old new tokens = IsSpent old new tokens rest.now
-Spends (Ok Ended) old new tokens = state_weight new ≡ state_weight old
+Spends (Ok Ended) old new tokens = new ≡ old
 Spends (Err e) old new tokens = ⊤

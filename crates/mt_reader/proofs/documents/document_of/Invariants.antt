@@ -1,9 +1,11 @@
-use Rattle.std.proofs.Common.{length}
-use Rattle.mt_reader.proofs.DocumentLoop.{Progress}
+use Rattle.mt_reader.specs.documents.PageReading.{CanGoOn, IsReadOf, left_to_read}
 use Rattle.mt_reader.proofs.documents.document_of.Given as goal
 
-abbrev pub invariant-loop-rest : goal.invariant-loop-rest
-invariant-loop-rest l = Progress l.units l.tokens l.state l.rest
+abbrev pub invariant-loop-pages : goal.invariant-loop-pages
+invariant-loop-pages l = record {
+  is : IsReadOf l.units l.tokens l.pages.items l.reader;
+  more : CanGoOn l.reader;
+}
 
-abbrev pub decreases-loop-rest : goal.decreases-loop-rest
-decreases-loop-rest l = length l.rest
+abbrev pub decreases-loop-pages : goal.decreases-loop-pages
+decreases-loop-pages l = left_to_read l.reader
