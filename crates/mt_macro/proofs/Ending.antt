@@ -17,7 +17,7 @@ use Rattle.mt_macro.proofs.Unmatched.{not_open, true_not_false}
 not_some : {A : Type 0} (x : A) → None ≡ Some x → ⊥
 not_some x e = cc
 
-one_index : (a b : ℕ) → Some a ≡ Some b → a ≡ b
+pub one_index : (a b : ℕ) → Some a ≡ Some b → a ≡ b
 one_index a b e = cc
 
 pub end_here : (level : ℕ) (t : Token) (rest : List Token) → (level == 0) && is_close t ≡ true
@@ -29,7 +29,7 @@ pub end_on : (level : ℕ) (t : Token) (rest : List Token) → (level == 0) && i
 end_on level t rest e = rw e refl
 
 -- an index after the first token
-first_of : (o : Option ℕ) (n : ℕ) → index_after_first o ≡ Some n → (k : ℕ) × (o ≡ Some k) × (n ≡ k + 1)
+pub first_of : (o : Option ℕ) (n : ℕ) → index_after_first o ≡ Some n → (k : ℕ) × (o ≡ Some k) × (n ≡ k + 1)
 first_of None n e = absurd (not_some n e)
 first_of (Some k) n e = (k, refl, sym (one_index (k + 1) n e))
 

@@ -6,6 +6,8 @@ pub mod Unmatched
 pub mod Named
 -- the first # that no parameter follows
 pub mod Hashes
+-- the parameters of a body
+pub mod Bodies
 -- where groups end, and the tokens of pieces
 pub mod Ending
 -- groups and arguments that are taken

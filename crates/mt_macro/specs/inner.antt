@@ -2,6 +2,8 @@
 pub mod Ends
 -- where a piece leaves a group
 pub mod Pieces
+-- the parameters of a body
+pub mod Bodies
 -- what is taken of the tokens that are left
 pub mod Taking
 -- what became of a macro in a step
