@@ -8,6 +8,8 @@ pub mod SetNuclei
 pub mod SetRows
 -- the clean box of a character
 pub mod CleanGlyphs
+-- the row of an atom alone
+pub mod LoneAtoms
 -- lists made part by part
 pub mod Appending
 -- boxes of boundaries

@@ -14,6 +14,8 @@ pub mod Stack
 pub mod Nucleus
 -- the clean box of a character
 pub mod Glyphs
+-- lists of one atom alone
+pub mod LoneAtoms
 -- the kern of a joined pair
 pub mod Lengths
 -- final classes in the list of the code

@@ -1,6 +1,8 @@
 //! The conversion of a math list (The TeXbook, Appendix G; tex.web, sections 726 to 767).
 ghost use Rattle.std.specs.Prelude.{◌≡◌, ◌≤◌, ◌+◌, ◌++◌, ◌∷◌, [], ◌*◌, ◌^◌, ℕ, All, IfOk, OnOk};
-ghost use Rattle.std.specs.Prelude.{length};
+ghost use Rattle.std.specs.Prelude.{Bool, length};
+ghost use Rattle.mt_rules.specs.declared.class.Class.{Class};
+ghost use Rattle.mt_rules.specs.declared.kind.Kind.TheVariants.{Plain};
 ghost use Rattle.mt_box.specs.Rows.{piece_values};
 ghost use Rattle.mt_scaled.specs.Number.{Within};
 ghost use Rattle.mt_tfm.specs.Font.{IsSoundFont};
@@ -8,7 +10,7 @@ ghost use Rattle.mt_rules.specs.AtomRow.{accent_inside, overline_part, pack_rows
 ghost use Rattle.mt_rules.specs.AtomRow.{script_box, underline_part, vcenter_part};
 ghost use Rattle.mt_rules.specs.Modest.{IsModestList, element_nesting, list_nesting, part_nesting};
 ghost use Rattle.mt_rules.specs.Modest.{rows_nesting};
-ghost use Rattle.mt_rules.specs.Nuclei.{SymbolContent, clean_field, clean_list, packed_list};
+ghost use Rattle.mt_rules.specs.Nuclei.{SymbolContent, SymbolRole, clean_field, clean_list, packed_list};
 ghost use Rattle.mt_rules.specs.View.{atom_element, fraction_element, part_of_field};
 ghost use Rattle.mt_scripts.specs.Levels.{script_level};
 ghost use Rattle.mt_convert.specs.Calls.{SetsHalves, SetsRow};
@@ -23,6 +25,7 @@ ghost use Rattle.mt_convert.specs.inner.Fields.{atom_row_of, field_content, frac
 ghost use Rattle.mt_convert.specs.inner.Fields.{list_content};
 ghost use Rattle.mt_convert.specs.inner.AtomSteps.{accent_part, class_nucleus, kind_nucleus};
 ghost use Rattle.mt_convert.specs.inner.AtomSteps.{operator_box, row_with_fields, row_with_limits};
+ghost use Rattle.mt_convert.specs.inner.AtomSteps.{under_limits};
 ghost use Rattle.mt_convert.specs.inner.Modest.{IsModestElement, IsModestPart, IsModestRows};
 ghost use Rattle.mt_convert.specs.inner.Modest.{ScriptLevels};
 ghost use Rattle.mt_convert.specs.inner.Nucleus.{NucleusIsSmall, nucleus_value, operator_value};
@@ -49,7 +52,7 @@ use crate::set::parts::{
     accent, field_skew, fraction, overline, radical, skew_of, underline, vcenter,
 };
 use crate::set::row::box_row;
-use crate::set::scripts::{with_limits, with_scripts};
+use crate::set::scripts::{with_limits, with_scripts, without_scripts};
 use crate::set::settle::finish;
 use mt_box::{Packed, Row};
 use mt_family::FontSet;
@@ -201,16 +204,16 @@ fn set_atom(
         ..
     } = atom;
     match form {
-        AtomForm::Limits => {
-            let operator = set_operator(alloc, fonts, style, nucleus)?;
-            set_limits(alloc, fonts, style, operator, sup, sub)
-        }
+        AtomForm::Limits => set_under_limits(alloc, fonts, style, nucleus, sup, sub),
         AtomForm::AccentInside { accent, symbol } => {
             set_accent_inside(alloc, fonts, style, accent, symbol, sup, sub)
         }
         AtomForm::Beside => {
             let has_subscript = !is_empty(&sub);
             let nucleus = set_nucleus(alloc, fonts, style, kind, role, nucleus, has_subscript)?;
+            if is_empty(&sup) && !has_subscript {
+                return without_scripts(nucleus);
+            }
             set_scripts(alloc, fonts, style, nucleus, sup, sub)
         }
     }
@@ -220,6 +223,7 @@ fn set_atom(
 
 // The row of a nucleus with its scripts beside it.
 #[cycle(setting)]
+#[inline(never)]
 fn set_scripts(
     alloc: Global,
     fonts: &FontSet,
@@ -244,9 +248,34 @@ fn set_scripts(
     with_scripts(alloc, fonts, style, nucleus, above, below)
 }
 
-// The row of an operator with its scripts above and below it.
+// The row of an operator that is set now, with its scripts above and below it.
 #[cycle(setting)]
 #[inline(never)]
+fn set_under_limits(
+    alloc: Global,
+    fonts: &FontSet,
+    style: Style,
+    nucleus: Field,
+    sup: Field,
+    sub: Field,
+) -> Result<Row, SetFault>
+    requires nucleus { IsModestPart (part_of_field nucleus) }
+    requires sup { IsModestPart (part_of_field sup) }
+    requires sub { IsModestPart (part_of_field sub) }
+    ensures is { SetsRow result
+        (under_limits fonts.now style (field_content fonts.now nucleus)
+        (field_content fonts.now sup) (field_content fonts.now sub)) }
+    ensures few { IfOk result (λ row. length row ≤ 3) }
+    ensures fits { IfOk result (λ row. (n : ℕ) → 12 * part_nesting (part_of_field nucleus) + 2 ≤ n →
+        ScriptLevels n (part_of_field sup) (part_of_field sub) → RowFits (n + 3) row) }
+    ensures reach { IfOk result ReachInRange }
+{
+    let operator = set_operator(alloc, fonts, style, nucleus)?;
+    set_limits(alloc, fonts, style, operator, sup, sub)
+}
+
+// The row of an operator with its scripts above and below it.
+#[cycle(setting)]
 fn set_limits(
     alloc: Global,
     fonts: &FontSet,
@@ -347,6 +376,27 @@ fn set_nucleus(
 {
     match kind {
         Kind::Plain(class) => set_plain(alloc, fonts, style, class, role, field, has_subscript),
+        _ => set_part(alloc, fonts, style, kind, field),
+    }
+}
+
+// The nucleus of an atom of any kind but the plain one.
+#[cycle(setting)]
+#[inline(never)]
+fn set_part(
+    alloc: Global,
+    fonts: &FontSet,
+    style: Style,
+    kind: Kind,
+    field: Field,
+) -> Result<SetNucleus, SetFault>
+    requires modest { IsModestPart (part_of_field field) }
+    requires other { (class : Class) → kind ≡ Plain class → ⊥ }
+    ensures is { (role : SymbolRole) (has_subscript : Bool) → SetsNucleus result
+        (kind_nucleus kind fonts.now style role (field_content fonts.now field) has_subscript) }
+    ensures fits { IfOk result (NucleusIsSmall (12 * part_nesting (part_of_field field) + 4)) }
+{
+    match kind {
         Kind::Radical(sign) => part_nucleus(alloc, set_radical(alloc, fonts, style, sign, field)),
         Kind::Accent(accent) => {
             part_nucleus(alloc, set_accent(alloc, fonts, style, accent, field))
@@ -354,6 +404,7 @@ fn set_nucleus(
         Kind::Over => part_nucleus(alloc, set_overline(alloc, fonts, style, field)),
         Kind::Under => part_nucleus(alloc, set_underline(alloc, fonts, style, field)),
         Kind::Vcenter => part_nucleus(alloc, set_vcenter(alloc, fonts, style, field)),
+        Kind::Plain(_) => unreachable!(),
     }
 }
 

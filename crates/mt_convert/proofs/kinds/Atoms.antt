@@ -22,7 +22,7 @@ use Rattle.mt_convert.specs.declared.set.form.AtomForm.TheVariants as form
 use Rattle.mt_convert.specs.ListRow.{content_of}
 use Rattle.mt_convert.specs.inner.Fields.{atom_content}
 use Rattle.mt_convert.specs.inner.Forms.{form_of}
-use Rattle.mt_convert.specs.inner.AtomSteps.{BoxWithItalic, as_nucleus, kind_nucleus, operator_box, row_with_fields, row_with_limits}
+use Rattle.mt_convert.specs.inner.AtomSteps.{BoxWithItalic, as_nucleus, kind_nucleus, row_with_fields, row_with_limits, under_limits}
 use Rattle.mt_convert.specs.inner.Turns.{is_empty_part}
 use Rattle.mt_convert.proofs.Turning.{same_empty}
 
@@ -52,9 +52,6 @@ accent_kept (Ok a) (Err fault) u next = refl
 accent_kept (Err fault) t u next = refl
 
 -- ---- an operator under limits
-
-abbrev pub under_limits : SetValue → Style → Content → Content → Content → Setting (List PieceValue)
-under_limits fonts style nucleus sup sub = operator_box fonts style nucleus >>= (λ o. row_with_limits fonts style o sup sub)
 
 by_limits : (b : Bool) (fonts : SetValue) (style : Style) (nucleus sup sub : Content) → form.Limits ≡ (if b then form.Limits else form.Beside) → operator_by_limits b fonts style nucleus sup sub ≡ under_limits fonts style nucleus sup sub
 by_limits true fonts style nucleus sup sub e = operator_kept (nucleus_under_limits fonts style nucleus) (λ box delta. row_with_limits fonts style (record { box = box; delta = delta }) sup sub)

@@ -21,7 +21,7 @@ use Rattle.mt_convert.specs.Calls.{SetFails}
 use Rattle.mt_convert.specs.ListRow.{list_row, halves_of, content_of}
 use Rattle.mt_convert.specs.inner.Fields.{list_content}
 use Rattle.mt_convert.specs.inner.Forms.{as_operator}
-use Rattle.mt_convert.specs.inner.AtomSteps.{BoxWithItalic, class_nucleus, operator_box}
+use Rattle.mt_convert.specs.inner.AtomSteps.{BoxWithItalic, class_nucleus, operator_box, row_beside, row_with_fields}
 use Rattle.mt_convert.specs.inner.Turns.{is_empty_part}
 use Rattle.mt_convert.proofs.Appending.{fails_then}
 use Rattle.mt_convert.proofs.Turning.{same_empty}
@@ -104,6 +104,11 @@ pub both_made : (P : Setting (List PieceValue) → Type 0) (fonts : SetValue) (s
 both_made P fonts style up down sup sub above below next e g k l h =
     first_made P (script_box fonts (sup_of style) sup) above (λ a. script_box fonts (sub_of style) sub >>= (λ b. next a b)) (ap (λ t. script_box fonts t sup) (sym e) ∙ k)
     (first_made P (script_box fonts (sub_of style) sub) below (λ b. next above b) (ap (λ t. script_box fonts t sub) (sym g) ∙ l) h)
+
+-- an atom without scripts
+pub no_scripts : (P : Setting (List PieceValue) → Type 0) (fonts : SetValue) (style : Style) (p q : Part) (nucleus : Nucleus) → is_empty_part p ≡ true → is_empty_part q ≡ true → P (row_beside fonts style nucleus None None) → P (row_with_fields fonts style nucleus (content_of fonts p) (content_of fonts q))
+no_scripts P fonts style p q nucleus e f h =
+    both_made P fonts style (sup_of style) (sub_of style) (content_of fonts p) (content_of fonts q) None None (row_beside fonts style nucleus) refl refl (no_script fonts (sup_of style) p e) (no_script fonts (sub_of style) q f) h
 
 -- ---- a nucleus
 

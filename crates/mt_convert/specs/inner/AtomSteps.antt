@@ -85,6 +85,10 @@ row_with_limits fonts style operator sup sub = do
   below ← script_box fonts (sub_of style) sub
   row_between fonts (size_of style) operator.box operator.delta above below
 
+-- an operator that is set now, with its scripts above and below it
+abbrev pub under_limits : SetValue → Style → Content → Content → Content → Setting (List PieceValue)
+under_limits fonts style nucleus sup sub = operator_box fonts style nucleus >>= (λ o. row_with_limits fonts style o sup sub)
+
 abbrev pub lone_box : Setting Layout → Setting (List PieceValue)
 lone_box part = do
   box ← part

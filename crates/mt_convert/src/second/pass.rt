@@ -1,10 +1,12 @@
 //! The second pass: the rows side by side, with spaces and boundaries (The TeXbook, Appendix G,
 //! rules 19 and 20).
-ghost use Rattle.std.specs.Prelude.{◌≡◌, ◌≤◌, ◌^◌, ℕ, IfOk, length, None};
+ghost use Rattle.std.specs.Prelude.{◌≡◌, ◌≤◌, ◌^◌, ◌∷◌, [], ℕ, IfOk, length, None, true};
 ghost use Rattle.mt_scaled.specs.Number.{Within};
 ghost use Rattle.mt_convert.specs.SecondPass.{current_after_half, row_of_halves, second_pass_of};
 ghost use Rattle.mt_convert.specs.SecondPass.{style_after_half};
 ghost use Rattle.mt_convert.specs.Calls.{SetsRow};
+ghost use Rattle.mt_convert.specs.declared.half.Half.TheVariants as half_of_list;
+ghost use Rattle.mt_convert.specs.inner.LoneAtoms.{is_lone_atom};
 ghost use Rattle.mt_convert.specs.Halfway.{half_value, half_values, halves_value, total_of};
 ghost use Rattle.mt_convert.specs.Halfway.{HalvesFit, AllMeet, RowFits};
 
@@ -17,7 +19,7 @@ use crate::second::pieces::push_half;
 use crate::set::row::tested;
 use mt_box::Row;
 use mt_family::FontSet;
-use mt_rules::Style;
+use mt_rules::{Class, Style};
 use mt_scaled::Length;
 use std::alloc::Global;
 
@@ -50,8 +52,57 @@ pub fn second_pass(
     join_rows(alloc, fonts, frame, style, half.items)
 }
 
-// The rows of these items side by side.
+// The rows of these items side by side. The row of an atom alone stays as it is.
 fn join_rows(
+    alloc: Global,
+    fonts: &FontSet,
+    frame: BoundaryFrame,
+    style: Style,
+    items: HalfList,
+) -> Result<Row, SetFault>
+    requires wanted { Within (2 ^ 40) frame.wanted.sp }
+    requires meet { AllMeet None (half_values items) }
+    requires few { length items ≤ 2 ^ 19 }
+    requires total { total_of items ≤ 2 ^ 20 }
+    requires fit { HalvesFit (2 ^ 16) items }
+    ensures is { SetsRow result (row_of_halves fonts.now frame.size frame.wanted.sp style (half_values items)) }
+    ensures few { IfOk result (λ row. length row ≤ 2 ^ 21) }
+    ensures fits { IfOk result (λ row. (n : ℕ) → 2 ≤ n → HalvesFit n items → RowFits n row) }
+{
+    if is_lone_atom(&items) {
+        tested(lone_atom(items).row)
+    } else {
+        join_all(alloc, fonts, frame, style, items)
+    }
+}
+
+// An atom that was set, with its final class.
+#[derive(Drop)]
+struct SetAtom {
+    class: Class,
+    row: Row,
+}
+
+fn is_lone_atom(items: &HalfList) -> bool
+    ensures { result ≡ is_lone_atom items.now }
+{
+    matches!(items.as_slice(), [Half::Set { .. }])
+}
+
+// The only item, an atom.
+fn lone_atom(items: HalfList) -> SetAtom
+    requires { is_lone_atom items ≡ true }
+    ensures { items ≡ half_of_list.Set result.class result.row ∷ [] }
+{
+    let mut items = items.into_vec();
+    match items.pop() {
+        Some(Half::Set { class, row }) => SetAtom { class, row },
+        _ => unreachable!(),
+    }
+}
+
+// The rows of these items side by side, one after the other.
+fn join_all(
     alloc: Global,
     fonts: &FontSet,
     frame: BoundaryFrame,

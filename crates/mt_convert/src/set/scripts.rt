@@ -1,6 +1,8 @@
 //! The last steps of an atom: its scripts, and the test of its row (The TeXbook, Appendix G, rules
 //! 13a and 18).
-ghost use Rattle.std.specs.Prelude.{◌≡◌, ◌≤◌, ◌+◌, ◌^◌, ℕ, IfOk, length, max};
+ghost use Rattle.std.specs.Prelude.{◌≡◌, ◌≤◌, ◌+◌, ◌^◌, ℕ, IfOk, None, length, max};
+ghost use Rattle.mt_family.specs.SetValue.{SetValue};
+ghost use Rattle.mt_rules.specs.declared.style.Style.{Style};
 ghost use Rattle.std.specs.Option.{option_map};
 ghost use Rattle.mt_scaled.specs.Number.{Within};
 ghost use Rattle.mt_box.specs.Layout.{layout_of};
@@ -44,6 +46,19 @@ pub(crate) fn with_scripts(
     ensures reach { IfOk result ReachInRange }
 {
     let row = attached(alloc, fonts, style, nucleus, above, below)?;
+    tested(row)
+}
+
+// The row of a nucleus that has no scripts.
+pub(crate) fn without_scripts(nucleus: SetNucleus) -> Result<Row, SetFault>
+    requires fits { NucleusIsSmall 4000 nucleus }
+    ensures is { (fonts : SetValue) (style : Style) →
+        SetsRow result (row_beside fonts style (nucleus_value nucleus) None None) }
+    ensures few { IfOk result (λ row. length row ≤ 3) }
+    ensures fits { IfOk result (λ row. (n : ℕ) → RowFits n nucleus.row → RowFits (n + 2) row) }
+    ensures reach { IfOk result ReachInRange }
+{
+    let SetNucleus { row, .. } = nucleus;
     tested(row)
 }
 

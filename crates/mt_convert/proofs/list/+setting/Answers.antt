@@ -36,7 +36,7 @@ use Rattle.mt_convert.proofs.kinds.Fractions.{den_fails, fraction_made, num_fail
 use Rattle.mt_convert.proofs.Fitting.{kept_word}
 use Rattle.mt_convert.proofs.kinds.Items.{atom_item_fails, atom_item_made, fraction_item_fails, fraction_item_made, kern_few, kern_reach, row_reach, space_few, space_reach}
 use Rattle.mt_convert.proofs.Turning.{same_empty}
-use Rattle.mt_convert.proofs.kinds.Parts.{both_made, clean_empty_is, clean_list_is, clean_symbol_is, empty_nucleus_is, empty_operator_is, has_no_box, list_fails, list_made, list_nucleus_is, list_operator_is, no_script, packed_made, packing_fails, script_fails, script_made, sub_fails, sup_fails, symbol_nucleus_is, symbol_operator_is}
+use Rattle.mt_convert.proofs.kinds.Parts.{both_made, clean_empty_is, clean_list_is, clean_symbol_is, empty_nucleus_is, empty_operator_is, has_no_box, list_fails, list_made, list_nucleus_is, list_operator_is, no_script, no_scripts, packed_made, packing_fails, script_fails, script_made, sub_fails, sup_fails, symbol_nucleus_is, symbol_operator_is}
 use Rattle.mt_convert.proofs.kinds.RowBoxes.{all_of_none, box_fails, next_row, next_size, without_rows, row_fails, rows_end, rows_few, rows_start, rows_step, vcenter_empty, vcenter_fails, vcenter_made}
 use Rattle.mt_convert.proofs.BothPasses.{list_err, list_set, list_fits}
 use Rattle.mt_convert.proofs.Going.{going_start, next_fits, going_err, going_kern_err, going_pass, going_again, again_falls, going_end, going_settles, turned_some, turned_none, leaves_some, leaves_none}
@@ -106,8 +106,7 @@ first_pass-returns-clause-fits t c = c.finish.ensures.fits (12 * list_nesting c.
 
 pub set_list-returns-in_err-half-clause-is : goal.set_list-returns-in_err-half-clause-is
 set_list-returns-in_err-half-clause-is t c =
-    let p = err_from_is_err_and c.from_residual.result c.from_residual.ensures.1 in
-    rw (p.1, p.2) (list_err c.args.fonts.now c.args.style c.args.list _ c.in_err-half.ensures.is)
+    let p = err_from_is_err_and c.from_residual.result c.from_residual.ensures.1 in rw (p.1, p.2) (list_err c.args.fonts.now c.args.style c.args.list _ c.in_err-half.ensures.is)
 
 pub set_list-returns-clause-is : goal.set_list-returns-clause-is
 set_list-returns-clause-is t c = list_set c.args.fonts.now c.args.style c.args.list _ c.second_pass.result c.in_ok-half.ensures.is c.second_pass.ensures.is
@@ -125,24 +124,20 @@ set_list-returns-clause-holds t c =
 pub set_item-set_atom-requires : goal.set_item-set_atom-requires
 set_item-set_atom-requires t c =
     let g = ap element_of_passed (ap passed_value c.in-Atom.is ∙ ap (λ a. atom_passed a c.in-Atom.role c.in-Atom.kern) (sym c.into_inner-atom.ensures)) in
-    let s = ap element_size g in
-    (omega (arith, s, c.decreases), subst IsModestElement g c.requires.modest)
+    (omega (arith, ap element_size g, c.decreases), subst IsModestElement g c.requires.modest)
 
 pub set_item-set_fraction-requires : goal.set_item-set_fraction-requires
 set_item-set_fraction-requires t c =
     let g = ap element_of_passed (ap passed_value c.in-Fraction.is ∙ ap fraction_passed (sym c.into_inner.ensures)) in
-    let s = ap element_size g in
-    (omega (arith, s, c.decreases), subst IsModestElement g c.requires.modest)
+    (omega (arith, ap element_size g, c.decreases), subst IsModestElement g c.requires.modest)
 
 pub set_item-returns-in_err-row-in-Atom-clause-is : goal.set_item-returns-in_err-row-in-Atom-clause-is
 set_item-returns-in_err-row-in-Atom-clause-is t c =
-    let p = err_from_is_err_and c.from_residual.result c.from_residual.ensures.1 in
-    rw (p.1, p.2) (atom_item_fails _ c.args.fonts.now c.args.current (passed_value c.args.passed) c.into_inner-atom.result c.in-Atom.role c.in-Atom.kern (ap passed_value c.in-Atom.is ∙ ap (λ a. atom_passed a c.in-Atom.role c.in-Atom.kern) (sym c.into_inner-atom.ensures)) c.in_err-row-in-Atom.ensures.is)
+    let p = err_from_is_err_and c.from_residual.result c.from_residual.ensures.1 in rw (p.1, p.2) (atom_item_fails _ c.args.fonts.now c.args.current (passed_value c.args.passed) c.into_inner-atom.result c.in-Atom.role c.in-Atom.kern (ap passed_value c.in-Atom.is ∙ ap (λ a. atom_passed a c.in-Atom.role c.in-Atom.kern) (sym c.into_inner-atom.ensures)) c.in_err-row-in-Atom.ensures.is)
 
 pub set_item-returns-in_err-row-in-Fraction-clause-is : goal.set_item-returns-in_err-row-in-Fraction-clause-is
 set_item-returns-in_err-row-in-Fraction-clause-is t c =
-    let p = err_from_is_err_and c.from_residual-in_err-row-in-Fraction.result c.from_residual-in_err-row-in-Fraction.ensures.1 in
-    rw (p.1, p.2) (fraction_item_fails _ c.args.fonts.now c.args.current (passed_value c.args.passed) c.into_inner.result (ap passed_value c.in-Fraction.is ∙ ap fraction_passed (sym c.into_inner.ensures)) c.in_err-row-in-Fraction.ensures.is)
+    let p = err_from_is_err_and c.from_residual-in_err-row-in-Fraction.result c.from_residual-in_err-row-in-Fraction.ensures.1 in rw (p.1, p.2) (fraction_item_fails _ c.args.fonts.now c.args.current (passed_value c.args.passed) c.into_inner.result (ap passed_value c.in-Fraction.is ∙ ap fraction_passed (sym c.into_inner.ensures)) c.in_err-row-in-Fraction.ensures.is)
 
 pub set_item-returns-in_ok-row-in-Atom-clause-is : goal.set_item-returns-in_ok-row-in-Atom-clause-is
 set_item-returns-in_ok-row-in-Atom-clause-is t c = atom_item_made c.args.fonts.now c.args.current (passed_value c.args.passed) c.into_inner-atom.result c.in-Atom.role c.in-Atom.kern (piece_values c.in_ok-row-in-Atom.row) c.forward-class.result (ap passed_value c.in-Atom.is ∙ ap (λ a. atom_passed a c.in-Atom.role c.in-Atom.kern) (sym c.into_inner-atom.ensures)) (c.forward-class.ensures.is ∙ ap (forward_of c.args.current.last) c.kind_class.ensures) c.in_ok-row-in-Atom.ensures.is
@@ -233,26 +228,16 @@ set_item-returns-in-Kern-clause-is t c =
 
 -- ---- `set_atom`
 
-pub set_atom-set_operator-requires : goal.set_atom-set_operator-requires
-set_atom-set_operator-requires t c = (omega (arith, c.decreases), modest_nucleus c.args.atom.kind c.args.atom.limits (part_of_field c.args.atom.nucleus) (part_of_field c.args.atom.sup) (part_of_field c.args.atom.sub) c.requires.modest)
+pub set_atom-set_under_limits-requires : goal.set_atom-set_under_limits-requires
+set_atom-set_under_limits-requires t c = (omega (arith, c.decreases), (modest_nucleus c.args.atom.kind c.args.atom.limits (part_of_field c.args.atom.nucleus) (part_of_field c.args.atom.sup) (part_of_field c.args.atom.sub) c.requires.modest, (modest_sup c.args.atom.kind c.args.atom.limits (part_of_field c.args.atom.nucleus) (part_of_field c.args.atom.sup) (part_of_field c.args.atom.sub) c.requires.modest, modest_sub c.args.atom.kind c.args.atom.limits (part_of_field c.args.atom.nucleus) (part_of_field c.args.atom.sup) (part_of_field c.args.atom.sub) c.requires.modest)))
 
-pub set_atom-returns-in_err-operator-in-Limits-clause-is : goal.set_atom-returns-in_err-operator-in-Limits-clause-is
-set_atom-returns-in_err-operator-in-Limits-clause-is t c =
-    let p = err_from_is_err_and c.from_residual.result c.from_residual.ensures.1 in
-    rw (p.1, p.2) (subst (SetFails c.in_err-operator-in-Limits.field-0.0) (sym (limits_row c.args.fonts.now c.args.style (role_value c.args.role) c.args.atom.kind c.args.atom.limits (part_of_field c.args.atom.nucleus) (part_of_field c.args.atom.sup) (part_of_field c.args.atom.sub) (sym c.in-Limits.is ∙ c.form_of-form.ensures))) (fails_then _ (operator_box c.args.fonts.now c.args.style (field_content c.args.fonts.now c.args.atom.nucleus)) (λ o. row_with_limits c.args.fonts.now c.args.style o (field_content c.args.fonts.now c.args.atom.sup) (field_content c.args.fonts.now c.args.atom.sub)) c.in_err-operator-in-Limits.ensures.is))
+pub set_atom-returns-in-Limits-clause-is : goal.set_atom-returns-in-Limits-clause-is
+set_atom-returns-in-Limits-clause-is t c = subst (SetsRow c.set_under_limits.result) (sym (limits_row c.args.fonts.now c.args.style (role_value c.args.role) c.args.atom.kind c.args.atom.limits (part_of_field c.args.atom.nucleus) (part_of_field c.args.atom.sup) (part_of_field c.args.atom.sub) (sym c.in-Limits.is ∙ c.form_of-form.ensures))) c.set_under_limits.ensures.is
 
-pub set_atom-set_limits-requires : goal.set_atom-set_limits-requires
-set_atom-set_limits-requires t c =
-    let m = modest_nucleus c.args.atom.kind c.args.atom.limits (part_of_field c.args.atom.nucleus) (part_of_field c.args.atom.sup) (part_of_field c.args.atom.sub) c.requires.modest in
-    (omega (arith, c.decreases), (omega (arith, c.in_ok-operator-in-Limits.ensures.level, m.nesting), (c.in_ok-operator-in-Limits.ensures.delta, (modest_sup c.args.atom.kind c.args.atom.limits (part_of_field c.args.atom.nucleus) (part_of_field c.args.atom.sup) (part_of_field c.args.atom.sub) c.requires.modest, modest_sub c.args.atom.kind c.args.atom.limits (part_of_field c.args.atom.nucleus) (part_of_field c.args.atom.sup) (part_of_field c.args.atom.sub) c.requires.modest))))
-
-pub set_atom-returns-in_ok-operator-in-Limits-clause-is : goal.set_atom-returns-in_ok-operator-in-Limits-clause-is
-set_atom-returns-in_ok-operator-in-Limits-clause-is t c = subst (SetsRow c.set_limits.result) (sym (limits_row c.args.fonts.now c.args.style (role_value c.args.role) c.args.atom.kind c.args.atom.limits (part_of_field c.args.atom.nucleus) (part_of_field c.args.atom.sup) (part_of_field c.args.atom.sub) (sym c.in-Limits.is ∙ c.form_of-form.ensures))) (first_made (SetsRow c.set_limits.result) (operator_box c.args.fonts.now c.args.style (field_content c.args.fonts.now c.args.atom.nucleus)) (operator_value c.in_ok-operator-in-Limits.operator) (λ o. row_with_limits c.args.fonts.now c.args.style o (field_content c.args.fonts.now c.args.atom.sup) (field_content c.args.fonts.now c.args.atom.sub)) c.in_ok-operator-in-Limits.ensures.is c.set_limits.ensures.is)
-
-pub set_atom-returns-in_ok-operator-in-Limits-clause-fits : goal.set_atom-returns-in_ok-operator-in-Limits-clause-fits
-set_atom-returns-in_ok-operator-in-Limits-clause-fits t c =
+pub set_atom-returns-in-Limits-clause-fits : goal.set_atom-returns-in-Limits-clause-fits
+set_atom-returns-in-Limits-clause-fits t c =
     let most = (max (part_nesting (part_of_field c.args.atom.nucleus)) (max (part_nesting (part_of_field c.args.atom.sup)) (part_nesting (part_of_field c.args.atom.sub)))) in
-    if_ok_map c.set_limits.result _ (RowFits (12 * (most + 1))) c.set_limits.ensures.fits (λ row f. row_fits_more (12 * most + 2 + 3) (12 * (most + 1)) row (omega arith) (f (12 * most + 2) (omega (arith, c.in_ok-operator-in-Limits.ensures.level)) (record { sup = omega arith; sub = omega arith })))
+    if_ok_map c.set_under_limits.result _ (RowFits (12 * (most + 1))) c.set_under_limits.ensures.fits (λ row f. row_fits_more (12 * most + 2 + 3) (12 * (most + 1)) row (omega arith) (f (12 * most + 2) (omega arith) (record { sup = omega arith; sub = omega arith })))
 
 pub set_atom-set_accent_inside-requires : goal.set_atom-set_accent_inside-requires
 set_atom-set_accent_inside-requires t c = (omega (arith, c.decreases), (modest_sup c.args.atom.kind c.args.atom.limits (part_of_field c.args.atom.nucleus) (part_of_field c.args.atom.sup) (part_of_field c.args.atom.sub) c.requires.modest, modest_sub c.args.atom.kind c.args.atom.limits (part_of_field c.args.atom.nucleus) (part_of_field c.args.atom.sup) (part_of_field c.args.atom.sub) c.requires.modest))
@@ -270,19 +255,31 @@ set_atom-set_nucleus-requires t c = (omega (arith, c.decreases), modest_nucleus 
 
 pub set_atom-returns-in_err-nucleus-in-Beside-clause-is : goal.set_atom-returns-in_err-nucleus-in-Beside-clause-is
 set_atom-returns-in_err-nucleus-in-Beside-clause-is t c =
-    let p = err_from_is_err_and c.from_residual-in_err-nucleus-in-Beside.result c.from_residual-in_err-nucleus-in-Beside.ensures.1 in
-    rw (p.1, p.2) (subst (SetFails c.in_err-nucleus-in-Beside.field-0.0) (sym (beside_row c.args.fonts.now c.args.style (role_value c.args.role) c.args.atom.kind c.args.atom.limits (part_of_field c.args.atom.nucleus) (part_of_field c.args.atom.sup) (part_of_field c.args.atom.sub) c.is_empty-has_subscript.result c.is_empty-has_subscript.ensures (sym c.in-Beside.is ∙ c.form_of-form.ensures))) (fails_then _ (kind_nucleus c.args.atom.kind c.args.fonts.now c.args.style (role_value c.args.role) (field_content c.args.fonts.now c.args.atom.nucleus) (not c.is_empty-has_subscript.result)) (λ n. row_with_fields c.args.fonts.now c.args.style n (field_content c.args.fonts.now c.args.atom.sup) (field_content c.args.fonts.now c.args.atom.sub)) c.in_err-nucleus-in-Beside.ensures.is))
+    let p = err_from_is_err_and c.from_residual.result c.from_residual.ensures.1 in rw (p.1, p.2) (subst (SetFails c.in_err-nucleus-in-Beside.field-0.0) (sym (beside_row c.args.fonts.now c.args.style (role_value c.args.role) c.args.atom.kind c.args.atom.limits (part_of_field c.args.atom.nucleus) (part_of_field c.args.atom.sup) (part_of_field c.args.atom.sub) c.is_empty-has_subscript.result c.is_empty-has_subscript.ensures (sym c.in-Beside.is ∙ c.form_of-form.ensures))) (fails_then _ (kind_nucleus c.args.atom.kind c.args.fonts.now c.args.style (role_value c.args.role) (field_content c.args.fonts.now c.args.atom.nucleus) (not c.is_empty-has_subscript.result)) (λ n. row_with_fields c.args.fonts.now c.args.style n (field_content c.args.fonts.now c.args.atom.sup) (field_content c.args.fonts.now c.args.atom.sub)) c.in_err-nucleus-in-Beside.ensures.is))
+
+pub set_atom-without_scripts-requires : goal.set_atom-without_scripts-requires
+set_atom-without_scripts-requires t c =
+    let m = modest_nucleus c.args.atom.kind c.args.atom.limits (part_of_field c.args.atom.nucleus) (part_of_field c.args.atom.sup) (part_of_field c.args.atom.sub) c.requires.modest in
+    record { fits = nucleus_fits_more (12 * part_nesting (part_of_field c.args.atom.nucleus) + 4) 4000 c.in_ok-nucleus-in-Beside.nucleus (omega (arith, m.nesting)) c.in_ok-nucleus-in-Beside.ensures.fits }
+
+pub set_atom-returns-then-not-has_subscript-clause-is : goal.set_atom-returns-then-not-has_subscript-clause-is
+set_atom-returns-then-not-has_subscript-clause-is t c = subst (SetsRow c.without_scripts.result) (sym (beside_row c.args.fonts.now c.args.style (role_value c.args.role) c.args.atom.kind c.args.atom.limits (part_of_field c.args.atom.nucleus) (part_of_field c.args.atom.sup) (part_of_field c.args.atom.sub) c.is_empty-has_subscript.result c.is_empty-has_subscript.ensures (sym c.in-Beside.is ∙ c.form_of-form.ensures))) (first_made (SetsRow c.without_scripts.result) (kind_nucleus c.args.atom.kind c.args.fonts.now c.args.style (role_value c.args.role) (field_content c.args.fonts.now c.args.atom.nucleus) (not c.is_empty-has_subscript.result)) (nucleus_value c.in_ok-nucleus-in-Beside.nucleus) (λ n. row_with_fields c.args.fonts.now c.args.style n (field_content c.args.fonts.now c.args.atom.sup) (field_content c.args.fonts.now c.args.atom.sub)) c.in_ok-nucleus-in-Beside.ensures.is (no_scripts (SetsRow c.without_scripts.result) c.args.fonts.now c.args.style (part_of_field c.args.atom.sup) (part_of_field c.args.atom.sub) (nucleus_value c.in_ok-nucleus-in-Beside.nucleus) (sym c.is_empty.ensures ∙ c.if-is_empty.true) (sym c.is_empty-has_subscript.ensures ∙ c.if-not-has_subscript.true) (c.without_scripts.ensures.is c.args.fonts.now c.args.style)))
+
+pub set_atom-returns-then-not-has_subscript-clause-fits : goal.set_atom-returns-then-not-has_subscript-clause-fits
+set_atom-returns-then-not-has_subscript-clause-fits t c =
+    let most = (max (part_nesting (part_of_field c.args.atom.nucleus)) (max (part_nesting (part_of_field c.args.atom.sup)) (part_nesting (part_of_field c.args.atom.sub)))) in
+    if_ok_map c.without_scripts.result _ (RowFits (12 * (most + 1))) c.without_scripts.ensures.fits (λ row f. row_fits_more (12 * most + 4 + 2) (12 * (most + 1)) row (omega arith) (f (12 * most + 4) (row_fits_more (12 * part_nesting (part_of_field c.args.atom.nucleus) + 4) (12 * most + 4) c.in_ok-nucleus-in-Beside.nucleus.row (omega arith) c.in_ok-nucleus-in-Beside.ensures.fits.fits)))
 
 pub set_atom-set_scripts-requires : goal.set_atom-set_scripts-requires
 set_atom-set_scripts-requires t c =
     let m = modest_nucleus c.args.atom.kind c.args.atom.limits (part_of_field c.args.atom.nucleus) (part_of_field c.args.atom.sup) (part_of_field c.args.atom.sub) c.requires.modest in
     (omega (arith, c.decreases), (nucleus_fits_more (12 * part_nesting (part_of_field c.args.atom.nucleus) + 4) 3990 c.in_ok-nucleus-in-Beside.nucleus (omega (arith, m.nesting)) c.in_ok-nucleus-in-Beside.ensures.fits, (modest_sup c.args.atom.kind c.args.atom.limits (part_of_field c.args.atom.nucleus) (part_of_field c.args.atom.sup) (part_of_field c.args.atom.sub) c.requires.modest, modest_sub c.args.atom.kind c.args.atom.limits (part_of_field c.args.atom.nucleus) (part_of_field c.args.atom.sup) (part_of_field c.args.atom.sub) c.requires.modest)))
 
-pub set_atom-returns-in_ok-nucleus-in-Beside-clause-is : goal.set_atom-returns-in_ok-nucleus-in-Beside-clause-is
-set_atom-returns-in_ok-nucleus-in-Beside-clause-is t c = subst (SetsRow c.set_scripts.result) (sym (beside_row c.args.fonts.now c.args.style (role_value c.args.role) c.args.atom.kind c.args.atom.limits (part_of_field c.args.atom.nucleus) (part_of_field c.args.atom.sup) (part_of_field c.args.atom.sub) c.is_empty-has_subscript.result c.is_empty-has_subscript.ensures (sym c.in-Beside.is ∙ c.form_of-form.ensures))) (first_made (SetsRow c.set_scripts.result) (kind_nucleus c.args.atom.kind c.args.fonts.now c.args.style (role_value c.args.role) (field_content c.args.fonts.now c.args.atom.nucleus) (not c.is_empty-has_subscript.result)) (nucleus_value c.in_ok-nucleus-in-Beside.nucleus) (λ n. row_with_fields c.args.fonts.now c.args.style n (field_content c.args.fonts.now c.args.atom.sup) (field_content c.args.fonts.now c.args.atom.sub)) c.in_ok-nucleus-in-Beside.ensures.is c.set_scripts.ensures.is)
+pub set_atom-returns-else-is_empty-clause-is : goal.set_atom-returns-else-is_empty-clause-is
+set_atom-returns-else-is_empty-clause-is t c = subst (SetsRow c.set_scripts.result) (sym (beside_row c.args.fonts.now c.args.style (role_value c.args.role) c.args.atom.kind c.args.atom.limits (part_of_field c.args.atom.nucleus) (part_of_field c.args.atom.sup) (part_of_field c.args.atom.sub) c.is_empty-has_subscript.result c.is_empty-has_subscript.ensures (sym c.in-Beside.is ∙ c.form_of-form.ensures))) (first_made (SetsRow c.set_scripts.result) (kind_nucleus c.args.atom.kind c.args.fonts.now c.args.style (role_value c.args.role) (field_content c.args.fonts.now c.args.atom.nucleus) (not c.is_empty-has_subscript.result)) (nucleus_value c.in_ok-nucleus-in-Beside.nucleus) (λ n. row_with_fields c.args.fonts.now c.args.style n (field_content c.args.fonts.now c.args.atom.sup) (field_content c.args.fonts.now c.args.atom.sub)) c.in_ok-nucleus-in-Beside.ensures.is c.set_scripts.ensures.is)
 
-pub set_atom-returns-in_ok-nucleus-in-Beside-clause-fits : goal.set_atom-returns-in_ok-nucleus-in-Beside-clause-fits
-set_atom-returns-in_ok-nucleus-in-Beside-clause-fits t c =
+pub set_atom-returns-else-is_empty-clause-fits : goal.set_atom-returns-else-is_empty-clause-fits
+set_atom-returns-else-is_empty-clause-fits t c =
     let most = (max (part_nesting (part_of_field c.args.atom.nucleus)) (max (part_nesting (part_of_field c.args.atom.sup)) (part_nesting (part_of_field c.args.atom.sub)))) in
     if_ok_map c.set_scripts.result _ (RowFits (12 * (most + 1))) c.set_scripts.ensures.fits (λ row f. row_fits_more (12 * most + 4 + 2) (12 * (most + 1)) row (omega arith) (f (12 * most + 4) (row_fits_more (12 * part_nesting (part_of_field c.args.atom.nucleus) + 4) (12 * most + 4) c.in_ok-nucleus-in-Beside.nucleus.row (omega arith) c.in_ok-nucleus-in-Beside.ensures.fits.fits) (record { sup = omega arith; sub = omega arith })))
 
@@ -296,13 +293,11 @@ set_fraction-clean_list-requires-2 t c = (omega (arith, c.decreases), den_of_fra
 
 pub set_fraction-returns-in_err-num-clause-is : goal.set_fraction-returns-in_err-num-clause-is
 set_fraction-returns-in_err-num-clause-is t c =
-    let p = err_from_is_err_and c.from_residual.result c.from_residual.ensures.1 in
-    rw (p.1, p.2) (num_fails _ c.args.fonts.now c.args.style c.num.result c.args.fields.thickness c.args.fields.left c.args.fields.right c.args.fields.num c.args.fields.den c.num.ensures c.in_err-num.ensures.is)
+    let p = err_from_is_err_and c.from_residual.result c.from_residual.ensures.1 in rw (p.1, p.2) (num_fails _ c.args.fonts.now c.args.style c.num.result c.args.fields.thickness c.args.fields.left c.args.fields.right c.args.fields.num c.args.fields.den c.num.ensures c.in_err-num.ensures.is)
 
 pub set_fraction-returns-in_err-den-clause-is : goal.set_fraction-returns-in_err-den-clause-is
 set_fraction-returns-in_err-den-clause-is t c =
-    let p = err_from_is_err_and c.from_residual-in_err-den.result c.from_residual-in_err-den.ensures.1 in
-    rw (p.1, p.2) (den_fails _ c.args.fonts.now c.args.style c.num.result c.den-2.result c.args.fields.thickness c.args.fields.left c.args.fields.right c.args.fields.num c.args.fields.den (layout_of c.in_ok-num.num) c.num.ensures c.den-2.ensures c.in_ok-num.ensures.is c.in_err-den.ensures.is)
+    let p = err_from_is_err_and c.from_residual-in_err-den.result c.from_residual-in_err-den.ensures.1 in rw (p.1, p.2) (den_fails _ c.args.fonts.now c.args.style c.num.result c.den-2.result c.args.fields.thickness c.args.fields.left c.args.fields.right c.args.fields.num c.args.fields.den (layout_of c.in_ok-num.num) c.num.ensures c.den-2.ensures c.in_ok-num.ensures.is c.in_err-den.ensures.is)
 
 pub set_fraction-fraction-requires-clause-thickness : goal.set_fraction-fraction-requires-clause-thickness
 set_fraction-fraction-requires-clause-thickness t c = thickness_of_fraction c.args.fields.thickness c.args.fields.left c.args.fields.right c.args.fields.num c.args.fields.den c.requires.modest
@@ -323,7 +318,7 @@ set_fraction-returns-clause-is t c = fraction_made (SetsRow c.fraction.result) c
 pub set_fraction-returns-clause-fits : goal.set_fraction-returns-clause-fits
 set_fraction-returns-clause-fits t c = if_ok_map c.fraction.result _ (RowFits (12 * ((max (list_nesting c.args.fields.num) (list_nesting c.args.fields.den)) + 1))) c.fraction.ensures.fits (λ row f. row_fits_more (12 * (max (list_nesting c.args.fields.num) (list_nesting c.args.fields.den)) + 1 + 3) (12 * ((max (list_nesting c.args.fields.num) (list_nesting c.args.fields.den)) + 1)) row (omega arith) (f (12 * (max (list_nesting c.args.fields.num) (list_nesting c.args.fields.den)) + 1) (omega (arith, c.in_ok-num.ensures.level)) (omega (arith, c.in_ok-den.ensures.level))))
 
--- ---- `set_nucleus`
+-- ---- `set_nucleus` and `set_part`
 
 pub set_nucleus-set_plain-requires : goal.set_nucleus-set_plain-requires
 set_nucleus-set_plain-requires t c = (omega (arith, c.decreases), c.requires.modest)
@@ -334,50 +329,59 @@ set_nucleus-returns-in-Plain-clause-is t c = subst (λ k. SetsNucleus c.set_plai
 pub set_nucleus-returns-in-Plain-clause-fits : goal.set_nucleus-returns-in-Plain-clause-fits
 set_nucleus-returns-in-Plain-clause-fits t c = c.set_plain.ensures.fits
 
-pub set_nucleus-set_radical-requires : goal.set_nucleus-set_radical-requires
-set_nucleus-set_radical-requires t c = (omega (arith, c.decreases), c.requires.modest)
+pub set_nucleus-set_part-requires : goal.set_nucleus-set_part-requires
+set_nucleus-set_part-requires t c = (omega (arith, c.decreases), (c.requires.modest, c.in_default.not-Plain))
 
-pub set_nucleus-returns-in-Radical-clause-is : goal.set_nucleus-returns-in-Radical-clause-is
-set_nucleus-returns-in-Radical-clause-is t c = subst (λ k. SetsNucleus c.part_nucleus.result (kind_nucleus k c.args.fonts.now c.args.style (role_value c.args.role) (field_content c.args.fonts.now c.args.field) c.args.has_subscript)) (sym c.in-Radical.is) (c.part_nucleus.ensures.is (radical_part c.args.fonts.now c.args.style c.in-Radical.sign (field_content c.args.fonts.now c.args.field)) c.set_radical.ensures.is)
+pub set_nucleus-returns-in_default-clause-is : goal.set_nucleus-returns-in_default-clause-is
+set_nucleus-returns-in_default-clause-is t c = c.set_part.ensures.is (role_value c.args.role) c.args.has_subscript
 
-pub set_nucleus-returns-in-Radical-clause-fits : goal.set_nucleus-returns-in-Radical-clause-fits
-set_nucleus-returns-in-Radical-clause-fits t c = c.part_nucleus.ensures.fits (12 * part_nesting (part_of_field c.args.field) + 4) (if_ok_map c.set_radical.result _ (λ b. b.level ≤ 12 * part_nesting (part_of_field c.args.field) + 4) c.set_radical.ensures.level (λ b h. omega (arith, h)))
+pub set_nucleus-returns-in_default-clause-fits : goal.set_nucleus-returns-in_default-clause-fits
+set_nucleus-returns-in_default-clause-fits t c = c.set_part.ensures.fits
 
-pub set_nucleus-set_accent-requires : goal.set_nucleus-set_accent-requires
-set_nucleus-set_accent-requires t c = (omega (arith, c.decreases), c.requires.modest)
+pub set_part-set_radical-requires : goal.set_part-set_radical-requires
+set_part-set_radical-requires t c = (omega (arith, c.decreases), c.requires.modest)
 
-pub set_nucleus-returns-in-Accent-clause-is : goal.set_nucleus-returns-in-Accent-clause-is
-set_nucleus-returns-in-Accent-clause-is t c = subst (λ k. SetsNucleus c.part_nucleus-in-Accent.result (kind_nucleus k c.args.fonts.now c.args.style (role_value c.args.role) (field_content c.args.fonts.now c.args.field) c.args.has_subscript)) (sym c.in-Accent.is) (c.part_nucleus-in-Accent.ensures.is (accent_part c.args.fonts.now c.args.style c.in-Accent.accent (field_content c.args.fonts.now c.args.field)) c.set_accent.ensures.is)
+pub set_part-returns-in-Radical-clause-is : goal.set_part-returns-in-Radical-clause-is
+set_part-returns-in-Radical-clause-is t c = λ role has_subscript. subst (λ k. SetsNucleus c.part_nucleus.result (kind_nucleus k c.args.fonts.now c.args.style role (field_content c.args.fonts.now c.args.field) has_subscript)) (sym c.in-Radical.is) (c.part_nucleus.ensures.is (radical_part c.args.fonts.now c.args.style c.in-Radical.sign (field_content c.args.fonts.now c.args.field)) c.set_radical.ensures.is)
 
-pub set_nucleus-returns-in-Accent-clause-fits : goal.set_nucleus-returns-in-Accent-clause-fits
-set_nucleus-returns-in-Accent-clause-fits t c = c.part_nucleus-in-Accent.ensures.fits (12 * part_nesting (part_of_field c.args.field) + 4) (if_ok_map c.set_accent.result _ (λ b. b.level ≤ 12 * part_nesting (part_of_field c.args.field) + 4) c.set_accent.ensures.level (λ b h. omega (arith, h)))
+pub set_part-returns-in-Radical-clause-fits : goal.set_part-returns-in-Radical-clause-fits
+set_part-returns-in-Radical-clause-fits t c = c.part_nucleus.ensures.fits (12 * part_nesting (part_of_field c.args.field) + 4) (if_ok_map c.set_radical.result _ (λ b. b.level ≤ 12 * part_nesting (part_of_field c.args.field) + 4) c.set_radical.ensures.level (λ b h. omega (arith, h)))
 
-pub set_nucleus-set_overline-requires : goal.set_nucleus-set_overline-requires
-set_nucleus-set_overline-requires t c = (omega (arith, c.decreases), c.requires.modest)
+pub set_part-set_accent-requires : goal.set_part-set_accent-requires
+set_part-set_accent-requires t c = (omega (arith, c.decreases), c.requires.modest)
 
-pub set_nucleus-returns-in-Over-clause-is : goal.set_nucleus-returns-in-Over-clause-is
-set_nucleus-returns-in-Over-clause-is t c = subst (λ k. SetsNucleus c.part_nucleus-in-Over.result (kind_nucleus k c.args.fonts.now c.args.style (role_value c.args.role) (field_content c.args.fonts.now c.args.field) c.args.has_subscript)) (sym c.in-Over.is) (c.part_nucleus-in-Over.ensures.is (overline_part c.args.fonts.now c.args.style (field_content c.args.fonts.now c.args.field)) c.set_overline.ensures.is)
+pub set_part-returns-in-Accent-clause-is : goal.set_part-returns-in-Accent-clause-is
+set_part-returns-in-Accent-clause-is t c = λ role has_subscript. subst (λ k. SetsNucleus c.part_nucleus-in-Accent.result (kind_nucleus k c.args.fonts.now c.args.style role (field_content c.args.fonts.now c.args.field) has_subscript)) (sym c.in-Accent.is) (c.part_nucleus-in-Accent.ensures.is (accent_part c.args.fonts.now c.args.style c.in-Accent.accent (field_content c.args.fonts.now c.args.field)) c.set_accent.ensures.is)
 
-pub set_nucleus-returns-in-Over-clause-fits : goal.set_nucleus-returns-in-Over-clause-fits
-set_nucleus-returns-in-Over-clause-fits t c = c.part_nucleus-in-Over.ensures.fits (12 * part_nesting (part_of_field c.args.field) + 4) (if_ok_map c.set_overline.result _ (λ b. b.level ≤ 12 * part_nesting (part_of_field c.args.field) + 4) c.set_overline.ensures.level (λ b h. omega (arith, h)))
+pub set_part-returns-in-Accent-clause-fits : goal.set_part-returns-in-Accent-clause-fits
+set_part-returns-in-Accent-clause-fits t c = c.part_nucleus-in-Accent.ensures.fits (12 * part_nesting (part_of_field c.args.field) + 4) (if_ok_map c.set_accent.result _ (λ b. b.level ≤ 12 * part_nesting (part_of_field c.args.field) + 4) c.set_accent.ensures.level (λ b h. omega (arith, h)))
 
-pub set_nucleus-set_underline-requires : goal.set_nucleus-set_underline-requires
-set_nucleus-set_underline-requires t c = (omega (arith, c.decreases), c.requires.modest)
+pub set_part-set_overline-requires : goal.set_part-set_overline-requires
+set_part-set_overline-requires t c = (omega (arith, c.decreases), c.requires.modest)
 
-pub set_nucleus-returns-in-Under-clause-is : goal.set_nucleus-returns-in-Under-clause-is
-set_nucleus-returns-in-Under-clause-is t c = subst (λ k. SetsNucleus c.part_nucleus-in-Under.result (kind_nucleus k c.args.fonts.now c.args.style (role_value c.args.role) (field_content c.args.fonts.now c.args.field) c.args.has_subscript)) (sym c.in-Under.is) (c.part_nucleus-in-Under.ensures.is (underline_part c.args.fonts.now c.args.style (field_content c.args.fonts.now c.args.field)) c.set_underline.ensures.is)
+pub set_part-returns-in-Over-clause-is : goal.set_part-returns-in-Over-clause-is
+set_part-returns-in-Over-clause-is t c = λ role has_subscript. subst (λ k. SetsNucleus c.part_nucleus-in-Over.result (kind_nucleus k c.args.fonts.now c.args.style role (field_content c.args.fonts.now c.args.field) has_subscript)) (sym c.in-Over.is) (c.part_nucleus-in-Over.ensures.is (overline_part c.args.fonts.now c.args.style (field_content c.args.fonts.now c.args.field)) c.set_overline.ensures.is)
 
-pub set_nucleus-returns-in-Under-clause-fits : goal.set_nucleus-returns-in-Under-clause-fits
-set_nucleus-returns-in-Under-clause-fits t c = c.part_nucleus-in-Under.ensures.fits (12 * part_nesting (part_of_field c.args.field) + 4) (if_ok_map c.set_underline.result _ (λ b. b.level ≤ 12 * part_nesting (part_of_field c.args.field) + 4) c.set_underline.ensures.level (λ b h. omega (arith, h)))
+pub set_part-returns-in-Over-clause-fits : goal.set_part-returns-in-Over-clause-fits
+set_part-returns-in-Over-clause-fits t c = c.part_nucleus-in-Over.ensures.fits (12 * part_nesting (part_of_field c.args.field) + 4) (if_ok_map c.set_overline.result _ (λ b. b.level ≤ 12 * part_nesting (part_of_field c.args.field) + 4) c.set_overline.ensures.level (λ b h. omega (arith, h)))
 
-pub set_nucleus-set_vcenter-requires : goal.set_nucleus-set_vcenter-requires
-set_nucleus-set_vcenter-requires t c = (omega (arith, c.decreases), c.requires.modest)
+pub set_part-set_underline-requires : goal.set_part-set_underline-requires
+set_part-set_underline-requires t c = (omega (arith, c.decreases), c.requires.modest)
 
-pub set_nucleus-returns-in-Vcenter-clause-is : goal.set_nucleus-returns-in-Vcenter-clause-is
-set_nucleus-returns-in-Vcenter-clause-is t c = subst (λ k. SetsNucleus c.part_nucleus-in-Vcenter.result (kind_nucleus k c.args.fonts.now c.args.style (role_value c.args.role) (field_content c.args.fonts.now c.args.field) c.args.has_subscript)) (sym c.in-Vcenter.is) (c.part_nucleus-in-Vcenter.ensures.is (vcenter_part c.args.fonts.now c.args.style (field_content c.args.fonts.now c.args.field)) c.set_vcenter.ensures.is)
+pub set_part-returns-in-Under-clause-is : goal.set_part-returns-in-Under-clause-is
+set_part-returns-in-Under-clause-is t c = λ role has_subscript. subst (λ k. SetsNucleus c.part_nucleus-in-Under.result (kind_nucleus k c.args.fonts.now c.args.style role (field_content c.args.fonts.now c.args.field) has_subscript)) (sym c.in-Under.is) (c.part_nucleus-in-Under.ensures.is (underline_part c.args.fonts.now c.args.style (field_content c.args.fonts.now c.args.field)) c.set_underline.ensures.is)
 
-pub set_nucleus-returns-in-Vcenter-clause-fits : goal.set_nucleus-returns-in-Vcenter-clause-fits
-set_nucleus-returns-in-Vcenter-clause-fits t c = c.part_nucleus-in-Vcenter.ensures.fits (12 * part_nesting (part_of_field c.args.field) + 4) (if_ok_map c.set_vcenter.result _ (λ b. b.level ≤ 12 * part_nesting (part_of_field c.args.field) + 4) c.set_vcenter.ensures.level (λ b h. omega (arith, h)))
+pub set_part-returns-in-Under-clause-fits : goal.set_part-returns-in-Under-clause-fits
+set_part-returns-in-Under-clause-fits t c = c.part_nucleus-in-Under.ensures.fits (12 * part_nesting (part_of_field c.args.field) + 4) (if_ok_map c.set_underline.result _ (λ b. b.level ≤ 12 * part_nesting (part_of_field c.args.field) + 4) c.set_underline.ensures.level (λ b h. omega (arith, h)))
+
+pub set_part-set_vcenter-requires : goal.set_part-set_vcenter-requires
+set_part-set_vcenter-requires t c = (omega (arith, c.decreases), c.requires.modest)
+
+pub set_part-returns-in-Vcenter-clause-is : goal.set_part-returns-in-Vcenter-clause-is
+set_part-returns-in-Vcenter-clause-is t c = λ role has_subscript. subst (λ k. SetsNucleus c.part_nucleus-in-Vcenter.result (kind_nucleus k c.args.fonts.now c.args.style role (field_content c.args.fonts.now c.args.field) has_subscript)) (sym c.in-Vcenter.is) (c.part_nucleus-in-Vcenter.ensures.is (vcenter_part c.args.fonts.now c.args.style (field_content c.args.fonts.now c.args.field)) c.set_vcenter.ensures.is)
+
+pub set_part-returns-in-Vcenter-clause-fits : goal.set_part-returns-in-Vcenter-clause-fits
+set_part-returns-in-Vcenter-clause-fits t c = c.part_nucleus-in-Vcenter.ensures.fits (12 * part_nesting (part_of_field c.args.field) + 4) (if_ok_map c.set_vcenter.result _ (λ b. b.level ≤ 12 * part_nesting (part_of_field c.args.field) + 4) c.set_vcenter.ensures.level (λ b h. omega (arith, h)))
 
 -- ---- `set_plain`
 
@@ -412,16 +416,14 @@ pack_list-set_list-requires t c = (omega (arith, c.decreases), c.requires.modest
 
 pub pack_list-returns-in_err-row-clause-is : goal.pack_list-returns-in_err-row-clause-is
 pack_list-returns-in_err-row-clause-is t c =
-    let p = err_from_is_err_and c.from_residual.result c.from_residual.ensures.1 in
-    rw (p.1, p.2) (list_fails _ c.args.fonts.now c.args.list c.args.style _ c.in_err-row.ensures.is)
+    let p = err_from_is_err_and c.from_residual.result c.from_residual.ensures.1 in rw (p.1, p.2) (list_fails _ c.args.fonts.now c.args.list c.args.style _ c.in_err-row.ensures.is)
 
 pub pack_list-packed-requires-clause-fits : goal.pack_list-packed-requires-clause-fits
 pack_list-packed-requires-clause-fits t c = row_fits_more (12 * list_nesting c.args.list) 4000 c.in_ok-row.row (omega (arith, c.requires.modest.nesting)) c.in_ok-row.ensures.fits
 
 pub pack_list-returns-in_err-body-clause-is : goal.pack_list-returns-in_err-body-clause-is
 pack_list-returns-in_err-body-clause-is t c =
-    let p = err_from_is_err_and c.from_residual-in_err-body.result c.from_residual-in_err-body.ensures.1 in
-    rw (p.1, p.2) (packing_fails _ c.args.fonts.now c.args.list c.args.style (piece_values c.in_ok-row.row) c.in_ok-row.ensures.is c.in_err-body.ensures.is)
+    let p = err_from_is_err_and c.from_residual-in_err-body.result c.from_residual-in_err-body.ensures.1 in rw (p.1, p.2) (packing_fails _ c.args.fonts.now c.args.list c.args.style (piece_values c.in_ok-row.row) c.in_ok-row.ensures.is c.in_err-body.ensures.is)
 
 pub pack_list-returns-clause-is : goal.pack_list-returns-clause-is
 pack_list-returns-clause-is t c = packed_made (SetsNucleus c.box_nucleus.result) c.args.fonts.now c.args.list c.args.style (piece_values c.in_ok-row.row) (layout_of c.in_ok-body.body) c.in_ok-row.ensures.is c.in_ok-body.ensures.is c.box_nucleus.ensures.is
@@ -465,13 +467,11 @@ set_scripts-set_script-requires-2 t c = (omega (arith, c.decreases), c.requires.
 
 pub set_scripts-returns-in_err-above-clause-is : goal.set_scripts-returns-in_err-above-clause-is
 set_scripts-returns-in_err-above-clause-is t c =
-    let p = err_from_is_err_and c.from_residual.result c.from_residual.ensures.1 in
-    rw (p.1, p.2) (sup_fails _ c.args.fonts.now c.args.style c.sup.result (field_content c.args.fonts.now c.args.sup) (field_content c.args.fonts.now c.args.sub) (row_beside c.args.fonts.now c.args.style (nucleus_value c.args.nucleus)) c.sup.ensures c.in_err-above.ensures.is)
+    let p = err_from_is_err_and c.from_residual.result c.from_residual.ensures.1 in rw (p.1, p.2) (sup_fails _ c.args.fonts.now c.args.style c.sup.result (field_content c.args.fonts.now c.args.sup) (field_content c.args.fonts.now c.args.sub) (row_beside c.args.fonts.now c.args.style (nucleus_value c.args.nucleus)) c.sup.ensures c.in_err-above.ensures.is)
 
 pub set_scripts-returns-in_err-below-clause-is : goal.set_scripts-returns-in_err-below-clause-is
 set_scripts-returns-in_err-below-clause-is t c =
-    let p = err_from_is_err_and c.from_residual-in_err-below.result c.from_residual-in_err-below.ensures.1 in
-    rw (p.1, p.2) (sub_fails _ c.args.fonts.now c.args.style c.sup.result c.sub.result (field_content c.args.fonts.now c.args.sup) (field_content c.args.fonts.now c.args.sub) (option_map layout_of c.in_ok-above.above) (row_beside c.args.fonts.now c.args.style (nucleus_value c.args.nucleus)) c.sup.ensures c.sub.ensures c.in_ok-above.ensures.is c.in_err-below.ensures.is)
+    let p = err_from_is_err_and c.from_residual-in_err-below.result c.from_residual-in_err-below.ensures.1 in rw (p.1, p.2) (sub_fails _ c.args.fonts.now c.args.style c.sup.result c.sub.result (field_content c.args.fonts.now c.args.sup) (field_content c.args.fonts.now c.args.sub) (option_map layout_of c.in_ok-above.above) (row_beside c.args.fonts.now c.args.style (nucleus_value c.args.nucleus)) c.sup.ensures c.sub.ensures c.in_ok-above.ensures.is c.in_err-below.ensures.is)
 
 pub set_scripts-with_scripts-requires-clause-above_level : goal.set_scripts-with_scripts-requires-clause-above_level
 set_scripts-with_scripts-requires-clause-above_level t c = omega (arith, c.in_ok-above.ensures.level, c.requires.sup.nesting)
@@ -488,7 +488,26 @@ set_scripts-with_scripts-requires-clause-fits t c = nucleus_fits_more 3990 4000 
 pub set_scripts-returns-clause-fits : goal.set_scripts-returns-clause-fits
 set_scripts-returns-clause-fits t c = if_ok_map c.with_scripts.result _ (λ row. (n : ℕ) → RowFits n c.args.nucleus.row → ScriptLevels n (part_of_field c.args.sup) (part_of_field c.args.sub) → RowFits (n + 2) row) c.with_scripts.ensures.fits (λ row f n h s. f n h (omega (arith, c.in_ok-above.ensures.level, s.sup)) (omega (arith, c.in_ok-below.ensures.level, s.sub)))
 
--- ---- `set_limits`
+-- ---- `set_under_limits` and `set_limits`
+
+pub set_under_limits-set_operator-requires : goal.set_under_limits-set_operator-requires
+set_under_limits-set_operator-requires t c = (omega (arith, c.decreases), c.requires.nucleus)
+
+pub set_under_limits-returns-in_err-operator-clause-is : goal.set_under_limits-returns-in_err-operator-clause-is
+set_under_limits-returns-in_err-operator-clause-is t c =
+    let p = err_from_is_err_and c.from_residual.result c.from_residual.ensures.1 in rw (p.1, p.2) (fails_then _ (operator_box c.args.fonts.now c.args.style (field_content c.args.fonts.now c.args.nucleus)) (λ o. row_with_limits c.args.fonts.now c.args.style o (field_content c.args.fonts.now c.args.sup) (field_content c.args.fonts.now c.args.sub)) c.in_err-operator.ensures.is)
+
+pub set_under_limits-set_limits-requires : goal.set_under_limits-set_limits-requires
+set_under_limits-set_limits-requires t c =
+    (omega (arith, c.decreases), (omega (arith, c.in_ok-operator.ensures.level, c.requires.nucleus.nesting), (c.in_ok-operator.ensures.delta, (c.requires.sup, c.requires.sub))))
+
+pub set_under_limits-returns-clause-is : goal.set_under_limits-returns-clause-is
+set_under_limits-returns-clause-is t c = first_made (SetsRow c.set_limits.result) (operator_box c.args.fonts.now c.args.style (field_content c.args.fonts.now c.args.nucleus)) (operator_value c.in_ok-operator.operator) (λ o. row_with_limits c.args.fonts.now c.args.style o (field_content c.args.fonts.now c.args.sup) (field_content c.args.fonts.now c.args.sub)) c.in_ok-operator.ensures.is c.set_limits.ensures.is
+
+pub set_under_limits-returns-clause-fits : goal.set_under_limits-returns-clause-fits
+set_under_limits-returns-clause-fits t c =
+    if_ok_map c.set_limits.result _ (λ row. (n : ℕ) → 12 * part_nesting (part_of_field c.args.nucleus) + 2 ≤ n → ScriptLevels n (part_of_field c.args.sup) (part_of_field c.args.sub) → RowFits (n + 3) row) c.set_limits.ensures.fits
+    (λ row f n h s. f n (omega (arith, c.in_ok-operator.ensures.level, h)) s)
 
 pub set_limits-set_script-requires : goal.set_limits-set_script-requires
 set_limits-set_script-requires t c = (omega (arith, c.decreases), c.requires.sup)
@@ -498,13 +517,11 @@ set_limits-set_script-requires-2 t c = (omega (arith, c.decreases), c.requires.s
 
 pub set_limits-returns-in_err-upper-clause-is : goal.set_limits-returns-in_err-upper-clause-is
 set_limits-returns-in_err-upper-clause-is t c =
-    let p = err_from_is_err_and c.from_residual.result c.from_residual.ensures.1 in
-    rw (p.1, p.2) (sup_fails _ c.args.fonts.now c.args.style c.sup.result (field_content c.args.fonts.now c.args.sup) (field_content c.args.fonts.now c.args.sub) (row_between c.args.fonts.now (size_of c.args.style) (layout_of c.args.operator.body) c.args.operator.delta.sp) c.sup.ensures c.in_err-upper.ensures.is)
+    let p = err_from_is_err_and c.from_residual.result c.from_residual.ensures.1 in rw (p.1, p.2) (sup_fails _ c.args.fonts.now c.args.style c.sup.result (field_content c.args.fonts.now c.args.sup) (field_content c.args.fonts.now c.args.sub) (row_between c.args.fonts.now (size_of c.args.style) (layout_of c.args.operator.body) c.args.operator.delta.sp) c.sup.ensures c.in_err-upper.ensures.is)
 
 pub set_limits-returns-in_err-lower-clause-is : goal.set_limits-returns-in_err-lower-clause-is
 set_limits-returns-in_err-lower-clause-is t c =
-    let p = err_from_is_err_and c.from_residual-in_err-lower.result c.from_residual-in_err-lower.ensures.1 in
-    rw (p.1, p.2) (sub_fails _ c.args.fonts.now c.args.style c.sup.result c.sub.result (field_content c.args.fonts.now c.args.sup) (field_content c.args.fonts.now c.args.sub) (option_map layout_of c.in_ok-upper.upper) (row_between c.args.fonts.now (size_of c.args.style) (layout_of c.args.operator.body) c.args.operator.delta.sp) c.sup.ensures c.sub.ensures c.in_ok-upper.ensures.is c.in_err-lower.ensures.is)
+    let p = err_from_is_err_and c.from_residual-in_err-lower.result c.from_residual-in_err-lower.ensures.1 in rw (p.1, p.2) (sub_fails _ c.args.fonts.now c.args.style c.sup.result c.sub.result (field_content c.args.fonts.now c.args.sup) (field_content c.args.fonts.now c.args.sub) (option_map layout_of c.in_ok-upper.upper) (row_between c.args.fonts.now (size_of c.args.style) (layout_of c.args.operator.body) c.args.operator.delta.sp) c.sup.ensures c.sub.ensures c.in_ok-upper.ensures.is c.in_err-lower.ensures.is)
 
 pub set_limits-with_limits-requires-clause-above_level : goal.set_limits-with_limits-requires-clause-above_level
 set_limits-with_limits-requires-clause-above_level t c = omega (arith, c.in_ok-upper.ensures.level, c.requires.sup.nesting)
@@ -531,8 +548,7 @@ set_script-clean_field-requires t c = (omega (arith, c.decreases), c.requires.mo
 
 pub set_script-returns-in_err-body-clause-is : goal.set_script-returns-in_err-body-clause-is
 set_script-returns-in_err-body-clause-is t c =
-    let p = err_from_is_err_and c.from_residual.result c.from_residual.ensures.1 in
-    rw (p.1, p.2) (script_fails _ c.args.fonts.now c.args.style (part_of_field c.args.field) (sym c.is_empty.ensures ∙ c.if-is_empty.false) c.in_err-body.ensures.is)
+    let p = err_from_is_err_and c.from_residual.result c.from_residual.ensures.1 in rw (p.1, p.2) (script_fails _ c.args.fonts.now c.args.style (part_of_field c.args.field) (sym c.is_empty.ensures ∙ c.if-is_empty.false) c.in_err-body.ensures.is)
 
 pub set_script-returns-clause-is : goal.set_script-returns-clause-is
 set_script-returns-clause-is t c = script_made c.args.fonts.now c.args.style (part_of_field c.args.field) (layout_of c.in_ok-body.body) (sym c.is_empty.ensures ∙ c.if-is_empty.false) c.in_ok-body.ensures.is
@@ -570,8 +586,7 @@ clean_list-set_list-requires t c = (omega (arith, c.decreases), c.requires.modes
 
 pub clean_list-returns-in_err-row-clause-is : goal.clean_list-returns-in_err-row-clause-is
 clean_list-returns-in_err-row-clause-is t c =
-    let p = err_from_is_err_and c.from_residual.result c.from_residual.ensures.1 in
-    rw (p.1, p.2) (list_fails _ c.args.fonts.now c.args.list c.args.style make_clean c.in_err-row.ensures.is)
+    let p = err_from_is_err_and c.from_residual.result c.from_residual.ensures.1 in rw (p.1, p.2) (list_fails _ c.args.fonts.now c.args.list c.args.style make_clean c.in_err-row.ensures.is)
 
 pub clean_list-cleaned-requires-clause-fits : goal.clean_list-cleaned-requires-clause-fits
 clean_list-cleaned-requires-clause-fits t c = row_fits_more (12 * list_nesting c.args.list) 4000 c.in_ok-row.row (omega (arith, c.requires.modest.nesting)) c.in_ok-row.ensures.fits
@@ -589,8 +604,7 @@ set_radical-clean_field-requires t c = (omega (arith, c.decreases), c.requires.m
 
 pub set_radical-returns-in_err-body-clause-is : goal.set_radical-returns-in_err-body-clause-is
 set_radical-returns-in_err-body-clause-is t c =
-    let p = err_from_is_err_and c.from_residual.result c.from_residual.ensures.1 in
-    rw (p.1, p.2) (fails_then _ (clean_field c.args.fonts.now (cramped_of c.args.style) (field_content c.args.fonts.now c.args.field)) (λ b. Radicals.radical c.args.fonts.now c.args.style c.args.sign b) (subst (λ t. SetFails c.in_err-body.field-0.0 (clean_field c.args.fonts.now t (field_content c.args.fonts.now c.args.field))) c.cramped.ensures c.in_err-body.ensures.is))
+    let p = err_from_is_err_and c.from_residual.result c.from_residual.ensures.1 in rw (p.1, p.2) (fails_then _ (clean_field c.args.fonts.now (cramped_of c.args.style) (field_content c.args.fonts.now c.args.field)) (λ b. Radicals.radical c.args.fonts.now c.args.style c.args.sign b) (subst (λ t. SetFails c.in_err-body.field-0.0 (clean_field c.args.fonts.now t (field_content c.args.fonts.now c.args.field))) c.cramped.ensures c.in_err-body.ensures.is))
 
 pub set_radical-radical-requires : goal.set_radical-radical-requires
 set_radical-radical-requires t c = omega (arith, c.in_ok-body.ensures.level, c.requires.modest.nesting)
@@ -608,8 +622,7 @@ set_overline-clean_field-requires t c = (omega (arith, c.decreases), c.requires.
 
 pub set_overline-returns-in_err-body-clause-is : goal.set_overline-returns-in_err-body-clause-is
 set_overline-returns-in_err-body-clause-is t c =
-    let p = err_from_is_err_and c.from_residual.result c.from_residual.ensures.1 in
-    rw (p.1, p.2) (fails_then _ (clean_field c.args.fonts.now (cramped_of c.args.style) (field_content c.args.fonts.now c.args.field)) (λ b. Lines.overline c.args.fonts.now (size_of c.args.style) b) (subst (λ t. SetFails c.in_err-body.field-0.0 (clean_field c.args.fonts.now t (field_content c.args.fonts.now c.args.field))) c.cramped.ensures c.in_err-body.ensures.is))
+    let p = err_from_is_err_and c.from_residual.result c.from_residual.ensures.1 in rw (p.1, p.2) (fails_then _ (clean_field c.args.fonts.now (cramped_of c.args.style) (field_content c.args.fonts.now c.args.field)) (λ b. Lines.overline c.args.fonts.now (size_of c.args.style) b) (subst (λ t. SetFails c.in_err-body.field-0.0 (clean_field c.args.fonts.now t (field_content c.args.fonts.now c.args.field))) c.cramped.ensures c.in_err-body.ensures.is))
 
 pub set_overline-overline-requires : goal.set_overline-overline-requires
 set_overline-overline-requires t c = omega (arith, c.in_ok-body.ensures.level, c.requires.modest.nesting)
@@ -627,8 +640,7 @@ set_underline-clean_field-requires t c = (omega (arith, c.decreases), c.requires
 
 pub set_underline-returns-in_err-body-clause-is : goal.set_underline-returns-in_err-body-clause-is
 set_underline-returns-in_err-body-clause-is t c =
-    let p = err_from_is_err_and c.from_residual.result c.from_residual.ensures.1 in
-    rw (p.1, p.2) (fails_then _ (clean_field c.args.fonts.now c.args.style (field_content c.args.fonts.now c.args.field)) (λ b. Lines.underline c.args.fonts.now (size_of c.args.style) b) c.in_err-body.ensures.is)
+    let p = err_from_is_err_and c.from_residual.result c.from_residual.ensures.1 in rw (p.1, p.2) (fails_then _ (clean_field c.args.fonts.now c.args.style (field_content c.args.fonts.now c.args.field)) (λ b. Lines.underline c.args.fonts.now (size_of c.args.style) b) c.in_err-body.ensures.is)
 
 pub set_underline-underline-requires : goal.set_underline-underline-requires
 set_underline-underline-requires t c = omega (arith, c.in_ok-body.ensures.level, c.requires.modest.nesting)
@@ -643,16 +655,14 @@ set_underline-returns-clause-level t c = if_ok_map c.underline.result _ (λ b. b
 
 pub set_accent-returns-in_err-number-clause-is : goal.set_accent-returns-in_err-number-clause-is
 set_accent-returns-in_err-number-clause-is t c =
-    let p = err_from_is_err_and c.from_residual.result c.from_residual.ensures.1 in
-    rw (p.1, p.2) (finding_fails _ c.args.fonts.now c.args.style c.size.result c.args.symbol (field_content c.args.fonts.now c.args.field) c.size.ensures c.in_err-number.ensures.is)
+    let p = err_from_is_err_and c.from_residual.result c.from_residual.ensures.1 in rw (p.1, p.2) (finding_fails _ c.args.fonts.now c.args.style c.size.result c.args.symbol (field_content c.args.fonts.now c.args.field) c.size.ensures c.in_err-number.ensures.is)
 
 pub set_accent-clean_field-requires : goal.set_accent-clean_field-requires
 set_accent-clean_field-requires t c = (omega (arith, c.decreases), c.requires.modest)
 
 pub set_accent-returns-in_err-plain-clause-is : goal.set_accent-returns-in_err-plain-clause-is
 set_accent-returns-in_err-plain-clause-is t c =
-    let p = err_from_is_err_and c.from_residual-in_err-plain.result c.from_residual-in_err-plain.ensures.1 in
-    rw (p.1, p.2) (plain_fails _ c.args.fonts.now c.args.style c.cramped.result c.size.result c.args.symbol (field_content c.args.fonts.now c.args.field) c.in_ok-number.number c.size.ensures c.cramped.ensures c.in_ok-number.ensures.is c.in_err-plain.ensures.is)
+    let p = err_from_is_err_and c.from_residual-in_err-plain.result c.from_residual-in_err-plain.ensures.1 in rw (p.1, p.2) (plain_fails _ c.args.fonts.now c.args.style c.cramped.result c.size.result c.args.symbol (field_content c.args.fonts.now c.args.field) c.in_ok-number.number c.size.ensures c.cramped.ensures c.in_ok-number.ensures.is c.in_err-plain.ensures.is)
 
 pub set_accent-accent-requires-clause-found : goal.set_accent-accent-requires-clause-found
 set_accent-accent-requires-clause-found t c = ap (λ t. find_symbol c.args.fonts.now t c.args.symbol) (c.size-3.ensures ∙ sym c.size.ensures) ∙ c.in_ok-number.ensures.is
@@ -670,26 +680,22 @@ set_accent-returns-clause-level t c = if_ok_map c.accent.result _ (λ b. b.level
 
 pub set_accent_inside-returns-in_err-number-clause-is : goal.set_accent_inside-returns-in_err-number-clause-is
 set_accent_inside-returns-in_err-number-clause-is t c =
-    let p = err_from_is_err_and c.from_residual.result c.from_residual.ensures.1 in
-    rw (p.1, p.2) (inside_finding_fails _ c.args.fonts.now c.args.style c.size.result c.args.accent_symbol c.args.symbol (field_content c.args.fonts.now c.args.sup) (field_content c.args.fonts.now c.args.sub) c.size.ensures c.in_err-number.ensures.is)
+    let p = err_from_is_err_and c.from_residual.result c.from_residual.ensures.1 in rw (p.1, p.2) (inside_finding_fails _ c.args.fonts.now c.args.style c.size.result c.args.accent_symbol c.args.symbol (field_content c.args.fonts.now c.args.sup) (field_content c.args.fonts.now c.args.sub) c.size.ensures c.in_err-number.ensures.is)
 
 pub set_accent_inside-returns-in_err-clean_symbol-clause-is : goal.set_accent_inside-returns-in_err-clean_symbol-clause-is
 set_accent_inside-returns-in_err-clean_symbol-clause-is t c =
-    let p = err_from_is_err_and c.from_residual-in_err-clean_symbol.result c.from_residual-in_err-clean_symbol.ensures.1 in
-    rw (p.1, p.2) (inside_plain_fails _ c.args.fonts.now c.args.style c.cramped.result c.size.result c.args.accent_symbol c.args.symbol (field_content c.args.fonts.now c.args.sup) (field_content c.args.fonts.now c.args.sub) c.in_ok-number.number c.size.ensures c.cramped.ensures c.in_ok-number.ensures.is c.in_err-clean_symbol.ensures.is)
+    let p = err_from_is_err_and c.from_residual-in_err-clean_symbol.result c.from_residual-in_err-clean_symbol.ensures.1 in rw (p.1, p.2) (inside_plain_fails _ c.args.fonts.now c.args.style c.cramped.result c.size.result c.args.accent_symbol c.args.symbol (field_content c.args.fonts.now c.args.sup) (field_content c.args.fonts.now c.args.sub) c.in_ok-number.number c.size.ensures c.cramped.ensures c.in_ok-number.ensures.is c.in_err-clean_symbol.ensures.is)
 
 pub set_accent_inside-returns-in_err-nucleus-clause-is : goal.set_accent_inside-returns-in_err-nucleus-clause-is
 set_accent_inside-returns-in_err-nucleus-clause-is t c =
-    let p = err_from_is_err_and c.from_residual-in_err-nucleus.result c.from_residual-in_err-nucleus.ensures.1 in
-    rw (p.1, p.2) (inside_nucleus_fails _ c.args.fonts.now c.args.style c.cramped.result c.size.result c.args.accent_symbol c.args.symbol (not c.is_empty-has_subscript.result) (field_content c.args.fonts.now c.args.sup) (field_content c.args.fonts.now c.args.sub) c.in_ok-number.number (layout_of c.in_ok-clean_symbol.field-0) (record { cramped_is = c.cramped.ensures; size_is = c.size.ensures; subscript = ap not (c.is_empty-has_subscript.ensures ∙ sym (same_empty c.args.fonts.now (part_of_field c.args.sub))) }) c.in_ok-number.ensures.is c.in_ok-clean_symbol.ensures.is c.in_err-nucleus.ensures.is)
+    let p = err_from_is_err_and c.from_residual-in_err-nucleus.result c.from_residual-in_err-nucleus.ensures.1 in rw (p.1, p.2) (inside_nucleus_fails _ c.args.fonts.now c.args.style c.cramped.result c.size.result c.args.accent_symbol c.args.symbol (not c.is_empty-has_subscript.result) (field_content c.args.fonts.now c.args.sup) (field_content c.args.fonts.now c.args.sub) c.in_ok-number.number (layout_of c.in_ok-clean_symbol.field-0) (record { cramped_is = c.cramped.ensures; size_is = c.size.ensures; subscript = ap not (c.is_empty-has_subscript.ensures ∙ sym (same_empty c.args.fonts.now (part_of_field c.args.sub))) }) c.in_ok-number.ensures.is c.in_ok-clean_symbol.ensures.is c.in_err-nucleus.ensures.is)
 
 pub set_accent_inside-set_scripts-requires : goal.set_accent_inside-set_scripts-requires
 set_accent_inside-set_scripts-requires t c = (omega (arith, c.decreases), (nucleus_fits_more 0 3990 c.in_ok-nucleus.nucleus (omega arith) c.in_ok-nucleus.ensures.fits, (c.requires.sup, c.requires.sub)))
 
 pub set_accent_inside-returns-in_err-row-clause-is : goal.set_accent_inside-returns-in_err-row-clause-is
 set_accent_inside-returns-in_err-row-clause-is t c =
-    let p = err_from_is_err_and c.from_residual-in_err-row.result c.from_residual-in_err-row.ensures.1 in
-    rw (p.1, p.2) (inside_row_fails _ c.args.fonts.now c.args.style c.cramped.result c.size.result c.args.accent_symbol c.args.symbol (not c.is_empty-has_subscript.result) (field_content c.args.fonts.now c.args.sup) (field_content c.args.fonts.now c.args.sub) c.in_ok-number.number (layout_of c.in_ok-clean_symbol.field-0) (nucleus_value c.in_ok-nucleus.nucleus) (record { cramped_is = c.cramped.ensures; size_is = c.size.ensures; subscript = ap not (c.is_empty-has_subscript.ensures ∙ sym (same_empty c.args.fonts.now (part_of_field c.args.sub))) }) c.in_ok-number.ensures.is c.in_ok-clean_symbol.ensures.is c.in_ok-nucleus.ensures.is c.in_err-row.ensures.is)
+    let p = err_from_is_err_and c.from_residual-in_err-row.result c.from_residual-in_err-row.ensures.1 in rw (p.1, p.2) (inside_row_fails _ c.args.fonts.now c.args.style c.cramped.result c.size.result c.args.accent_symbol c.args.symbol (not c.is_empty-has_subscript.result) (field_content c.args.fonts.now c.args.sup) (field_content c.args.fonts.now c.args.sub) c.in_ok-number.number (layout_of c.in_ok-clean_symbol.field-0) (nucleus_value c.in_ok-nucleus.nucleus) (record { cramped_is = c.cramped.ensures; size_is = c.size.ensures; subscript = ap not (c.is_empty-has_subscript.ensures ∙ sym (same_empty c.args.fonts.now (part_of_field c.args.sub))) }) c.in_ok-number.ensures.is c.in_ok-clean_symbol.ensures.is c.in_ok-nucleus.ensures.is c.in_err-row.ensures.is)
 
 pub set_accent_inside-packed-requires-clause-few : goal.set_accent_inside-packed-requires-clause-few
 set_accent_inside-packed-requires-clause-few t c = omega (arith, c.in_ok-row.ensures.few)
@@ -699,8 +705,7 @@ set_accent_inside-packed-requires-clause-fits t c = row_fits_more 3992 4000 c.in
 
 pub set_accent_inside-returns-in_err-body-clause-is : goal.set_accent_inside-returns-in_err-body-clause-is
 set_accent_inside-returns-in_err-body-clause-is t c =
-    let p = err_from_is_err_and c.from_residual-in_err-body.result c.from_residual-in_err-body.ensures.1 in
-    rw (p.1, p.2) (inside_row_here (SetFails c.in_err-body.field-0.0) c.args.fonts.now c.args.style c.cramped.result c.size.result c.args.accent_symbol c.args.symbol (not c.is_empty-has_subscript.result) (field_content c.args.fonts.now c.args.sup) (field_content c.args.fonts.now c.args.sub) c.in_ok-number.number (layout_of c.in_ok-clean_symbol.field-0) (nucleus_value c.in_ok-nucleus.nucleus) (piece_values c.in_ok-row.row) (record { cramped_is = c.cramped.ensures; size_is = c.size.ensures; subscript = ap not (c.is_empty-has_subscript.ensures ∙ sym (same_empty c.args.fonts.now (part_of_field c.args.sub))) }) c.in_ok-number.ensures.is c.in_ok-clean_symbol.ensures.is c.in_ok-nucleus.ensures.is c.in_ok-row.ensures.is (row_packing_fails _ c.args.fonts.now c.args.style c.args.accent_symbol c.args.symbol c.in_ok-number.number (layout_of c.in_ok-clean_symbol.field-0) (piece_values c.in_ok-row.row) c.in_err-body.ensures.is))
+    let p = err_from_is_err_and c.from_residual-in_err-body.result c.from_residual-in_err-body.ensures.1 in rw (p.1, p.2) (inside_row_here (SetFails c.in_err-body.field-0.0) c.args.fonts.now c.args.style c.cramped.result c.size.result c.args.accent_symbol c.args.symbol (not c.is_empty-has_subscript.result) (field_content c.args.fonts.now c.args.sup) (field_content c.args.fonts.now c.args.sub) c.in_ok-number.number (layout_of c.in_ok-clean_symbol.field-0) (nucleus_value c.in_ok-nucleus.nucleus) (piece_values c.in_ok-row.row) (record { cramped_is = c.cramped.ensures; size_is = c.size.ensures; subscript = ap not (c.is_empty-has_subscript.ensures ∙ sym (same_empty c.args.fonts.now (part_of_field c.args.sub))) }) c.in_ok-number.ensures.is c.in_ok-clean_symbol.ensures.is c.in_ok-nucleus.ensures.is c.in_ok-row.ensures.is (row_packing_fails _ c.args.fonts.now c.args.style c.args.accent_symbol c.args.symbol c.in_ok-number.number (layout_of c.in_ok-clean_symbol.field-0) (piece_values c.in_ok-row.row) c.in_err-body.ensures.is))
 
 pub set_accent_inside-accent-requires-clause-found : goal.set_accent_inside-accent-requires-clause-found
 set_accent_inside-accent-requires-clause-found t c = ap (λ t. find_symbol c.args.fonts.now t c.args.accent_symbol) (c.size-3.ensures ∙ sym c.size.ensures) ∙ c.in_ok-number.ensures.is
@@ -710,8 +715,7 @@ set_accent_inside-accent-requires-clause-level t c = omega (arith, c.in_ok-body.
 
 pub set_accent_inside-returns-in_err-whole-clause-is : goal.set_accent_inside-returns-in_err-whole-clause-is
 set_accent_inside-returns-in_err-whole-clause-is t c =
-    let p = err_from_is_err_and c.from_residual-in_err-whole.result c.from_residual-in_err-whole.ensures.1 in
-    rw (p.1, p.2) (inside_row_here (SetFails c.in_err-whole.field-0.0) c.args.fonts.now c.args.style c.cramped.result c.size.result c.args.accent_symbol c.args.symbol (not c.is_empty-has_subscript.result) (field_content c.args.fonts.now c.args.sup) (field_content c.args.fonts.now c.args.sub) c.in_ok-number.number (layout_of c.in_ok-clean_symbol.field-0) (nucleus_value c.in_ok-nucleus.nucleus) (piece_values c.in_ok-row.row) (record { cramped_is = c.cramped.ensures; size_is = c.size.ensures; subscript = ap not (c.is_empty-has_subscript.ensures ∙ sym (same_empty c.args.fonts.now (part_of_field c.args.sub))) }) c.in_ok-number.ensures.is c.in_ok-clean_symbol.ensures.is c.in_ok-nucleus.ensures.is c.in_ok-row.ensures.is (over_row_fails _ c.args.fonts.now c.args.style c.args.accent_symbol c.args.symbol c.in_ok-number.number (layout_of c.in_ok-clean_symbol.field-0) (layout_of c.in_ok-body.body) (piece_values c.in_ok-row.row) c.in_ok-body.ensures.is (accent_given c.args.fonts.now c.args.style c.size-2.result c.args.accent_symbol c.args.symbol c.in_ok-number.number c.in_ok-clean_symbol.field-0 (layout_of c.in_ok-body.body) c.skew_of-skew.result.sp c.extents-plain.result (SetFails c.in_err-whole.field-0.0) c.size-2.ensures c.skew_of-skew.ensures.is c.extents-plain.ensures.is c.in_err-whole.ensures.is)))
+    let p = err_from_is_err_and c.from_residual-in_err-whole.result c.from_residual-in_err-whole.ensures.1 in rw (p.1, p.2) (inside_row_here (SetFails c.in_err-whole.field-0.0) c.args.fonts.now c.args.style c.cramped.result c.size.result c.args.accent_symbol c.args.symbol (not c.is_empty-has_subscript.result) (field_content c.args.fonts.now c.args.sup) (field_content c.args.fonts.now c.args.sub) c.in_ok-number.number (layout_of c.in_ok-clean_symbol.field-0) (nucleus_value c.in_ok-nucleus.nucleus) (piece_values c.in_ok-row.row) (record { cramped_is = c.cramped.ensures; size_is = c.size.ensures; subscript = ap not (c.is_empty-has_subscript.ensures ∙ sym (same_empty c.args.fonts.now (part_of_field c.args.sub))) }) c.in_ok-number.ensures.is c.in_ok-clean_symbol.ensures.is c.in_ok-nucleus.ensures.is c.in_ok-row.ensures.is (over_row_fails _ c.args.fonts.now c.args.style c.args.accent_symbol c.args.symbol c.in_ok-number.number (layout_of c.in_ok-clean_symbol.field-0) (layout_of c.in_ok-body.body) (piece_values c.in_ok-row.row) c.in_ok-body.ensures.is (accent_given c.args.fonts.now c.args.style c.size-2.result c.args.accent_symbol c.args.symbol c.in_ok-number.number c.in_ok-clean_symbol.field-0 (layout_of c.in_ok-body.body) c.skew_of-skew.result.sp c.extents-plain.result (SetFails c.in_err-whole.field-0.0) c.size-2.ensures c.skew_of-skew.ensures.is c.extents-plain.ensures.is c.in_err-whole.ensures.is)))
 
 pub set_accent_inside-returns-clause-is : goal.set_accent_inside-returns-clause-is
 set_accent_inside-returns-clause-is t c = inside_row_here (SetsRow c.box_row.result) c.args.fonts.now c.args.style c.cramped.result c.size.result c.args.accent_symbol c.args.symbol (not c.is_empty-has_subscript.result) (field_content c.args.fonts.now c.args.sup) (field_content c.args.fonts.now c.args.sub) c.in_ok-number.number (layout_of c.in_ok-clean_symbol.field-0) (nucleus_value c.in_ok-nucleus.nucleus) (piece_values c.in_ok-row.row) (record { cramped_is = c.cramped.ensures; size_is = c.size.ensures; subscript = ap not (c.is_empty-has_subscript.ensures ∙ sym (same_empty c.args.fonts.now (part_of_field c.args.sub))) }) c.in_ok-number.ensures.is c.in_ok-clean_symbol.ensures.is c.in_ok-nucleus.ensures.is c.in_ok-row.ensures.is (over_row_made (SetsRow c.box_row.result) c.args.fonts.now c.args.style c.args.accent_symbol c.args.symbol c.in_ok-number.number (layout_of c.in_ok-clean_symbol.field-0) (layout_of c.in_ok-body.body) (layout_of c.in_ok-whole.whole) (piece_values c.in_ok-row.row) c.in_ok-body.ensures.is (accent_given c.args.fonts.now c.args.style c.size-2.result c.args.accent_symbol c.args.symbol c.in_ok-number.number c.in_ok-clean_symbol.field-0 (layout_of c.in_ok-body.body) c.skew_of-skew.result.sp c.extents-plain.result (λ s. s ≡ Ok (layout_of c.in_ok-whole.whole)) c.size-2.ensures c.skew_of-skew.ensures.is c.extents-plain.ensures.is c.in_ok-whole.ensures.is) c.box_row.ensures.is)
@@ -729,8 +733,7 @@ set_vcenter-set_rows-requires t c =
 
 pub set_vcenter-returns-in_err-rows-in-Rows-clause-is : goal.set_vcenter-returns-in_err-rows-in-Rows-clause-is
 set_vcenter-returns-in_err-rows-in-Rows-clause-is t c =
-    let p = err_from_is_err_and c.from_residual.result c.from_residual.ensures.1 in
-    rw (p.1, p.2) (vcenter_fails _ c.args.fonts.now c.args.style (part_of_field c.args.field) c.in-Rows.rows (ap part_of_field c.in-Rows.is) c.in_err-rows-in-Rows.ensures.is)
+    let p = err_from_is_err_and c.from_residual.result c.from_residual.ensures.1 in rw (p.1, p.2) (vcenter_fails _ c.args.fonts.now c.args.style (part_of_field c.args.field) c.in-Rows.rows (ap part_of_field c.in-Rows.is) c.in_err-rows-in-Rows.ensures.is)
 
 pub set_vcenter-vcenter-requires-clause-levels : goal.set_vcenter-vcenter-requires-clause-levels
 set_vcenter-vcenter-requires-clause-levels t c =
@@ -768,8 +771,7 @@ set_rows-set_list-requires t c = (omega (arith, next_size _ _ _ _ _ _ c.loop-lis
 
 pub set_rows-returns-in_err-row-clause-is : goal.set_rows-returns-in_err-row-clause-is
 set_rows-returns-in_err-row-clause-is t c =
-    let p = err_from_is_err_and c.from_residual.result c.from_residual.ensures.1 in
-    rw (p.1, p.2) (row_fails _ _ _ _ _ c.in-Some.list _ c.loop-list.invariant.2 c.in-Some.ensures.steps.0 c.in_err-row.ensures.is)
+    let p = err_from_is_err_and c.from_residual.result c.from_residual.ensures.1 in rw (p.1, p.2) (row_fails _ _ _ _ _ c.in-Some.list _ c.loop-list.invariant.2 c.in-Some.ensures.steps.0 c.in_err-row.ensures.is)
 
 pub set_rows-packed-requires-clause-fits : goal.set_rows-packed-requires-clause-fits
 set_rows-packed-requires-clause-fits t c =
@@ -778,8 +780,7 @@ set_rows-packed-requires-clause-fits t c =
 
 pub set_rows-returns-in_err-packed-clause-is : goal.set_rows-returns-in_err-packed-clause-is
 set_rows-returns-in_err-packed-clause-is t c =
-    let p = err_from_is_err_and c.from_residual-in_err-packed.result c.from_residual-in_err-packed.ensures.1 in
-    rw (p.1, p.2) (box_fails _ _ _ _ _ c.in-Some.list _ (piece_values c.in_ok-row.row) c.loop-list.invariant.2 c.in-Some.ensures.steps.0 c.in_ok-row.ensures.is c.in_err-packed.ensures.is)
+    let p = err_from_is_err_and c.from_residual-in_err-packed.result c.from_residual-in_err-packed.ensures.1 in rw (p.1, p.2) (box_fails _ _ _ _ _ c.in-Some.list _ (piece_values c.in_ok-row.row) c.loop-list.invariant.2 c.in-Some.ensures.steps.0 c.in_ok-row.ensures.is c.in_err-packed.ensures.is)
 
 pub set_rows-loop-list-preserved : goal.set_rows-loop-list-preserved
 set_rows-loop-list-preserved t c = (tt, tt, rows_step _ _ _ _ _ c.in-Some.list _ (piece_values c.in_ok-row.row) c.in_ok-packed.field-0 c.loop-list.invariant.2 c.in-Some.ensures.steps.0 c.in_ok-row.ensures.is c.in_ok-packed.ensures.is (c.in_ok-packed.ensures.level (12 * list_nesting c.in-Some.list) c.in_ok-row.ensures.fits) c.in_ok-push_box.ensures)
@@ -795,5 +796,4 @@ set_rows-returns-clause-levels t c = subst (All (λ b. b.level ≤ 12 * rows_nes
 
 pub set_rows-returns-in_err-push_box-clause-is : goal.set_rows-returns-in_err-push_box-clause-is
 set_rows-returns-in_err-push_box-clause-is t c =
-    let p = err_from_is_err_and c.from_residual-in_err-push_box.result c.from_residual-in_err-push_box.ensures.1 in
-    rw (p.1, p.2) tt
+    let p = err_from_is_err_and c.from_residual-in_err-push_box.result c.from_residual-in_err-push_box.ensures.1 in rw (p.1, p.2) tt

@@ -52,14 +52,20 @@ decreases-set_vcenter l = 10 * part_size (part_of_field l.field) + 2
 abbrev pub decreases-set_plain : goal.decreases-set_plain
 decreases-set_plain l = 10 * part_size (part_of_field l.field) + 2
 
+abbrev pub decreases-set_part : goal.decreases-set_part
+decreases-set_part l = 10 * part_size (part_of_field l.field) + 3
+
 abbrev pub decreases-set_nucleus : goal.decreases-set_nucleus
-decreases-set_nucleus l = 10 * part_size (part_of_field l.field) + 3
+decreases-set_nucleus l = 10 * part_size (part_of_field l.field) + 4
 
 abbrev pub decreases-set_operator : goal.decreases-set_operator
 decreases-set_operator l = 10 * part_size (part_of_field l.field) + 3
 
 abbrev pub decreases-set_scripts : goal.decreases-set_scripts
 decreases-set_scripts l = 10 * (part_size (part_of_field l.sup) + part_size (part_of_field l.sub)) + 4
+
+abbrev pub decreases-set_under_limits : goal.decreases-set_under_limits
+decreases-set_under_limits l = 10 * (part_size (part_of_field l.nucleus) + (part_size (part_of_field l.sup) + part_size (part_of_field l.sub))) + 5
 
 abbrev pub decreases-set_limits : goal.decreases-set_limits
 decreases-set_limits l = 10 * (part_size (part_of_field l.sup) + part_size (part_of_field l.sub)) + 4

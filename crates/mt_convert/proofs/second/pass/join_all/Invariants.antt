@@ -1,6 +1,6 @@
 use Rattle.std.specs.Vec.Iter.{into_iter_items}
 use Rattle.mt_convert.proofs.SecondPass.{SoFar}
-use Rattle.mt_convert.proofs.second.pass.join_rows.Given as goal
+use Rattle.mt_convert.proofs.second.pass.join_all.Given as goal
 
 abbrev pub invariant-loop-item : goal.invariant-loop-item
 invariant-loop-item l =
