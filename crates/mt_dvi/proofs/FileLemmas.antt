@@ -33,7 +33,7 @@ none_written fonts o0 o1 empty pre = record {
 }
 
 pub file_begun : (fonts : SetValue) (file : DviFile) (o0 : List ℕ) → IsSet fonts → o0 ≡ [] → Emits 15 o0 file.out.items (Pre own_preamble)
-    → file.defined.items ≡ [] → file.greatest ≡ no_edges → file.last ≡ negsuc 0 → file.pages ≡ 0 → file.places ≡ 0 → IsFileOf fonts [] file
+    → file.defined ≡ [] → file.greatest ≡ no_edges → file.last ≡ negsuc 0 → file.pages ≡ 0 → file.places ≡ 0 → IsFileOf fonts [] file
 file_begun fonts file o0 set empty pre none edges last pages places = record {
   few_pages = omega arith;
   few_places = omega arith;
@@ -62,10 +62,10 @@ few_with fonts file page can = (omega (arith, can.few_pages, can.file_of.page_co
 
 pub page_added : (fonts : SetValue) (pages : List (List Place)) (page : List Place) (old new : DviFile) (number : ℕ)
     → IsFileOf fonts pages old → FewWith old page → All (IsWritable fonts) page
-    → new.defined.items ≡ numbers_after_all old.defined.items page
+    → new.defined ≡ numbers_after_all old.defined page
     → new.greatest ≡ edges_after fonts old.greatest page
-    → WritesPage fonts old.out.items new.out.items old.defined.items new.defined.items number old.last page
-    → GrowsWith (19 * length page + 46) old.out.items new.out.items old.defined.items new.defined.items
+    → WritesPage fonts old.out.items new.out.items old.defined new.defined number old.last page
+    → GrowsWith (19 * length page + 46) old.out.items new.out.items old.defined new.defined
     → number ≡ old.pages + 1
     → new.last ≡ pos (length old.out.items) → new.pages ≡ old.pages + 1 → new.places ≡ old.places + length page
     → IsFileOf fonts (pages ++ page ∷ []) new
@@ -73,19 +73,19 @@ page_added fonts pages page old new number file few can defined greatest one gro
     let joined : all_places (pages ++ page ∷ []) ≡ all_places pages ++ page = joined_more pages page in
     let long : length (all_places (pages ++ page ∷ [])) ≡ length (all_places pages) + length page = joined_long pages page in
     let more : length (pages ++ page ∷ []) ≡ length pages + 1 = omega (arith, length-append pages (page ∷ [])) in
-    let distinct = distinct_all fonts old.defined.items page (omega (arith, file.set.loaded.count, file.set.list.few)) can file.distinct in
+    let distinct = distinct_all fonts old.defined page (omega (arith, file.set.loaded.count, file.set.list.few)) can file.distinct in
     let next : number ≡ length pages + 1 = omega (arith, counted, file.page_count) in
     let small : length old.out.items ≤ 41027633 = short_enough fonts pages old file in
     record {
       few_pages = omega (arith, more, few.0, file.page_count);
       few_places = omega (arith, long, few.1, file.place_count);
       set = file.set;
-      written = subst (λ (z : ℤ). WrittenPages fonts new.out.items new.defined.items (numbered_pages fonts 1 (pages ++ page ∷ [])) z (length (all_places (pages ++ page ∷ [])))) (sym last)
-          (page_more fonts old.out.items new.out.items old.defined.items new.defined.items old.last pages page (omega (arith, few.1, file.place_count)) file.written
-          (subst (λ (n : ℕ). WritesPage fonts old.out.items new.out.items old.defined.items new.defined.items n old.last page) next one));
+      written = subst (λ (z : ℤ). WrittenPages fonts new.out.items new.defined (numbered_pages fonts 1 (pages ++ page ∷ [])) z (length (all_places (pages ++ page ∷ [])))) (sym last)
+          (page_more fonts old.out.items new.out.items old.defined new.defined old.last pages page (omega (arith, few.1, file.place_count)) file.written
+          (subst (λ (n : ℕ). WritesPage fonts old.out.items new.out.items old.defined new.defined n old.last page) next one));
       used = defined ∙ ap (λ (l : List ℕ). numbers_after_all l page) file.used ∙ sym (used_more [] (all_places pages) page) ∙ ap (λ (l : List Place). numbers_after_all [] l) (sym joined);
       distinct = subst AreDistinct (sym defined) distinct;
-      there = subst (All (λ (n : ℕ). n < length fonts.fonts)) (sym defined) (there_all fonts old.defined.items page can file.there);
+      there = subst (All (λ (n : ℕ). n < length fonts.fonts)) (sym defined) (there_all fonts old.defined page can file.there);
       edges = greatest ∙ ap (λ (g : GreatestEdges). edges_after fonts g page) file.edges ∙ sym (edges_append fonts no_edges (all_places pages) page) ∙ ap (edges_after fonts no_edges) (sym joined);
       last = rw last (omega (arith, ints, small));
       page_count = omega (arith, page_count, file.page_count, more);
@@ -122,3 +122,12 @@ pub taken : (fonts : SetValue) (all : List (List Place)) (i : ℕ) (d page : Lis
     → IsFileOf fonts (take i all ++ page ∷ []) file → IsFileOf fonts (take (i + 1) all) file
 taken fonts all i d page file lt is so_far =
     subst (λ (pages : List (List Place)). IsFileOf fonts pages file) (ap (λ (p : List Place). take i all ++ p ∷ []) is ∙ sym (take_more all i d lt)) so_far
+
+-- no page is left
+pub all_taken : (fonts : SetValue) (all : List (List Place)) (i : ℕ) (file : DviFile) → length all ≤ i → IsFileOf fonts (take i all) file → IsFileOf fonts all file
+all_taken fonts all i file lt so_far = subst (λ (pages : List (List Place)). IsFileOf fonts pages file) (take_whole all i lt) so_far where
+  take_whole : (xs : List (List Place)) (i : ℕ) → length xs ≤ i → take i xs ≡ xs
+  take_whole [] zero lt = refl
+  take_whole [] (suc i) lt = refl
+  take_whole (x ∷ xs) zero lt = absurd (omega arith)
+  take_whole (x ∷ xs) (suc i) lt = ap (λ (l : List (List Place)). x ∷ l) (take_whole xs i (omega arith))

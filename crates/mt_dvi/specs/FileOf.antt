@@ -19,18 +19,18 @@ pub record IsFileOf (fonts : SetValue) (pages : List (List Place)) (file : DviFi
   pub few_places : length (all_places pages) ≤ max_places
   pub set : IsSet fonts
   -- the machine reads the bytes so far as these pages
-  pub written : WrittenPages fonts file.out.items file.defined.items (numbered_pages fonts 1 pages) file.last (length (all_places pages))
+  pub written : WrittenPages fonts file.out.items file.defined (numbered_pages fonts 1 pages) file.last (length (all_places pages))
   -- the fonts of the places are defined, and no others, each once
-  pub used : file.defined.items ≡ numbers_after_all [] (all_places pages)
-  pub distinct : AreDistinct file.defined.items
-  pub there : All (λ (n : ℕ). n < length fonts.fonts) file.defined.items
+  pub used : file.defined ≡ numbers_after_all [] (all_places pages)
+  pub distinct : AreDistinct file.defined
+  pub there : All (λ (n : ℕ). n < length fonts.fonts) file.defined
   -- what post will state
   pub edges : file.greatest ≡ edges_after fonts no_edges (all_places pages)
   pub last : FitsFourBytes file.last
   pub page_count : file.pages ≡ length pages
   pub place_count : file.places ≡ length (all_places pages)
   pub long : length file.out.items
-      ≤ 15 + 19 * length (all_places pages) + 46 * length pages + 271 * length file.defined.items
+      ≤ 15 + 19 * length (all_places pages) + 46 * length pages + 271 * length file.defined
 
 -- some pages are written so far
 pub record IsFile (fonts : SetValue) (file : DviFile) : Type 0 where

@@ -12,6 +12,7 @@ ghost use Rattle.mt_dvi.specs.writer.Greatest.{edges_after};
 ghost use Rattle.mt_dvi.specs.writer.LeadsTo.{GrowsBy, GrowsWith, numbers_after_all};
 ghost use Rattle.mt_dvi.specs.writer.Pages.{DefinesAgain, IsTail, WritesPage};
 
+use crate::defined::DefinedFonts;
 use crate::edges::{GreatestEdges, NO_EDGES};
 use crate::emit;
 use crate::fonts::define;
@@ -32,7 +33,7 @@ const FIRST_ROOM: usize = 1024;
 #[tactic(auto, using(crate::proofs::Prefix::longer))]
 fn write_page(
     out: &mut Vec<u8>,
-    defined: &mut Vec<u16>,
+    defined: &mut DefinedFonts,
     greatest: &mut GreatestEdges,
     fonts: &FontSet,
     number: u32,
@@ -42,12 +43,12 @@ fn write_page(
     requires set { IsSet fonts.now }
     requires can { All (IsWritable fonts.now) page.now }
     requires last { FitsFourBytes last }
-    ensures defined { OnOk result (defined.new.items ≡ numbers_after_all defined.old.items page.now) }
+    ensures defined { OnOk result (defined.new ≡ numbers_after_all defined.old page.now) }
     ensures edges { OnOk result (greatest.new ≡ edges_after fonts.now greatest.old page.now) }
     ensures leads { OnOk result (WritesPage fonts.now
-        out.old.items out.new.items defined.old.items defined.new.items number last page.now) }
+        out.old.items out.new.items defined.old defined.new number last page.now) }
     ensures long { OnOk result (GrowsWith (19 * length page.now + 46)
-        out.old.items out.new.items defined.old.items defined.new.items) }
+        out.old.items out.new.items defined.old defined.new) }
 {
     emit::bop(out, number, last)?;
     write_places(out, defined, greatest, fonts, page)?;
@@ -87,12 +88,11 @@ fn tail(long: usize) -> &'static [u8]
 /// page has k in count 0. The fonts that are used are defined before their first use and once more
 /// after the pages; a font's number is that in the set. Each call takes the same set.
 ///
-/// After an error a file is no more of use.
+/// After an error no page can be added to the file, and it cannot be finished.
 #[derive(Debug, Drop)]
 pub struct DviFile {
     out: Vec<u8>,
-    // The fonts that are defined, by their numbers in the set.
-    defined: Vec<u16>,
+    defined: DefinedFonts,
     greatest: GreatestEdges,
     // The offset of the last page, or -1.
     last: i64,
@@ -107,7 +107,7 @@ impl DviFile {
         ensures { IfOk result (λ file. IsFileOf fonts.now [] file) }
     {
         let mut out = Vec::with_capacity(alloc, FIRST_ROOM)?;
-        let defined = Vec::with_capacity(alloc, fonts.font_count())?;
+        let defined = DefinedFonts::with_capacity(alloc, fonts.font_count())?;
         emit::pre(&mut out)?;
         Ok(DviFile {
             out,
@@ -165,7 +165,7 @@ impl DviFile {
             self.greatest.right,
             self.pages,
         )?;
-        define_again(&mut out, &self.defined, fonts)?;
+        define_again(&mut out, self.defined.as_slice(), fonts)?;
         emit::post_post(&mut out, start)?;
         let end = tail(out.len());
         out.extend_from_slice(end)?;

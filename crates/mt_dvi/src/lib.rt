@@ -1,6 +1,7 @@
 //! DVI files (tex.web, part 31): what their bytes mean, as a definition, and a writer of them.
 #![tactic(auto)]
 
+mod defined;
 mod edges;
 mod emit;
 mod error;

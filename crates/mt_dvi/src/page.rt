@@ -13,10 +13,11 @@ ghost use Rattle.mt_dvi.specs.Writable.{HasGlyph, InRange, IsWritable};
 ghost use Rattle.mt_dvi.specs.WrittenPlaces.{first_of};
 ghost use Rattle.mt_dvi.specs.writer.LeadsTo.{GrowsBy, GrowsWith, Reached, cursor_past, is_beyond, numbers_after, numbers_after_all, with_number};
 
+use crate::defined::DefinedFonts;
 use crate::edges::{GreatestEdges, edges_of};
 use crate::emit;
 use crate::emit::Register;
-use crate::fonts::{define, is_defined};
+use crate::fonts::define;
 use crate::moves::{HeldAmounts, MoveForm, move_code};
 use mt_box::Place;
 use mt_family::FontSet;
@@ -124,19 +125,19 @@ fn move_to(out: &mut Vec<u8>, cursor: &mut Cursor, place: Place) -> Result<(), A
 #[tactic(auto, using(crate::proofs::Prefix::longer))]
 fn introduce(
     out: &mut Vec<u8>,
-    defined: &mut Vec<u16>,
+    defined: &mut DefinedFonts,
     fonts: &FontSet,
     n: u16,
 ) -> Result<(), AllocError>
     requires there { n < length fonts.now.fonts }
     requires set { IsSet fonts.now }
-    ensures defined { OnOk result (defined.new.items ≡ with_number defined.old.items n) }
+    ensures defined { OnOk result (defined.new ≡ with_number defined.old n) }
     ensures leads { OnOk result (Introduces fonts.now
-        out.old.items out.new.items defined.old.items defined.new.items) }
+        out.old.items out.new.items defined.old defined.new) }
     ensures long { OnOk result (GrowsWith 0
-        out.old.items out.new.items defined.old.items defined.new.items) }
+        out.old.items out.new.items defined.old defined.new) }
 {
-    if !is_defined(defined, n) {
+    if !defined.contains(n) {
         define(out, fonts, n)?;
         defined.push(n)?;
     }
@@ -147,21 +148,21 @@ fn introduce(
 #[tactic(auto, using(crate::proofs::Prefix::longer))]
 fn select(
     out: &mut Vec<u8>,
-    defined: &mut Vec<u16>,
+    defined: &mut DefinedFonts,
     fonts: &FontSet,
     cursor: &Cursor,
     n: u16,
 ) -> Result<(), AllocError>
     requires there { n < length fonts.now.fonts }
     requires set { IsSet fonts.now }
-    requires selected { IsNoneOrAmong defined.now.items cursor.now.font }
+    requires selected { IsNoneOrAmong defined.now cursor.now.font }
     requires h { InRange cursor.now.h }
     requires v { InRange cursor.now.v }
-    ensures defined { OnOk result (defined.new.items ≡ with_number defined.old.items n) }
+    ensures defined { OnOk result (defined.new ≡ with_number defined.old n) }
     ensures leads { OnOk result (Selects fonts.now
-        out.old.items out.new.items defined.old.items defined.new.items cursor.now n) }
+        out.old.items out.new.items defined.old defined.new cursor.now n) }
     ensures long { OnOk result (GrowsWith 1
-        out.old.items out.new.items defined.old.items defined.new.items) }
+        out.old.items out.new.items defined.old defined.new) }
 {
     if cursor.font != Some(n) {
         introduce(out, defined, fonts, n)?;
@@ -213,7 +214,7 @@ fn pass(cursor: &mut Cursor, place: Place, put: bool, edge: i64)
 #[tactic(auto, using(crate::proofs::Prefix::longer))]
 fn write_glyph(
     out: &mut Vec<u8>,
-    defined: &mut Vec<u16>,
+    defined: &mut DefinedFonts,
     fonts: &FontSet,
     cursor: &Cursor,
     n: u16,
@@ -222,15 +223,15 @@ fn write_glyph(
 ) -> Result<(), AllocError>
     requires set { IsSet fonts.now }
     requires can { IsSomeAnd (metrics_at fonts.now n) (λ metrics. HasGlyph metrics code) }
-    requires selected { IsNoneOrAmong defined.now.items cursor.now.font }
+    requires selected { IsNoneOrAmong defined.now cursor.now.font }
     requires h { InRange cursor.now.h }
     requires v { InRange cursor.now.v }
-    ensures defined { OnOk result (defined.new.items ≡ with_number defined.old.items n) }
+    ensures defined { OnOk result (defined.new ≡ with_number defined.old n) }
     ensures leads { OnOk result (FillsPlace fonts.now
-        out.old.items out.new.items defined.old.items defined.new.items
+        out.old.items out.new.items defined.old defined.new
         cursor.now (Place.Glyph n code cursor.now.h cursor.now.v) put) }
     ensures long { OnOk result (GrowsWith 3
-        out.old.items out.new.items defined.old.items defined.new.items) }
+        out.old.items out.new.items defined.old defined.new) }
 {
     select(out, defined, fonts, cursor, n)?;
     emit::char(out, put, code)?;
@@ -260,7 +261,7 @@ fn write_rule(
 // Writes a place, with the moves to it, and leaves the cursor at the place.
 fn write_place(
     out: &mut Vec<u8>,
-    defined: &mut Vec<u16>,
+    defined: &mut DefinedFonts,
     fonts: &FontSet,
     cursor: &mut Cursor,
     place: Place,
@@ -270,13 +271,13 @@ fn write_place(
     requires can { IsWritable fonts.now place }
     requires reach { FitsFourBytes (h_of place -ℤ cursor.now.h) }
     requires v { InRange cursor.now.v }
-    requires selected { IsNoneOrAmong defined.now.items cursor.now.font }
-    ensures defined { OnOk result (defined.new.items ≡ numbers_after defined.old.items place) }
+    requires selected { IsNoneOrAmong defined.now cursor.now.font }
+    ensures defined { OnOk result (defined.new ≡ numbers_after defined.old place) }
     ensures there { OnOk result (IsAt place cursor.old cursor.new) }
     ensures leads { OnOk result (WritesPlace fonts.now
-        out.old.items out.new.items defined.old.items defined.new.items cursor.old cursor.new place put) }
+        out.old.items out.new.items defined.old defined.new cursor.old cursor.new place put) }
     ensures long { OnOk result (GrowsWith 19
-        out.old.items out.new.items defined.old.items defined.new.items) }
+        out.old.items out.new.items defined.old defined.new) }
 {
     move_to(out, cursor, place)?;
     match place {
@@ -295,19 +296,19 @@ fn write_place(
 /// edges of the places into account.
 pub fn write_places(
     out: &mut Vec<u8>,
-    defined: &mut Vec<u16>,
+    defined: &mut DefinedFonts,
     greatest: &mut GreatestEdges,
     fonts: &FontSet,
     page: &[Place],
 ) -> Result<(), AllocError>
     requires set { IsSet fonts.now }
     requires can { All (IsWritable fonts.now) page.now }
-    ensures defined { OnOk result (defined.new.items ≡ numbers_after_all defined.old.items page.now) }
+    ensures defined { OnOk result (defined.new ≡ numbers_after_all defined.old page.now) }
     ensures edges { OnOk result (greatest.new ≡ edges_after fonts.now greatest.old page.now) }
     ensures leads { OnOk result (WritesPlaces fonts.now
-        out.old.items out.new.items defined.old.items defined.new.items page.now) }
+        out.old.items out.new.items defined.old defined.new page.now) }
     ensures long { OnOk result (GrowsWith (19 * length page.now)
-        out.old.items out.new.items defined.old.items defined.new.items) }
+        out.old.items out.new.items defined.old defined.new) }
 {
     let mut cursor = AT_ORIGIN;
     let mut rest = page;

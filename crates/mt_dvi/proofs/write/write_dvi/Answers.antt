@@ -1,10 +1,11 @@
 use Rattle.std.proofs.Common.{◌∙◌, ◌≤◌, List, length, sym, subst, arith}
 use Rattle.std.specs.Prelude.{All}
 use Rattle.mt_box.specs.declared.place.Place.{Place}
+use Rattle.mt_dvi.specs.FileOf.{IsFileOf}
 use Rattle.mt_dvi.specs.Limits.{max_dvi_pages, max_places}
 use Rattle.mt_dvi.specs.Writable.{IsWritable}
 use Rattle.mt_dvi.specs.WrittenPlaces.{all_places}
-use Rattle.mt_dvi.proofs.FileLemmas.{can_take, taken}
+use Rattle.mt_dvi.proofs.FileLemmas.{all_taken, can_take, taken}
 use Rattle.mt_dvi.proofs.write.write_dvi.Goals as goal
 
 pub page-requires : goal.page-requires
@@ -18,3 +19,13 @@ page-requires c =
 pub loop-page-preserved : goal.loop-page-preserved
 loop-page-preserved c =
     taken c.args.fonts.now c.as_slice-pages.result.now c.loop-page.page-index c.page-item.result c.as_slice.result.now _ c.loop-page-test.true (c.as_slice.ensures ∙ c.page-item.is) (c.in_ok-page.ensures _ c.loop-page.invariant)
+
+pub returns-clause-written : goal.returns-clause-written
+returns-clause-written c =
+    let file = all_taken c.args.fonts.now c.as_slice-pages.result.now c.loop-page.page-index c.loop-page.file c.loop-page-test.false c.loop-page.invariant in
+    c.in_ok-bytes.ensures.written c.args.pages.now (subst (λ (pages : List (List Place)). IsFileOf c.args.fonts.now pages c.loop-page.file) c.as_slice-pages.ensures file)
+
+pub returns-clause-read_back : goal.returns-clause-read_back
+returns-clause-read_back c =
+    let file = all_taken c.args.fonts.now c.as_slice-pages.result.now c.loop-page.page-index c.loop-page.file c.loop-page-test.false c.loop-page.invariant in
+    c.in_ok-bytes.ensures.read_back c.args.pages.now (subst (λ (pages : List (List Place)). IsFileOf c.args.fonts.now pages c.loop-page.file) c.as_slice-pages.ensures file)

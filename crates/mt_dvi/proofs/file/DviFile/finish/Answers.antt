@@ -10,7 +10,7 @@ use Rattle.mt_dvi.proofs.file.DviFile.finish.Goals as goal
 
 pub returns : goal.returns
 returns c =
-    let again = rw c.deref.ensures.value at c.in_ok-define_again.ensures in
+    let again = rw c.as_slice.ensures at c.in_ok-define_again.ensures in
     let start : c.len-start.result ≡ length c.args.self.out.items = omega (arith, c.len-start.ensures) in
     let long : c.len.result ≡ length c.post_post.new.out.items = omega (arith, c.len.ensures) in
     let end : IsTail (length c.post_post.new.out.items) c.tail-end.result.now = subst (λ (n : ℕ). IsTail n c.tail-end.result.now) long c.tail-end.ensures in
