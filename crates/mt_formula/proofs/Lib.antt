@@ -4,6 +4,8 @@ mod Inside
 mod Standing
 -- what becomes of a list where no item stands
 mod Stopping
+-- where no item stands no token is taken
+mod Staying
 -- lists that go on after what was read of one of their items
 mod Continuing
 -- what a turn leaves follows from what a step of it leaves

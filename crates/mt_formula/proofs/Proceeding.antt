@@ -139,8 +139,3 @@ pub open_less : (result : Result Progress Stop) (frames : List Frame) (less left
 open_less (Ok (Open rest)) frames less left h k = omega (arith, h, k)
 open_less (Ok (Whole part)) frames less left h k = tt
 open_less (Err stop) frames less left h k = tt
-
-pub open_lower : (result : Result Progress Stop) (old new : List Frame) (less left : ℕ) → IfOpen result (λ t. remaining new (length t.now) < remaining old less) → less ≤ left → IfOpen result (λ t. remaining new (length t.now) < remaining old left)
-open_lower (Ok (Open rest)) old new less left h k = omega (arith, h, k)
-open_lower (Ok (Whole part)) old new less left h k = tt
-open_lower (Err stop) old new less left h k = tt

@@ -1,12 +1,12 @@
 //! What becomes of a list where no item stands.
-ghost use Rattle.std.specs.Prelude.{◌≡◌};
+ghost use Rattle.std.specs.Prelude.{◌≡◌, List, length};
+ghost use Rattle.mt_plain.specs.CodeTables.{CodeTables};
+ghost use Rattle.mt_token.specs.declared.token.Token.{Token};
 ghost use Rattle.mt_formula.specs.Lists.{ends_with_tokens, ends_at, misplaced_cause};
-ghost use Rattle.mt_formula.specs.machine.Stops.{AtRole, StopsAt};
+ghost use Rattle.mt_formula.specs.machine.Stops.{front_role, AtRole, StopsAt};
 
 use crate::open::open_list::{Ending, OpenList};
-use mt_plain::Codes;
-use mt_scan::{Bar, Fault, ReadCause, Role, role_of};
-use mt_token::Token;
+use mt_scan::{Bar, Fault, ReadCause, Role};
 
 /// What becomes of a list.
 #[derive(Clone, Copy, Debug, PartialEq, Eq)]
@@ -65,13 +65,15 @@ fn at_token(list: &OpenList, role: Role, left: usize) -> Result<ListStop, Fault>
     })
 }
 
-/// What becomes of a list, at tokens that begin with no item.
-pub fn list_stop(codes: &Codes, list: &OpenList, tokens: &[Token]) -> Result<ListStop, Fault>
-    ensures { StopsAt result codes.now list.now tokens.now }
+/// What becomes of a list, at so many tokens that begin with no item but with one of this role, or
+/// at none.
+pub fn list_stop(list: &OpenList, front: Option<Role>, left: usize) -> Result<ListStop, Fault>
+    ensures { (tables : CodeTables) (tokens : List Token) → front ≡ front_role tables tokens
+        → left ≡ length tokens → StopsAt result tables list.now tokens }
 {
-    match tokens {
-        [token, ..] => at_token(list, role_of(codes, token), tokens.len()),
-        [] => {
+    match front {
+        Some(role) => at_token(list, role, left),
+        None => {
             if ends_with_tokens(list.ending) {
                 Ok(ListStop::Ends)
             } else {

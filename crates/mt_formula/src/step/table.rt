@@ -10,6 +10,7 @@ ghost use Rattle.mt_formula.specs.Items.{free_action, limits_action, script_acti
 ghost use Rattle.mt_formula.specs.declared.step.action.Action.TheVariants.{Prime};
 ghost use Rattle.mt_formula.specs.machine.Actions.{spent, MeetsUnlessStop};
 ghost use Rattle.mt_formula.specs.machine.OpenLists.{last_atom_of};
+ghost use Rattle.mt_formula.specs.machine.Stops.{front_role};
 
 use crate::open::last_atom::{is_free, is_op};
 use crate::open::open_list::OpenList;
@@ -144,32 +145,43 @@ fn role_action<'a>(
     }
 }
 
-/// What the token in front does in a list, and the tokens after those that were read for it. It is
-/// `Stop`, and no token is read, where no item begins or none is left.
+/// The role of the token in front, if there is one.
+pub fn front_role(codes: &Codes, tokens: &[Token]) -> Option<Role>
+    ensures { result ≡ front_role codes.now tokens.now }
+{
+    match tokens {
+        [token, ..] => Some(role_of(codes, token)),
+        [] => None,
+    }
+}
+
+/// What the token in front, of this role, does in a list, and the tokens after those that were read
+/// for it. It is `Stop`, and no token is read, where no item begins or none is left.
 pub fn action_here<'a>(
     codes: &Codes,
     units: Units,
     list: &OpenList,
+    front: Option<Role>,
     tokens: &'a [Token],
 ) -> Result<Scanned<'a, Action>, Fault>
     requires em { Within (2 ^ 31) units.em }
     requires ex { Within (2 ^ 31) units.ex }
+    requires front { front ≡ front_role codes.now tokens.now }
     ensures is { Meets result
         (action_here codes.now units list.now.level list.now.family (last_atom_of list.now.last) tokens.now) }
     ensures falls { IfOk result (λ part. length part.rest.now + spent part.value ≤ length tokens.now) }
 {
-    match tokens {
-        [token, after @ ..] => {
-            match role_action(codes, units, list, role_of(codes, token), token, after) {
-                Ok(Some(part)) => Ok(part),
-                Ok(None) => Ok(Scanned {
+    match (front, tokens) {
+        (Some(role), [token, after @ ..]) => {
+            match role_action(codes, units, list, role, token, after)? {
+                Some(part) => Ok(part),
+                None => Ok(Scanned {
                     value: Action::Stop,
                     rest: tokens,
                 }),
-                Err(fault) => Err(fault),
             }
         }
-        [] => Ok(Scanned {
+        _ => Ok(Scanned {
             value: Action::Stop,
             rest: tokens,
         }),

@@ -1,5 +1,5 @@
 //! A turn: what stands in front is taken into the open lists.
-ghost use Rattle.std.specs.Prelude.{◌≤◌, ◌<◌, ◌^◌, List, length, reverse};
+ghost use Rattle.std.specs.Prelude.{◌≡◌, ◌≤◌, ◌<◌, ◌^◌, List, length, reverse};
 ghost use Rattle.mt_scaled.specs.Number.{Within};
 ghost use Rattle.mt_scaled.specs.declared.unit.Units.{Units as UnitsType};
 ghost use Rattle.mt_token.specs.declared.token.Token.{Token as TokenType};
@@ -7,6 +7,7 @@ ghost use Rattle.mt_formula.specs.declared.open.open_list.Frame.{Frame as FrameT
 ghost use Rattle.mt_formula.specs.machine.Progressing.{Progressed, Finishing, Ended, Divided, IfOpen};
 ghost use Rattle.mt_formula.specs.machine.Remaining.{remaining};
 ghost use Rattle.mt_formula.specs.machine.Stands.{Stands};
+ghost use Rattle.mt_formula.specs.machine.Stops.{front_role};
 
 use crate::forms::fraction::fraction_head;
 use crate::forms::resume::after_first;
@@ -16,10 +17,10 @@ use crate::step::action::Action;
 use crate::step::closings::close_list;
 use crate::step::perform::perform;
 use crate::step::stops::{ListStop, list_stop};
-use crate::step::table::action_here;
+use crate::step::table::{action_here, front_role};
 use mt_plain::Codes;
 use mt_scaled::Units;
-use mt_scan::{Bar, Scanned};
+use mt_scan::{Bar, Role, Scanned};
 use mt_token::Token;
 use std::alloc::Global;
 
@@ -86,17 +87,19 @@ fn divide_list<'a>(
     Ok(Progress::Open(head.rest))
 }
 
-// Where no item stands.
+// Where no item stands, but a token of this role or none.
 fn stop_list<'a>(
     alloc: Global,
     codes: &Codes,
     units: Units,
     frames: &mut Vec<Frame<'a>>,
     list: &mut OpenList,
+    front: Option<Role>,
     tokens: &'a [Token],
 ) -> Result<Progress<'a>, Stop>
     requires em { Within (2 ^ 31) units.em }
     requires ex { Within (2 ^ 31) units.ex }
+    requires front { front ≡ front_role codes.now tokens.now }
     ensures is { Progressed codes.now units
         (λ whole. Finishing codes.now units whole (reverse frames.old.items) list.old tokens.now)
         result (reverse frames.new.items) list.new }
@@ -104,7 +107,7 @@ fn stop_list<'a>(
         remaining (reverse frames.new.items) (length rest.now)
         < remaining (reverse frames.old.items) (length tokens.now)) }
 {
-    match list_stop(codes, list, tokens)? {
+    match list_stop(list, front, tokens.len())? {
         ListStop::Ends => end_list(alloc, codes, frames, list, tokens),
         ListStop::Divides(delims, bar) => {
             let after = after_first(tokens);
@@ -131,9 +134,10 @@ pub fn turn<'a>(
         remaining (reverse frames.new.items) (length rest.now)
         < remaining (reverse frames.old.items) (length tokens.now)) }
 {
-    let part = action_here(codes, units, list, tokens)?;
+    let front = front_role(codes, tokens);
+    let part = action_here(codes, units, list, front, tokens)?;
     match part.value {
-        Action::Stop => stop_list(alloc, codes, units, frames, list, part.rest),
+        Action::Stop => stop_list(alloc, codes, units, frames, list, front, tokens),
         action => {
             let rest = perform(alloc, codes, frames, list, action, part.rest)?;
             Ok(Progress::Open(rest))
