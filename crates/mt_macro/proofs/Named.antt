@@ -1,6 +1,6 @@
 -- Macros by their names.
 use Rattle.std.proofs.Common.{◌≡◌, ℕ, suc, ◌+◌, Bool, true, false, List, [], ◌∷◌, map, refl, sym}
-use Rattle.std.proofs.Common.{ap, subst, ◌∙◌, arith, cond, Bor}
+use Rattle.std.proofs.Common.{ap, subst, ◌∙◌, arith, cond, get_or, Bor}
 use Rattle.std.specs.Prelude.{Option, Some, None, All, IfSome, sum_by, ◌||◌, ◌&&◌, not, unwrap_or, if◌then◌else◌}
 use Rattle.std.specs.Option.{option_map, option_copied}
 use Rattle.std.specs.Str.{bytes_eq}
@@ -14,13 +14,15 @@ use Rattle.std.specs.declared.cmp.Ordering.TheVariants.{Less, Equal, Greater}
 use Rattle.std.proofs.lemmas.Cmp.{nat_list_cmp_total, on_total}
 use Rattle.std.proofs.lemmas.Map.Text.{is_eq-slice_cmp}
 use Rattle.std.proofs.lemmas.Map.Entries.{sum_by-insert_entry}
-use Rattle.std.proofs.lemmas.Map.Views.{All-values-insert_entry}
+use Rattle.std.proofs.lemmas.Map.Views.{All-keys-insert_entry, All-values-insert_entry}
 use Rattle.mt_token.specs.declared.token.Token.{Token}
 use Rattle.mt_macro.specs.declared.table.Macro.{Macro}
 use Rattle.std.proofs.lemmas.Slice.Eq.{bytes_eq-Decides}
 use Rattle.std.proofs.lemmas.Bool.{true≢false}
 use Rattle.mt_macro.specs.Definition.{HasMacroAt}
 use Rattle.mt_macro.specs.Table.{Table, macro_of, with_macro, is_own, own_count}
+use Rattle.mt_macro.specs.declared.name_marks.NameMarks.{NameMarks}
+use Rattle.mt_macro.specs.inner.Marks.{has_mark}
 use Rattle.mt_macro.specs.inner.Kept.{HasShortBody, IsKept}
 
 own_found : (o : Option Macro)
@@ -44,9 +46,10 @@ some_copied : (r : Option (Bor Macro)) → IfSome (option_copied r) HasShortBody
 some_copied None h = tt
 some_copied (Some b) h = h
 
-pub named_short : (table : Table) (name : List ℕ) (r : Option (Bor Macro)) (own : ℕ) → IsKept table own
-    → option_copied r ≡ macro_of table name → IfSome r (λ (m : Bor Macro). HasShortBody m.now)
-named_short table name r own kept e =
+pub named_short : (table : Table) (name : List ℕ) (r : Option (Bor Macro)) (own : ℕ) (marks : NameMarks)
+    → IsKept table own marks → option_copied r ≡ macro_of table name
+    → IfSome r (λ (m : Bor Macro). HasShortBody m.now)
+named_short table name r own marks kept e =
     some_copied r (subst (λ (o : Option Macro). IfSome o HasShortBody) (sym e)
     (found_short (λ (n : List ℕ). bytes_eq name n) table kept.short))
 
@@ -118,12 +121,14 @@ module _ {K : Type 0} (name_of : K → List ℕ) where
   put_is k v es fs name e n = ap named e ∙ (insert_named k v es ∙ ap (λ (x : List ℕ). with_macro (named es) x v) n)
 
   pub put_kept : (k : K) (v : Macro) (es fs : List (K × Macro)) (name : List ℕ) (makes_own was : Bool) (own own' : ℕ)
-      → IsKept (named es) own → HasShortBody v
+      (marks marks' : NameMarks) → IsKept (named es) own marks → HasShortBody v
       → fs ≡ insert_entry (λ (a b : K). slice_cmp nat_cmp (name_of a) (name_of b)) es k v → name_of k ≡ name
       → IsStrictlySortedBy (λ (a b : K). slice_cmp nat_cmp (name_of a) (name_of b)) (keys_of es)
       → was ≡ is_own (macro_of (named es) name) → v.own ≡ (makes_own || was)
-      → own' ≡ (if makes_own && not was then own + 1 else own) → IsKept (named fs) own'
-  put_kept k v es fs name makes_own was own own' kept short e n sorted w o is =
+      → own' ≡ (if makes_own && not was then own + 1 else own) → has_mark marks' name ≡ true
+      → ((other : List ℕ) → has_mark marks other ≡ true → has_mark marks' other ≡ true)
+      → IsKept (named fs) own' marks'
+  put_kept k v es fs name makes_own was own own' marks marks' kept short e n sorted w o is here others =
       let placed = put_is k v es fs name e n in
       let total =
       subst (λ (x : List ℕ). own_count (with_macro (named es) x v) +
@@ -140,6 +145,10 @@ module _ {K : Type 0} (name_of : K → List ℕ) where
         short =
             subst (λ (t : Table). All HasShortBody (values_of t)) (sym placed)
             (All-values-insert_entry (slice_cmp nat_cmp) name v HasShortBody (named es) kept.short short);
+        marked =
+            subst (λ (t : Table). All (λ (n : List ℕ). has_mark marks' n ≡ true) (keys_of t)) (sym placed)
+            (All-keys-insert_entry (slice_cmp nat_cmp) name v (λ (n : List ℕ). has_mark marks' n ≡ true) (named es)
+            (λ i d l. others (get_or (keys_of (named es)) i d) (kept.marked i d l)) here);
       }
 
 -- the new table has the macro, and all others
@@ -199,3 +208,22 @@ pub same_macro : (own own' : Bool) (params : ℕ) (body body' : List Token) → 
 same_macro own own' params body body' e f =
     ap (λ (x : Bool). record { own = x; params = params; body = body }) e
     ∙ ap (λ (x : List Token). record { own = own'; params = params; body = x }) f
+
+-- a name without its mark has no macro
+marked_not : (marks : NameMarks) (name n : List ℕ) (b : Bool) (m : Macro) (o : Option Macro) → bytes_eq name n ≡ b
+    → has_mark marks n ≡ true → has_mark marks name ≡ false → o ≡ None → cond b (Some m) o ≡ None
+marked_not marks name n true m o e here not_here h =
+    absurd (true≢false (sym here ∙ (ap (has_mark marks) (sym (same_names name n e)) ∙ not_here)))
+marked_not marks name n false m o e here not_here h = h
+
+not_named : (marks : NameMarks) (name : List ℕ) (table : Table)
+    → All (λ (n : List ℕ). has_mark marks n ≡ true) (keys_of table) → has_mark marks name ≡ false
+    → macro_of table name ≡ None
+not_named marks name [] all h = refl
+not_named marks name (e ∷ es) all h =
+    marked_not marks name e.0 (bytes_eq name e.0) e.1 (macro_of es name) refl (all 0 e.0 (omega arith)) h
+    (not_named marks name es (λ k d l. all (suc k) d (omega (arith, l))) h)
+
+pub unmarked : (table : Table) (name : List ℕ) (own : ℕ) (marks : NameMarks) (b : Bool) → IsKept table own marks
+    → b ≡ has_mark marks name → b ≡ false → None ≡ macro_of table name
+unmarked table name own marks b kept e f = sym (not_named marks name table kept.marked (sym e ∙ f))

@@ -8,5 +8,7 @@ pub mod Bodies
 pub mod Taking
 -- what became of a macro in a step
 pub mod Replacing
+-- marks of names
+pub mod Marks
 -- what the macros keep
 pub mod Kept

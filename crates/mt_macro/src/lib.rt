@@ -10,6 +10,7 @@ mod ends;
 mod expansion;
 mod filling;
 mod inputs;
+mod name_marks;
 mod parameters;
 mod pieces;
 mod spare;

@@ -6,6 +6,7 @@ ghost use Rattle.mt_macro.specs.Limits.{max_own_names};
 ghost use Rattle.mt_macro.specs.Table.{macro_of, macro_at, names_macro, is_own, own_count, with_macro};
 ghost use Rattle.mt_macro.specs.inner.Kept.{HasShortBody};
 
+use crate::name_marks::NameMarks;
 use mt_scaled::Name;
 use mt_token::{Token, TokenKind, TokenList};
 use std::alloc::{AllocError, Global};
@@ -32,6 +33,7 @@ pub struct Macros {
     alloc: Global,
     by_name: BTreeMap<Vec<u8>, Macro>,
     own_names: usize,
+    marks: NameMarks,
 }
 
 impl Model for Macros {
@@ -43,7 +45,8 @@ impl Model for Macros {
 
     ghost view = { λ m. map (λ e. (e.0.items, e.1)) m.by_name.entries };
 
-    ghost invariant = { λ m. IsKept (map (λ e. (e.0.items, e.1)) m.by_name.entries) m.own_names };
+    ghost invariant = { λ m. IsKept (map (λ e. (e.0.items, e.1)) m.by_name.entries) m.own_names
+        m.marks };
 }
 
 impl Macros {
@@ -55,6 +58,7 @@ impl Macros {
             alloc,
             by_name: BTreeMap::new(alloc),
             own_names: 0,
+            marks: NameMarks::none(),
         }
     }
 
@@ -63,6 +67,9 @@ impl Macros {
         ensures is { option_copied result ≡ macro_of self.now name.now }
         ensures short { IfSome result (λ m. HasShortBody m.now) }
     {
+        if !self.marks.has(name) {
+            return None;
+        }
         self.by_name.get(name)
     }
 
@@ -130,6 +137,7 @@ impl Macros {
         };
         self.by_name.insert(key, entry)?;
         self.own_names = own_names_after(self.own_names, makes_own, was_own);
+        self.marks.add(name.as_slice());
         Ok(())
     }
 }

@@ -1,6 +1,7 @@
 use Rattle.std.proofs.Common.{arith, List, length, ◌||◌, ℕ, Vec, Global, sym, ap, ◌∙◌, Bool}
 use Rattle.mt_macro.specs.declared.table.Macro.{Macro}
 use Rattle.mt_macro.specs.Table.{Table, macro_of, is_own, with_macro}
+use Rattle.mt_macro.specs.inner.Marks.{has_mark}
 use Rattle.mt_macro.proofs.Named.{put_is, put_kept, same_macro}
 use Rattle.mt_macro.proofs.table.Macros.put.Goals as goal
 
@@ -13,11 +14,13 @@ invariant_of-self-2 c =
     put_kept (λ (k : Vec ℕ Global). k.items) c.in_ok-key.key
     (record { own = c.either.result; params = c.args.params; body = c.in_ok-copy_body.field-0 })
     c.self.inside.by_name.entries c.insert.new.self.entries c.args.name.now c.args.makes_own c.is_own-was_own.result
-    c.self.inside.own_names c.own_names_after-self-inside.result c.self.invariant
+    c.self.inside.own_names c.own_names_after-self-inside.result c.self.inside.marks c.add.new.self c.self.invariant
     (omega (arith, ap length c.in_ok-copy_body.ensures, c.requires.short)) c.in_ok-insert.ensures.entries
     (c.in_ok-key.ensures.items
     ∙ c.as_slice-2.ensures) c.in_ok-insert.ensures.was_ordered was c.either.ensures
     c.own_names_after-self-inside.ensures
+    (ap (λ (n : List ℕ). has_mark c.add.new.self n) (sym c.as_slice-3.ensures) ∙ c.add.ensures.name)
+    c.add.ensures.others
 
 pub returns-clause-ok : goal.returns-clause-ok
 returns-clause-ok c =
