@@ -1,21 +1,19 @@
 -- The nodes of a box while it is packed, and the tree that they become.
-use Rattle.std.proofs.Common.{◌≡◌, ℕ, zero, suc, ◌<◌, ◌≤◌, ◌+◌, ◌*◌, ◌^◌, List, [], ◌∷◌, ◌++◌, length, drop, set, ℤ, pos, ◌+ℤ◌, ◌-ℤ◌, refl, arith, append_assoc, sym, ◌∙◌, ap, subst, Bool, true}
+use Rattle.std.proofs.Common.{◌≡◌, ℕ, zero, suc, ◌<◌, ◌≤◌, ◌+◌, ◌^◌, List, [], ◌∷◌, ◌++◌, length, drop, set, ℤ, pos, ◌+ℤ◌, ◌-ℤ◌, refl, arith, append_assoc, sym, ◌∙◌, ap, subst, Bool, true}
 use Rattle.std.proofs.lemmas.Int.{ints}
 use Rattle.std.proofs.lemmas.Bool.Decides.{nat_tests}
 use Rattle.std.proofs.lemmas.List.Elements.{All-nil, All-cons, All-append}
 use Rattle.std.specs.Prelude.{All, nat_lt, nat_le, ◌&&◌}
 use Rattle.mt_scaled.specs.Number.{Within}
 use Rattle.mt_box.specs.Layout.{all_moved}
-use Rattle.mt_box.specs.Placing.{all_lowered}
-use Rattle.mt_box.specs.declared.place.Place.{Place}
 use Rattle.mt_box.specs.declared.node.Node.{Node}
 use Rattle.mt_box.specs.declared.node.Mark.{Mark}
 use Rattle.mt_box.specs.declared.node.Mark.TheVariants as mark
 use Rattle.mt_box.specs.declared.offset.Offset.{Offset}
-use Rattle.mt_box.specs.Unfold.{marks, unfolded_in, unfolded, IsMark, is_nested_in, is_nested}
+use Rattle.mt_box.specs.Unfold.{marks, unfolded, IsMark, is_nested_in, is_nested}
 use Rattle.mt_box.specs.tree.Trees.{Forest, Bare, Tree, count, node, laid, spread, trees_after, AreMarks, AreTrees, IsTree, AreBoxNodes, below_root, all_later, tree_at, AllEnd, FirstNear, with_root_right}
 use Rattle.mt_box.proofs.Lists.{nil_right}
-use Rattle.mt_box.proofs.Trees.{past, is_same, is_less, unfolded_laid, length_laid, spread_at, marks_at, spread_moved, spread_lowered, spread_beside, laid_beside, marks_beside, later_laid, node_eq}
+use Rattle.mt_box.proofs.Trees.{past, is_same, is_less, unfolded_laid, length_laid, spread_at, marks_at, spread_moved, spread_beside, laid_beside, marks_beside, later_laid, node_eq}
 
 -- ---- what nodes are seen as
 

@@ -1,20 +1,18 @@
 -- Trees, the nodes that they are laid out as, and their places.
-use Rattle.std.proofs.Common.{◌≡◌, ℕ, zero, suc, ◌<◌, ◌≤◌, ◌+◌, ◌*◌, ◌^◌, List, [], ◌∷◌, ◌++◌, length, drop, ℤ, pos, ◌+ℤ◌, ◌-ℤ◌, refl, arith, append_assoc, length-append, sym, ◌∙◌, ap, true, false, eq-eqb}
+use Rattle.std.proofs.Common.{◌≡◌, ℕ, zero, suc, ◌<◌, ◌≤◌, ◌+◌, List, [], ◌∷◌, ◌++◌, length, drop, ℤ, pos, ◌+ℤ◌, ◌-ℤ◌, refl, arith, append_assoc, length-append, sym, ◌∙◌, ap, true, false, eq-eqb}
 use Rattle.std.proofs.Math.Seq.{drop-append_seam, drop-nil}
 use Rattle.std.proofs.lemmas.Int.{ints}
 use Rattle.std.proofs.lemmas.Bool.Decides.{nat_tests}
-use Rattle.std.specs.Prelude.{◌==◌, if◌then◌else◌}
+use Rattle.std.specs.Prelude.{◌==◌}
 use Rattle.mt_box.specs.Layout.{moved, all_moved}
 use Rattle.mt_box.specs.Placing.{lowered, all_lowered}
 use Rattle.mt_box.specs.declared.place.Place.{Place}
-use Rattle.mt_box.specs.declared.place.Place.TheVariants.{Glyph, Rule}
+use Rattle.mt_box.specs.declared.place.Place.TheVariants.{Glyph}
 use Rattle.mt_box.specs.declared.node.Node.{Node}
 use Rattle.mt_box.specs.declared.node.Mark.{Mark}
 use Rattle.mt_box.specs.declared.node.Mark.TheVariants as mark
-use Rattle.mt_box.specs.Unfold.{stacked, marks, at_first, unfolded_in, unfolded}
+use Rattle.mt_box.specs.Unfold.{stacked, marks, unfolded_in}
 use Rattle.mt_box.specs.tree.Trees.{Forest, Bare, Tree, count, node, laid, spread, trees_after, AreMarks, all_later}
-use Rattle.mt_box.proofs.Lists.{nil_right}
-use Rattle.mt_box.proofs.Equalities.{glyph_eq, rule_eq}
 
 -- ---- lists
 

@@ -1,11 +1,11 @@
 -- Trees, and the nodes that they are laid out as.
-use Rattle.std.specs.Prelude.{◌≡◌, ◌≤◌, ◌<ℤ◌, ℕ, suc, ◌+◌, ◌*◌, ◌^◌, ℤ, pos, ◌+ℤ◌, ◌-ℤ◌, List, [], ◌∷◌, ◌++◌, length, ⊤}
+use Rattle.std.specs.Prelude.{◌≡◌, ◌≤◌, ℕ, suc, ◌+◌, ◌*◌, ◌^◌, ℤ, pos, ◌+ℤ◌, ◌-ℤ◌, List, [], ◌∷◌, ◌++◌, length, ⊤}
 use Rattle.mt_scaled.specs.Number.{Within}
 use Rattle.mt_box.specs.declared.place.Place.{Place}
 use Rattle.mt_box.specs.declared.node.Node.{Node}
 use Rattle.mt_box.specs.declared.node.Mark.{Mark}
 use Rattle.mt_box.specs.declared.offset.Offset.{Offset}
-use Rattle.mt_box.specs.Unfold.{marks, IsMark, unfolded, unfolded_in}
+use Rattle.mt_box.specs.Unfold.{marks, IsMark, unfolded_in}
 
 -- trees side by side: the first with its offset, its mark and what is in it, and the others
 pub data Forest : Type 0 where
