@@ -7,9 +7,8 @@ use Rattle.mt_scaled.specs.Number.{Within, max_dimen}
 use Rattle.mt_box.specs.declared.extents.Extents.{Extents}
 use Rattle.mt_box.specs.declared.place.Place.{Place}
 use Rattle.mt_box.specs.declared.error.PlaceError.{PlaceError}
-use Rattle.mt_box.specs.Placing.{Placed, first_place_fault}
+use Rattle.mt_box.specs.Placing.{first_place_fault, Puts}
 use Rattle.mt_box.proofs.Lists.{nil_right}
-use Rattle.mt_box.proofs.Room.{fits_room}
 use Rattle.mt_display.specs.declared.error.StackError.{StackError}
 use Rattle.mt_display.specs.declared.error.StackError.TheVariants.{OutOfRange, TooMany, OutOfMemory}
 use Rattle.mt_display.specs.declared.line.Line.{Line as LineFields}
@@ -116,21 +115,15 @@ fewer room lines rest rest' q page here h e =
 -- ---- one line
 
 -- the places of a line are put after the others
-pub added_ok : (room left : ℕ) (here next : NextLine) (before now places : List Place) (l : LineValue) (base : ℤ) (x : Extents) → left ≡ room - length before → Placed left (line_places base l) (Ok places)
-    → base ≡ top_below (above_value here.above) x.height +ℤ x.height → x ≡ l.body.extents → now ≡ before ++ places → length before ≤ room
+pub added_ok : {u : Unit {0}} (room : ℕ) (here next : NextLine) (before now : List Place) (l : LineValue) (base : ℤ) (x : Extents) → Puts room before (line_places base l) (Ok u) now
+    → base ≡ top_below (above_value here.above) x.height +ℤ x.height → x ≡ l.body.extents
     → next.line ≡ here.line + 1 → above_value next.above ≡ Some (record { bottom = base +ℤ x.depth; depth = x.depth }) → IsNear next → AddsLine room here before l (Ok next) now
-added_ok room left here next before now places l base x r p' b e a fits n above near =
-    let p = subst (λ (k : ℕ). Placed k (line_places base l) (Ok places)) r p' in
+added_ok room here next before now l base x p b e n above near =
     let b' : base ≡ reference_below (above_value here.above) l = b ∙ ap (λ (y : Extents). top_below (above_value here.above) y.height +ℤ y.height) e in
-    let ps : places ≡ line_places (reference_below (above_value here.above) l) l = p.0 ∙ ap (λ (y : ℤ). line_places y l) b' in
-    let none : first_place_fault (room - length before) (line_places (reference_below (above_value here.above) l) l) ≡ None = ap (λ (y : ℤ). first_place_fault (room - length before) (line_places y l)) (sym b') ∙ p.1 in
-    let few = fits_room (room - length before) (line_places base l) p.1 in
-    let len : length now ≡ length before + length places = ap (λ (y : List Place). length y) a ∙ length-append before places in
-    let same : length places ≡ length (line_places base l) = ap (λ (y : List Place). length y) p.0 in
     let step : (let y : AboveValue = record { bottom = base +ℤ x.depth; depth = x.depth } in y) ≡ next_above (above_value here.above) l =
     ap (λ (y : ℤ). (let r : AboveValue = record { bottom = y +ℤ x.depth; depth = x.depth } in r)) b'
     ∙ ap (λ (y : Extents). (let r : AboveValue = record { bottom = reference_below (above_value here.above) l +ℤ y.depth; depth = y.depth } in r)) e in
-    (a ∙ ap (λ (y : List Place). before ++ y) ps, omega (arith, few, len, same, fits), none, n, above ∙ ap (λ (y : AboveValue). Some y) step, near)
+    (p.0 ∙ ap (λ (y : ℤ). before ++ line_places y l) b', p.1, ap (λ (y : ℤ). first_place_fault (room - length before) (line_places y l)) (sym b') ∙ p.2, n, above ∙ ap (λ (y : AboveValue). Some y) step, near)
 
 -- how far out the bottom above is
 pub bottom_above : (line : ℕ) (above : Option LineAbove) → IsNearAbove line above → IfSome above (λ (a : LineAbove). Within (2 ^ 33 * line) a.bottom.sp)

@@ -2,7 +2,7 @@
 ghost use Rattle.std.specs.Prelude.{◌≡◌, ◌≤◌, ◌<◌, ◌+ℤ◌, ◌*◌, ◌^◌, length, ℕ, All, IfSome, OnOk, Some, ◌-◌, ◌+◌, ◌++◌};
 ghost use Rattle.mt_scaled.specs.Number.{Within, max_dimen};
 ghost use Rattle.mt_box.specs.Extents.{ExtentsInRange};
-ghost use Rattle.mt_box.specs.Placing.{Placed};
+ghost use Rattle.mt_box.specs.Placing.{Puts};
 ghost use Rattle.mt_display.specs.Lines.{line_value, line_values};
 ghost use Rattle.mt_display.specs.Stack.{fault_in_line as fault_of_line, line_places};
 ghost use Rattle.mt_display.specs.Stack.{top_below as top_of_line, stacked_lines, StackAnswers};
@@ -10,10 +10,10 @@ ghost use Rattle.mt_display.specs.inner.NextLines.{above_value, IsNear, AddsLine
 ghost use Rattle.mt_display.specs.declared.line.Line.{Line as LineFields};
 
 use crate::{Line, Lines, StackError};
-use mt_box::{Extents, Place, PlaceError, PlaceList, places};
+use mt_box::{Extents, Place, PlaceError, PlaceList, put_places};
 use mt_rules::line_gap;
 use mt_scaled::{Items, Length};
-use std::alloc::{AllocError, Global};
+use std::alloc::Global;
 
 // The line above another: where its bottom is, and how deep it is.
 #[derive(Clone, Copy)]
@@ -44,7 +44,7 @@ pub fn stack_lines(alloc: Global, lines: &Lines, room: u64) -> Result<PlaceList,
     requires shifts { All (λ (l : LineFields). Within (2 ^ 40) l.shift) lines.now }
     ensures { StackAnswers result (stacked_lines room (line_values lines.now)) }
 {
-    let mut page = Vec::new(alloc);
+    let mut page = Vec::with_capacity(alloc, most_places(lines, room))?;
     let mut next = NextLine {
         line: 0,
         above: None,
@@ -71,37 +71,35 @@ fn add_line(
 {
     let extents = line.body.extents();
     let v = reference_below(here, extents);
-    let left = room_left(page, room);
-    match places_at(alloc, line, v, left) {
-        Ok(places) => {
-            append(page, places)?;
-            Ok(line_after(here, v, extents))
-        }
+    match put_line(alloc, page, line, v, room) {
+        Ok(()) => Ok(line_after(here, v, extents)),
         Err(error) => Err(fault_in_line(here.line, error)),
     }
 }
 
-// The places of a line whose reference point is at v.
-fn places_at(alloc: Global, line: &Line, v: Length, room: u64) -> Result<PlaceList, PlaceError>
+// Puts the places of a line whose reference point is at v after the others.
+fn put_line(
+    alloc: Global,
+    page: &mut Vec<Place>,
+    line: &Line,
+    v: Length,
+    room: u64,
+) -> Result<(), PlaceError>
     requires shift { Within (2 ^ 40) line.now.shift }
     requires v { Within (2 ^ 56) v.sp }
-    ensures { Placed room (line_places v.sp (line_value line.now)) result }
+    requires room { length page.old.items ≤ room }
+    ensures { Puts room page.old.items (line_places v.sp (line_value line.now)) result page.new.items }
 {
-    places(alloc, &line.body, line.shift, v.sp, room)
+    put_places(alloc, page, &line.body, line.shift, v.sp, room)
 }
 
-fn room_left(page: &Vec<Place>, room: u64) -> u64
-    requires { length page.now.items ≤ room }
-    ensures { result ≡ room - length page.now.items }
-{
-    room - page.len() as u64
-}
-
-fn append(page: &mut Vec<Place>, places: PlaceList) -> Result<(), AllocError>
-    ensures { OnOk result (page.new.items ≡ page.old.items ++ places) }
-{
-    page.extend_from_slice(places.as_slice())?;
-    Ok(())
+// At most how many places are put, where no node has several.
+fn most_places(lines: &Lines, room: u64) -> usize {
+    let mut count = 0usize;
+    for line in lines.as_slice() {
+        count = count.saturating_add(line.body.nodes().len());
+    }
+    count.min(room as usize)
 }
 
 fn fault_in_line(line: u32, error: PlaceError) -> StackError
