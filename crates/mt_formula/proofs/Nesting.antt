@@ -45,28 +45,28 @@ use Rattle.mt_formula.proofs.Fitting.{Holds, holds_next, holds_within, holds_aft
 
 -- where so many groups are open, an item holds at most so many lists one inside another: two for each group that may
 -- still be opened, its own list and that of a fraction, and what primes and one token after a superscript sign give
-pub room : ℕ → ℕ
-room level = 2 * (max_groups - level) + 7
+pub nesting_left : ℕ → ℕ
+nesting_left level = 2 * (max_groups - level) + 7
 
-room_start : room 0 ≡ 307
-unfolding room
-room_start = refl
+nesting_left_start : nesting_left 0 ≡ 307
+unfolding nesting_left
+nesting_left_start = refl
 
-room_least : (level : ℕ) → 7 ≤ room level
-unfolding room
-room_least level = omega arith
+nesting_left_least : (level : ℕ) → 7 ≤ nesting_left level
+unfolding nesting_left
+nesting_left_least level = omega arith
 
-room_falls : (level : ℕ) → level < max_groups → room (level + 1) + 2 ≤ room level
-unfolding room
-room_falls level h = omega (arith, h)
+nesting_left_falls : (level : ℕ) → level < max_groups → nesting_left (level + 1) + 2 ≤ nesting_left level
+unfolding nesting_left
+nesting_left_falls level h = omega (arith, h)
 
-room_of_row : (level : ℕ) → level < max_groups → room (level + 2) + 2 ≤ room level
-unfolding room
-room_of_row level h = omega (arith, h)
+nesting_left_of_row : (level : ℕ) → level < max_groups → nesting_left (level + 2) + 2 ≤ nesting_left level
+unfolding nesting_left
+nesting_left_of_row level h = omega (arith, h)
 
-room_inside : (level : ℕ) → room (level + 1) ≤ room level
-unfolding room
-room_inside level = omega arith
+nesting_left_inside : (level : ℕ) → nesting_left (level + 1) ≤ nesting_left level
+unfolding nesting_left
+nesting_left_inside level = omega arith
 
 abbrev pub ItemRunFits : ℕ → ItemRun → Type 0
 ItemRunFits n s = Fits n s.items
@@ -125,9 +125,9 @@ module _ (tables : CodeTables) where
     list_end_fits n ending s [] f = holds_if (Fits n) (ends_with_tokens ending) (Got s []) (Fault Unbalanced 0) (λ e. f) tt
     list_end_fits n ending s (t ∷ rest) f = holds_if (Fits n) (ends_at ending (role_of tables t)) (Got s (t ∷ rest)) (Fault (misplaced_cause (role_of tables t)) (length rest + 1)) (λ e. f) tt
 
-    -- each run of items that is read fits in the room that the open groups leave
+    -- each run of items that is read fits in what the open groups leave of the nesting
     abbrev pub IsFitting : ItemRunReader → Type 0
-    IsFitting again = (level : ℕ) (family : Option ℕ) (last : Option AtomValue) (ts : List Token) → LastAtomFits (room level + 1) last → Holds (ItemRunFits (room level + 1)) (again level family last ts)
+    IsFitting again = (level : ℕ) (family : Option ℕ) (last : Option AtomValue) (ts : List Token) → LastAtomFits (nesting_left level + 1) last → Holds (ItemRunFits (nesting_left level + 1)) (again level family last ts)
 
     module _ (again : ItemRunReader) where
       -- where there is no last atom, so many tokens give a run of items that fits
@@ -150,90 +150,90 @@ module _ (tables : CodeTables) where
       after_item_run_fits level n k fit ending s (t ∷ rest) a h = after_item_run_at_fits level n k fit ending s t rest (role_of tables t) a (omega (arith, h))
 
       module _ (fitting : IsFitting again) (bounded : IsBounded tables units again) where
-        no_last_atom : (level : ℕ) → LastAtomFits (room level + 1) None
-        no_last_atom level = end_fits (room level + 1) (omega arith)
+        no_last_atom : (level : ℕ) → LastAtomFits (nesting_left level + 1) None
+        no_last_atom level = end_fits (nesting_left level + 1) (omega arith)
 
-        list_after_fits : (items : Sequence) (last : Option AtomValue) (ending : Ending) (level : ℕ) (family : Option ℕ) (ts : List Token) → Fits (room level + 1) items → LastAtomFits (room level + 1) last → Holds (Fits (room level + 1 + 1)) (list_after tables units again items last ending level family ts)
+        list_after_fits : (items : Sequence) (last : Option AtomValue) (ending : Ending) (level : ℕ) (family : Option ℕ) (ts : List Token) → Fits (nesting_left level + 1) items → LastAtomFits (nesting_left level + 1) last → Holds (Fits (nesting_left level + 1 + 1)) (list_after tables units again items last ending level family ts)
         list_after_fits items last ending level family ts a h =
-            holds_next (ItemRunFits (room level + 1)) (Fits (room level + 1 + 1)) (again level family last ts)
+            holds_next (ItemRunFits (nesting_left level + 1)) (Fits (nesting_left level + 1 + 1)) (again level family last ts)
             (λ (s : ItemRun) (rest : List Token). after_item_run tables units again ending level (record { items = append items s.items; family = s.family }) rest) (fitting level family last ts h)
-            (λ s rest w. after_item_run_fits level (room level + 1) (length rest) (λ later after short. fitting level later None after (no_last_atom level)) ending (record { items = append items s.items; family = s.family }) rest (append_fits (room level + 1) items s.items a w) (omega arith))
+            (λ s rest w. after_item_run_fits level (nesting_left level + 1) (length rest) (λ later after short. fitting level later None after (no_last_atom level)) ending (record { items = append items s.items; family = s.family }) rest (append_fits (nesting_left level + 1) items s.items a w) (omega arith))
 
-        pub list_fits : (ending : Ending) (level : ℕ) (family : Option ℕ) (ts : List Token) → Holds (Fits (room level + 1 + 1)) (list tables units again ending level family ts)
+        pub list_fits : (ending : Ending) (level : ℕ) (family : Option ℕ) (ts : List Token) → Holds (Fits (nesting_left level + 1 + 1)) (list tables units again ending level family ts)
         list_fits ending level family ts = list_after_fits End None ending level family ts (no_last_atom level) (no_last_atom level)
 
         -- groups
-        brace_group_fits : (level : ℕ) (family : Option ℕ) (ts : List Token) → Holds (Fits (room level)) (brace_group tables units again level family ts)
+        brace_group_fits : (level : ℕ) (family : Option ℕ) (ts : List Token) → Holds (Fits (nesting_left level)) (brace_group tables units again level family ts)
         brace_group_fits level family ts =
-            holds_next (λ (here : ⊤). level < max_groups) (Fits (room level)) (opening tables is_open_brace level ts)
+            holds_next (λ (here : ⊤). level < max_groups) (Fits (nesting_left level)) (opening tables is_open_brace level ts)
             (λ (here : ⊤) (inside : List Token). then_read (list tables units again AtBrace (level + 1) family inside) (λ (inner : Sequence) (brace : List Token). Got inner (drop 1 brace)))
             (opening_level tables is_open_brace level ts)
-            (λ here inside h. holds_next (Fits (room (level + 1) + 1 + 1)) (Fits (room level)) (list tables units again AtBrace (level + 1) family inside)
+            (λ here inside h. holds_next (Fits (nesting_left (level + 1) + 1 + 1)) (Fits (nesting_left level)) (list tables units again AtBrace (level + 1) family inside)
             (λ (inner : Sequence) (brace : List Token). Got inner (drop 1 brace)) (list_fits AtBrace (level + 1) family inside)
-            (λ inner brace f. fits_more (room (level + 1) + 1 + 1) (room level) inner (omega (arith, room_falls level h)) f))
+            (λ inner brace f. fits_more (nesting_left (level + 1) + 1 + 1) (nesting_left level) inner (omega (arith, nesting_left_falls level h)) f))
 
         -- primes
         primes_in : (n count : ℕ) → 1 ≤ n → Fits n (prime_items count)
         primes_in n count h = fits_more 1 n (prime_items count) h (primes_fit count)
 
-        after_primes_fit : (count level : ℕ) (family : Option ℕ) (ts : List Token) → Holds (Fits (room level + 1 + 1)) (after_primes tables units again count level family ts)
-        after_primes_fit count level family ts = list_after_fits (prime_items count) (Some prime_atom) AtEnd level family ts (primes_in (room level + 1) count (omega arith)) (prime_last_atom (room level + 1) (omega arith))
+        after_primes_fit : (count level : ℕ) (family : Option ℕ) (ts : List Token) → Holds (Fits (nesting_left level + 1 + 1)) (after_primes tables units again count level family ts)
+        after_primes_fit count level family ts = list_after_fits (prime_items count) (Some prime_atom) AtEnd level family ts (primes_in (nesting_left level + 1) count (omega arith)) (prime_last_atom (nesting_left level + 1) (omega arith))
 
         -- one token after primes has at most five items beside them, and one more list where it divides them
         few_after : (level : ℕ) (later : Option ℕ) (after : List Token) → length after ≤ 1 → Holds (ItemRunFits 6) (again level later None after)
-        few_after level later after h = few_items 6 4 (room level + 1) (again level later None after) (omega arith) (fitting level later None after (no_last_atom level)) (within_more item_run_items (4 * length after + last_atom_count None) 4 (again level later None after) (omega (arith, h)) (bounded level later None after))
+        few_after level later after h = few_items 6 4 (nesting_left level + 1) (again level later None after) (omega arith) (fitting level later None after (no_last_atom level)) (within_more item_run_items (4 * length after + last_atom_count None) 4 (again level later None after) (omega (arith, h)) (bounded level later None after))
 
-        one_token_fits : (count level : ℕ) (family : Option ℕ) (t : Token) → Holds (Fits (room level)) (after_primes tables units again count level family (t ∷ []))
+        one_token_fits : (count level : ℕ) (family : Option ℕ) (t : Token) → Holds (Fits (nesting_left level)) (after_primes tables units again count level family (t ∷ []))
         one_token_fits count level family t =
-            holds_map (Fits 7) (Fits (room level)) (after_primes tables units again count level family (t ∷ [])) (λ s f. fits_more 7 (room level) s (room_least level) f)
+            holds_map (Fits 7) (Fits (nesting_left level)) (after_primes tables units again count level family (t ∷ [])) (λ s f. fits_more 7 (nesting_left level) s (nesting_left_least level) f)
             (holds_within (ItemRunFits 6) (Fits 7) item_run_items 5 (again level family (Some prime_atom) (t ∷ []))
             (λ (s : ItemRun) (rest : List Token). after_item_run tables units again AtEnd level (record { items = append (prime_items count) s.items; family = s.family }) rest)
-            (few_items 6 5 (room level + 1) (again level family (Some prime_atom) (t ∷ [])) (omega arith) (fitting level family (Some prime_atom) (t ∷ []) (prime_last_atom (room level + 1) (omega arith))) few)
+            (few_items 6 5 (nesting_left level + 1) (again level family (Some prime_atom) (t ∷ [])) (omega arith) (fitting level family (Some prime_atom) (t ∷ []) (prime_last_atom (nesting_left level + 1) (omega arith))) few)
             few
             (λ s rest f v. after_item_run_fits level 6 1 (few_after level) AtEnd (record { items = append (prime_items count) s.items; family = s.family }) rest (append_fits 6 (prime_items count) s.items (primes_in 6 count (omega arith)) f) (omega (arith, v))))
           where
             few : Within item_run_items 5 (again level family (Some prime_atom) (t ∷ []))
             few = within_more item_run_items (4 * length (t ∷ []) + last_atom_count (Some prime_atom)) 5 (again level family (Some prime_atom) (t ∷ [])) (omega arith) (bounded level family (Some prime_atom) (t ∷ []))
 
-        braced_fits : (count level : ℕ) (family : Option ℕ) (inside : List Token) (o : Option Taken) → Holds (Fits (room level + 1 + 1)) (braced_argument tables units again count level family inside o)
-        braced_fits count level family inside (Some taken) = followed_fits (room level + 1 + 1) taken.after (length taken.after + 1) (after_primes tables units again count level family taken.argument) (after_primes_fit count level family taken.argument)
-        braced_fits count level family inside None = holds_after (Fits (room level + 1 + 1)) (after_primes tables units again count level family inside) (λ (inner : Sequence) (rest : List Token). Fault Unbalanced 0) (λ inner rest. tt)
+        braced_fits : (count level : ℕ) (family : Option ℕ) (inside : List Token) (o : Option Taken) → Holds (Fits (nesting_left level + 1 + 1)) (braced_argument tables units again count level family inside o)
+        braced_fits count level family inside (Some taken) = followed_fits (nesting_left level + 1 + 1) taken.after (length taken.after + 1) (after_primes tables units again count level family taken.argument) (after_primes_fit count level family taken.argument)
+        braced_fits count level family inside None = holds_after (Fits (nesting_left level + 1 + 1)) (after_primes tables units again count level family inside) (λ (inner : Sequence) (rest : List Token). Fault Unbalanced 0) (λ inner rest. tt)
 
-        argument_at_fits : (count level : ℕ) (family : Option ℕ) (t : Token) (rest : List Token) (s : Role) → Holds (Fits (room level)) (argument_at tables units again count level family t rest s)
+        argument_at_fits : (count level : ℕ) (family : Option ℕ) (t : Token) (rest : List Token) (s : Role) → Holds (Fits (nesting_left level)) (argument_at tables units again count level family t rest s)
         argument_at_fits count level family t rest CloseBrace = tt
         argument_at_fits count level family t rest OpenBrace =
-            holds_next (λ (here : ⊤). level < max_groups) (Fits (room level)) (opening tables is_open_brace level (t ∷ rest)) (λ (here : ⊤) (inside : List Token). braced_argument tables units again count (level + 1) family inside (group_taken 0 inside)) (opening_level tables is_open_brace level (t ∷ rest))
-            (λ here inside h. holds_map (Fits (room (level + 1) + 1 + 1)) (Fits (room level)) (braced_argument tables units again count (level + 1) family inside (group_taken 0 inside)) (λ s f. fits_more (room (level + 1) + 1 + 1) (room level) s (omega (arith, room_falls level h)) f) (braced_fits count (level + 1) family inside (group_taken 0 inside)))
-        argument_at_fits count level family t rest _ = followed_fits (room level) rest (length rest) (after_primes tables units again count level family (t ∷ [])) (one_token_fits count level family t)
+            holds_next (λ (here : ⊤). level < max_groups) (Fits (nesting_left level)) (opening tables is_open_brace level (t ∷ rest)) (λ (here : ⊤) (inside : List Token). braced_argument tables units again count (level + 1) family inside (group_taken 0 inside)) (opening_level tables is_open_brace level (t ∷ rest))
+            (λ here inside h. holds_map (Fits (nesting_left (level + 1) + 1 + 1)) (Fits (nesting_left level)) (braced_argument tables units again count (level + 1) family inside (group_taken 0 inside)) (λ s f. fits_more (nesting_left (level + 1) + 1 + 1) (nesting_left level) s (omega (arith, nesting_left_falls level h)) f) (braced_fits count (level + 1) family inside (group_taken 0 inside)))
+        argument_at_fits count level family t rest _ = followed_fits (nesting_left level) rest (length rest) (after_primes tables units again count level family (t ∷ [])) (one_token_fits count level family t)
 
-        argument_after_fits : (count level : ℕ) (family : Option ℕ) (ts : List Token) → Holds (Fits (room level)) (argument_after tables units again count level family ts)
+        argument_after_fits : (count level : ℕ) (family : Option ℕ) (ts : List Token) → Holds (Fits (nesting_left level)) (argument_after tables units again count level family ts)
         argument_after_fits count level family [] = tt
         argument_after_fits count level family (t ∷ rest) = argument_at_fits count level family t rest (role_of tables t)
 
-        prime_script_at_fits : (count level : ℕ) (family : Option ℕ) (ts rest : List Token) (b : Bool) → Holds (Fits (room level)) (prime_script_at tables units again count level family ts rest b)
+        prime_script_at_fits : (count level : ℕ) (family : Option ℕ) (ts rest : List Token) (b : Bool) → Holds (Fits (nesting_left level)) (prime_script_at tables units again count level family ts rest b)
         prime_script_at_fits count level family ts rest true = argument_after_fits count level family (after_spaces rest)
-        prime_script_at_fits count level family ts rest false = primes_in (room level) (count + 1) (omega (arith, room_least level))
+        prime_script_at_fits count level family ts rest false = primes_in (nesting_left level) (count + 1) (omega (arith, nesting_left_least level))
 
-        prime_script_of_fits : (count level : ℕ) (family : Option ℕ) (ts : List Token) → Holds (Fits (room level)) (prime_script_of tables units again count level family ts)
-        prime_script_of_fits count level family [] = primes_in (room level) (count + 1) (omega (arith, room_least level))
+        prime_script_of_fits : (count level : ℕ) (family : Option ℕ) (ts : List Token) → Holds (Fits (nesting_left level)) (prime_script_of tables units again count level family ts)
+        prime_script_of_fits count level family [] = primes_in (nesting_left level) (count + 1) (omega (arith, nesting_left_least level))
         prime_script_of_fits count level family (t ∷ rest) = prime_script_at_fits count level family (t ∷ rest) rest (is_superscript (role_of tables t))
 
-        prime_script_fits : (level : ℕ) (family : Option ℕ) (ts : List Token) → Holds (Fits (room level)) (prime_script tables units again level family ts)
+        prime_script_fits : (level : ℕ) (family : Option ℕ) (ts : List Token) → Holds (Fits (nesting_left level)) (prime_script tables units again level family ts)
         prime_script_fits level family ts = prime_script_of_fits (primes tables 0 ts).count level family (primes tables 0 ts).rest
 
         -- rows
-        row_fits : (level : ℕ) (ts : List Token) → Holds (Fits (room level)) (row tables units again level ts)
+        row_fits : (level : ℕ) (ts : List Token) → Holds (Fits (nesting_left level)) (row tables units again level ts)
         row_fits level ts =
-            holds_next (λ (here : ⊤). level < max_groups) (Fits (room level)) (opening tables is_open_brace level ts)
+            holds_next (λ (here : ⊤). level < max_groups) (Fits (nesting_left level)) (opening tables is_open_brace level ts)
             (λ (brace : ⊤) (after : List Token). then_read (opening tables is_math_shift (level + 1) after) (λ (dollar : ⊤) (inside : List Token). then_read (list tables units again AtDollar (level + 2) None inside) (λ (inner : Sequence) (end : List Token). then_read (closing tables units again (drop 1 end)) (λ (closed : ⊤) (rest : List Token). Got inner rest))))
             (opening_level tables is_open_brace level ts)
-            (λ brace after h. holds_after (Fits (room level)) (opening tables is_math_shift (level + 1) after)
+            (λ brace after h. holds_after (Fits (nesting_left level)) (opening tables is_math_shift (level + 1) after)
             (λ (dollar : ⊤) (inside : List Token). then_read (list tables units again AtDollar (level + 2) None inside) (λ (inner : Sequence) (end : List Token). then_read (closing tables units again (drop 1 end)) (λ (closed : ⊤) (rest : List Token). Got inner rest)))
-            (λ dollar inside. holds_next (Fits (room (level + 2) + 1 + 1)) (Fits (room level)) (list tables units again AtDollar (level + 2) None inside)
+            (λ dollar inside. holds_next (Fits (nesting_left (level + 2) + 1 + 1)) (Fits (nesting_left level)) (list tables units again AtDollar (level + 2) None inside)
             (λ (inner : Sequence) (end : List Token). then_read (closing tables units again (drop 1 end)) (λ (closed : ⊤) (rest : List Token). Got inner rest))
             (list_fits AtDollar (level + 2) None inside)
-            (λ inner end f. holds_after (Fits (room level)) (closing tables units again (drop 1 end)) (λ (closed : ⊤) (rest : List Token). Got inner rest)
-            (λ closed rest. fits_more (room (level + 2) + 1 + 1) (room level) inner (omega (arith, room_of_row level h)) f))))
+            (λ inner end f. holds_after (Fits (nesting_left level)) (closing tables units again (drop 1 end)) (λ (closed : ⊤) (rest : List Token). Got inner rest)
+            (λ closed rest. fits_more (nesting_left (level + 2) + 1 + 1) (nesting_left level) inner (omega (arith, nesting_left_of_row level h)) f))))
 
         abbrev RowsReaderFits : ℕ → RowsReader tables units again → Type 0
         RowsReaderFits n more = (ts : List Token) → Holds (RowsFit n) (more ts)
@@ -259,33 +259,33 @@ module _ (tables : CodeTables) where
         first_rows_fit n more h [] = tt
         first_rows_fit n more h (t ∷ rest) = rows_here_fit n more h rest (Fault MissingField (length rest + 1)) (role_of tables t) tt
 
-        rows_from_fit : (n level : ℕ) → RowsReaderFits (room level) (rows_from tables units again n level)
+        rows_from_fit : (n level : ℕ) → RowsReaderFits (nesting_left level) (rows_from tables units again n level)
         rows_from_fit zero level ts = tt
         rows_from_fit (suc n) level ts =
-            holds_next (Fits (room level)) (RowsFit (room level)) (row tables units again level ts)
+            holds_next (Fits (nesting_left level)) (RowsFit (nesting_left level)) (row tables units again level ts)
             (λ (inner : Sequence) (after : List Token). then_read (later_rows tables units again (rows_from tables units again n level) after) (λ (others : Rows) (rest : List Token). Got (MoreRows inner others) rest))
             (row_fits level ts)
-            (λ inner after f. holds_next (RowsFit (room level)) (RowsFit (room level)) (later_rows tables units again (rows_from tables units again n level) after)
+            (λ inner after f. holds_next (RowsFit (nesting_left level)) (RowsFit (nesting_left level)) (later_rows tables units again (rows_from tables units again n level) after)
             (λ (others : Rows) (rest : List Token). Got (MoreRows inner others) rest)
-            (later_rows_fit (room level) (rows_from tables units again n level) (rows_from_fit n level) after)
+            (later_rows_fit (nesting_left level) (rows_from tables units again n level) (rows_from_fit n level) after)
             (λ others rest g. record { nesting = omega (arith, f.nesting, g.nesting); amounts = (f.amounts, g.amounts) }))
 
-        rows_fit : (level : ℕ) (inside : List Token) → Holds (RowsFit (room level)) (rows tables units again level inside)
+        rows_fit : (level : ℕ) (inside : List Token) → Holds (RowsFit (nesting_left level)) (rows tables units again level inside)
         rows_fit level inside =
-            holds_map (RowsFit (room (level + 1))) (RowsFit (room level)) (first_rows tables units again (rows_from tables units again (length inside) (level + 1)) inside) (λ r f. record { nesting = omega (arith, f.nesting, room_inside level); amounts = f.amounts }) (first_rows_fit (room (level + 1)) (rows_from tables units again (length inside) (level + 1)) (rows_from_fit (length inside) (level + 1)) inside)
+            holds_map (RowsFit (nesting_left (level + 1))) (RowsFit (nesting_left level)) (first_rows tables units again (rows_from tables units again (length inside) (level + 1)) inside) (λ r f. record { nesting = omega (arith, f.nesting, nesting_left_inside level); amounts = f.amounts }) (first_rows_fit (nesting_left (level + 1)) (rows_from tables units again (length inside) (level + 1)) (rows_from_fit (length inside) (level + 1)) inside)
 
         -- items
         abbrev RunFits : ℕ → Read ItemRun → Type 0
-        RunFits level r = Holds (ItemRunFits (room level + 1)) r
+        RunFits level r = Holds (ItemRunFits (nesting_left level + 1)) r
 
-        put_atom_fits : (level : ℕ) (family : Option ℕ) (last : Option AtomValue) (new : AtomValue) (rest : List Token) → LastAtomFits (room level + 1) last → AtomFits (room level + 1) new → RunFits level (put_atom tables units again level family last new rest)
-        put_atom_fits level family last new rest h f = items_before_fits (room level + 1) (last_atom_items last) (again level family (Some new) rest) h (fitting level family (Some new) rest (one_fits (room level + 1) (element_of_atom new) (omega arith) f))
+        put_atom_fits : (level : ℕ) (family : Option ℕ) (last : Option AtomValue) (new : AtomValue) (rest : List Token) → LastAtomFits (nesting_left level + 1) last → AtomFits (nesting_left level + 1) new → RunFits level (put_atom tables units again level family last new rest)
+        put_atom_fits level family last new rest h f = items_before_fits (nesting_left level + 1) (last_atom_items last) (again level family (Some new) rest) h (fitting level family (Some new) rest (one_fits (nesting_left level + 1) (element_of_atom new) (omega arith) f))
 
-        put_item_fits : (level : ℕ) (family : Option ℕ) (last : Option AtomValue) (item : Element) (rest : List Token) → LastAtomFits (room level + 1) last → ElementFits (room level + 1) item → RunFits level (put_item tables units again level family last item rest)
-        put_item_fits level family last item rest h f = items_before_fits (room level + 1) (append (last_atom_items last) (More item End)) (again level family None rest) (append_fits (room level + 1) (last_atom_items last) (More item End) h (one_fits (room level + 1) item (omega arith) f)) (fitting level family None rest (no_last_atom level))
+        put_item_fits : (level : ℕ) (family : Option ℕ) (last : Option AtomValue) (item : Element) (rest : List Token) → LastAtomFits (nesting_left level + 1) last → ElementFits (nesting_left level + 1) item → RunFits level (put_item tables units again level family last item rest)
+        put_item_fits level family last item rest h f = items_before_fits (nesting_left level + 1) (append (last_atom_items last) (More item End)) (again level family None rest) (append_fits (nesting_left level + 1) (last_atom_items last) (More item End) h (one_fits (nesting_left level + 1) item (omega arith) f)) (fitting level family None rest (no_last_atom level))
 
-        put_script_fits : (level : ℕ) (family : Option ℕ) (last : Option AtomValue) (side : Side) (part : Part) (rest : List Token) → LastAtomFits (room level + 1) last → PartFits (room level) part → RunFits level (put_script tables units again level family last side part rest)
-        put_script_fits level family last side part rest h f = fitting level family (Some (with_script side part last)) rest (script_fits (room level) side part last f h)
+        put_script_fits : (level : ℕ) (family : Option ℕ) (last : Option AtomValue) (side : Side) (part : Part) (rest : List Token) → LastAtomFits (nesting_left level + 1) last → PartFits (nesting_left level) part → RunFits level (put_script tables units again level family last side part rest)
+        put_script_fits level family last side part rest h f = fitting level family (Some (with_script side part last)) rest (script_fits (nesting_left level) side part last f h)
 
         list_part : (n : ℕ) (list : Sequence) → Fits n list → PartFits n (ListPart list)
         list_part n list f = record { nesting = f.nesting; amounts = f.amounts }
@@ -294,55 +294,55 @@ module _ (tables : CodeTables) where
         rows_part n rows f = record { nesting = f.nesting; amounts = f.amounts }
 
         -- a list in a group fits where the group stands
-        inner_fits : (level : ℕ) (inner : Sequence) → level < max_groups → Fits (room (level + 1) + 1 + 1) inner → Fits (room level) inner
-        inner_fits level inner c f = fits_more (room (level + 1) + 1 + 1) (room level) inner (omega (arith, room_falls level c)) f
+        inner_fits : (level : ℕ) (inner : Sequence) → level < max_groups → Fits (nesting_left (level + 1) + 1 + 1) inner → Fits (nesting_left level) inner
+        inner_fits level inner c f = fits_more (nesting_left (level + 1) + 1 + 1) (nesting_left level) inner (omega (arith, nesting_left_falls level c)) f
 
         -- what follows an action
-        follows_fits : (level : ℕ) (family : Option ℕ) (last : Option AtomValue) (a : Action) (after : List Token) → LastAtomFits (room level + 1) last → Carries level a → RunFits level (follows tables units again level family last a after)
+        follows_fits : (level : ℕ) (family : Option ℕ) (last : Option AtomValue) (a : Action) (after : List Token) → LastAtomFits (nesting_left level + 1) last → Carries level a → RunFits level (follows tables units again level family last a after)
         follows_fits level family last SkipAction after h c = fitting level family last after h
         follows_fits level family last (Atom kind symbol) after h c = put_atom_fits level family last (plain_atom (nucleus_kind kind) (SymbolPart symbol)) after h (record { nesting = omega arith; amounts = (tt, tt, tt) })
         follows_fits level family last (Script side symbol) after h c = put_script_fits level family last side (SymbolPart symbol) after h (record { nesting = omega arith; amounts = tt })
-        follows_fits level family last (Item item) after h c = put_item_fits level family last (simple_element item) after h (simple_fits (room level) item c)
+        follows_fits level family last (Item item) after h c = put_item_fits level family last (simple_element item) after h (simple_fits (nesting_left level) item c)
         follows_fits level family last (Family other) after h c = fitting level other last after h
-        follows_fits level family last (Limits limits) after h c = fitting level family (with_limits limits last) after (limits_fit (room level + 1) limits last h)
+        follows_fits level family last (Limits limits) after h c = fitting level family (with_limits limits last) after (limits_fit (nesting_left level + 1) limits last h)
         follows_fits level family last PrimeAction after h c =
-            holds_next (Fits (room level)) (ItemRunFits (room level + 1)) (prime_script tables units again level family after) (λ (script : Sequence) (rest : List Token). put_script tables units again level family last Up (ListPart script) rest) (prime_script_fits level family after)
-            (λ script rest f. put_script_fits level family last Up (ListPart script) rest h (list_part (room level) script f))
+            holds_next (Fits (nesting_left level)) (ItemRunFits (nesting_left level + 1)) (prime_script tables units again level family after) (λ (script : Sequence) (rest : List Token). put_script tables units again level family last Up (ListPart script) rest) (prime_script_fits level family after)
+            (λ script rest f. put_script_fits level family last Up (ListPart script) rest h (list_part (nesting_left level) script f))
         follows_fits level family last RowsAction after h c =
-            holds_next (RowsFit (room level)) (ItemRunFits (room level + 1)) (rows tables units again level after) (λ (inner : Rows) (rest : List Token). put_atom tables units again level family last (plain_atom Vcenter (RowsPart inner)) rest) (rows_fit level after)
-            (λ inner rest f. put_atom_fits level family last (plain_atom Vcenter (RowsPart inner)) rest h (plain_fits (room level) Vcenter (RowsPart inner) (rows_part (room level) inner f)))
+            holds_next (RowsFit (nesting_left level)) (ItemRunFits (nesting_left level + 1)) (rows tables units again level after) (λ (inner : Rows) (rest : List Token). put_atom tables units again level family last (plain_atom Vcenter (RowsPart inner)) rest) (rows_fit level after)
+            (λ inner rest f. put_atom_fits level family last (plain_atom Vcenter (RowsPart inner)) rest h (plain_fits (nesting_left level) Vcenter (RowsPart inner) (rows_part (nesting_left level) inner f)))
         follows_fits level family last (Group kind) after h c =
-            holds_next (Fits (room (level + 1) + 1 + 1)) (ItemRunFits (room level + 1)) (list tables units again AtBrace (level + 1) family after)
+            holds_next (Fits (nesting_left (level + 1) + 1 + 1)) (ItemRunFits (nesting_left level + 1)) (list tables units again AtBrace (level + 1) family after)
             (λ (inner : Sequence) (brace : List Token). put_atom tables units again level family last (nucleus_atom (nucleus_kind kind) (InGroup inner)) (drop 1 brace))
             (list_fits AtBrace (level + 1) family after)
-            (λ inner brace f. put_atom_fits level family last (nucleus_atom (nucleus_kind kind) (InGroup inner)) (drop 1 brace) h (nucleus_atom_fits (room level) (nucleus_kind kind) (InGroup inner) (inner_fits level inner c f)))
+            (λ inner brace f. put_atom_fits level family last (nucleus_atom (nucleus_kind kind) (InGroup inner)) (drop 1 brace) h (nucleus_atom_fits (nesting_left level) (nucleus_kind kind) (InGroup inner) (inner_fits level inner c f)))
         follows_fits level family last (ScriptGroup side) after h c =
-            holds_next (Fits (room (level + 1) + 1 + 1)) (ItemRunFits (room level + 1)) (list tables units again AtBrace (level + 1) family after)
+            holds_next (Fits (nesting_left (level + 1) + 1 + 1)) (ItemRunFits (nesting_left level + 1)) (list tables units again AtBrace (level + 1) family after)
             (λ (inner : Sequence) (brace : List Token). put_script tables units again level family last side (nucleus_of inner) (drop 1 brace))
             (list_fits AtBrace (level + 1) family after)
-            (λ inner brace f. put_script_fits level family last side (nucleus_of inner) (drop 1 brace) h (filling_fits (room level) (InGroup inner) (inner_fits level inner c f)))
+            (λ inner brace f. put_script_fits level family last side (nucleus_of inner) (drop 1 brace) h (filling_fits (nesting_left level) (InGroup inner) (inner_fits level inner c f)))
         follows_fits level family last (LeftRight left) after h c =
-            holds_next (Fits (room (level + 1) + 1 + 1)) (ItemRunFits (room level + 1)) (list tables units again AtRight (level + 1) family after)
+            holds_next (Fits (nesting_left (level + 1) + 1 + 1)) (ItemRunFits (nesting_left level + 1)) (list tables units again AtRight (level + 1) family after)
             (λ (inner : Sequence) (word : List Token). then_read (scan_delimiter tables (drop 1 word)) (λ (right : Delim) (rest : List Token). put_atom tables units again level family last (plain_atom (Plain Inner) (ListPart (between_boundaries left inner right))) rest))
             (list_fits AtRight (level + 1) family after)
-            (λ inner word f. holds_after (ItemRunFits (room level + 1)) (scan_delimiter tables (drop 1 word)) (λ (right : Delim) (rest : List Token). put_atom tables units again level family last (plain_atom (Plain Inner) (ListPart (between_boundaries left inner right))) rest)
-            (λ right rest. put_atom_fits level family last (plain_atom (Plain Inner) (ListPart (between_boundaries left inner right))) rest h (plain_fits (room level) (Plain Inner) (ListPart (between_boundaries left inner right)) (list_part (room level) (between_boundaries left inner right) (between_fit (room level) left right inner (omega (arith, room_least level)) (inner_fits level inner c f))))))
+            (λ inner word f. holds_after (ItemRunFits (nesting_left level + 1)) (scan_delimiter tables (drop 1 word)) (λ (right : Delim) (rest : List Token). put_atom tables units again level family last (plain_atom (Plain Inner) (ListPart (between_boundaries left inner right))) rest)
+            (λ right rest. put_atom_fits level family last (plain_atom (Plain Inner) (ListPart (between_boundaries left inner right))) rest h (plain_fits (nesting_left level) (Plain Inner) (ListPart (between_boundaries left inner right)) (list_part (nesting_left level) (between_boundaries left inner right) (between_fit (nesting_left level) left right inner (omega (arith, nesting_left_least level)) (inner_fits level inner c f))))))
         follows_fits level family last Choice after h c =
-            holds_next (Fits (room (level + 1) + 1 + 1)) (ItemRunFits (room level + 1)) (list tables units again AtBrace (level + 1) family after)
+            holds_next (Fits (nesting_left (level + 1) + 1 + 1)) (ItemRunFits (nesting_left level + 1)) (list tables units again AtBrace (level + 1) family after)
             (λ (display : Sequence) (brace : List Token). choice_with_none tables units again level family last display (drop 1 brace))
             (list_fits AtBrace (level + 1) family after)
-            (λ display brace f. holds_next (Fits (room level)) (ItemRunFits (room level + 1)) (brace_group tables units again level family (after_spaces (drop 1 brace)))
+            (λ display brace f. holds_next (Fits (nesting_left level)) (ItemRunFits (nesting_left level + 1)) (brace_group tables units again level family (after_spaces (drop 1 brace)))
             (choice_with_one tables units again level family last display) (brace_group_fits level family (after_spaces (drop 1 brace)))
-            (λ text second b. holds_next (Fits (room level)) (ItemRunFits (room level + 1)) (brace_group tables units again level family (after_spaces second))
+            (λ text second b. holds_next (Fits (nesting_left level)) (ItemRunFits (nesting_left level + 1)) (brace_group tables units again level family (after_spaces second))
             (choice_with_two tables units again level family last display text) (brace_group_fits level family (after_spaces second))
-            (λ script third d. holds_next (Fits (room level)) (ItemRunFits (room level + 1)) (brace_group tables units again level family (after_spaces third))
+            (λ script third d. holds_next (Fits (nesting_left level)) (ItemRunFits (nesting_left level + 1)) (brace_group tables units again level family (after_spaces third))
             (choice_with_three tables units again level family last display text script) (brace_group_fits level family (after_spaces third))
-            (λ small rest e. put_item_fits level family last (ChoiceElement display text script small) rest h (choice_fits_of (room level) display text script small (inner_fits level display c f) b d e)))))
+            (λ small rest e. put_item_fits level family last (ChoiceElement display text script small) rest h (choice_fits_of (nesting_left level) display text script small (inner_fits level display c f) b d e)))))
         follows_fits level family last Stop after h c = h
 
         turn_fits : IsFitting (turn tables units again)
         turn_fits level family last ts h =
-            holds_next (Carries level) (ItemRunFits (room level + 1)) (action_here tables units level family last ts) (follows tables units again level family last)
+            holds_next (Carries level) (ItemRunFits (nesting_left level + 1)) (action_here tables units level family last ts) (follows tables units again level family last)
             (action_here_carries tables level family units last ts) (λ a after c. follows_fits level family last a after h c)
 
     item_run_fits : (n : ℕ) → IsFitting (item_run tables units n)
@@ -350,12 +350,12 @@ module _ (tables : CodeTables) where
     item_run_fits zero level family last ts h = tt
     item_run_fits (suc n) level family last ts h = turn_fits (item_run tables units n) (item_run_fits n) (item_run_within tables units n) level family last ts h
 
-    with_tag_fits : (again : ItemRunReader) (fitting : IsFitting again) (bounded : IsBounded tables units again) (body : Sequence) (ts : List Token) → Fits (room 0 + 1 + 1) body → Holds (FormulaFits (room 0 + 1 + 1)) (with_tag tables units again body ts)
+    with_tag_fits : (again : ItemRunReader) (fitting : IsFitting again) (bounded : IsBounded tables units again) (body : Sequence) (ts : List Token) → Fits (nesting_left 0 + 1 + 1) body → Holds (FormulaFits (nesting_left 0 + 1 + 1)) (with_tag tables units again body ts)
     with_tag_fits again fitting bounded body [] f = (f, tt)
-    with_tag_fits again fitting bounded body (t ∷ rest) f = holds_next (Fits (room 0 + 1 + 1)) (FormulaFits (room 0 + 1 + 1)) (list tables units again AtEnd 0 None rest) (λ (side : Sequence) (after : List Token). Got (body, Some (record { body = side; left = is_at_left (role_of tables t) })) after) (list_fits again fitting bounded AtEnd 0 None rest) (λ side after g. (f, g))
+    with_tag_fits again fitting bounded body (t ∷ rest) f = holds_next (Fits (nesting_left 0 + 1 + 1)) (FormulaFits (nesting_left 0 + 1 + 1)) (list tables units again AtEnd 0 None rest) (λ (side : Sequence) (after : List Token). Got (body, Some (record { body = side; left = is_at_left (role_of tables t) })) after) (list_fits again fitting bounded AtEnd 0 None rest) (λ side after g. (f, g))
 
-    formula_fits : (again : ItemRunReader) (fitting : IsFitting again) (bounded : IsBounded tables units again) (display : Bool) (ts : List Token) → Holds (FormulaFits (room 0 + 1 + 1)) (formula tables units again display ts)
-    formula_fits again fitting bounded display ts = holds_next (Fits (room 0 + 1 + 1)) (FormulaFits (room 0 + 1 + 1)) (list tables units again (body_ending display) 0 None ts) (with_tag tables units again) (list_fits again fitting bounded (body_ending display) 0 None ts) (λ body rest f. with_tag_fits again fitting bounded body rest f)
+    formula_fits : (again : ItemRunReader) (fitting : IsFitting again) (bounded : IsBounded tables units again) (display : Bool) (ts : List Token) → Holds (FormulaFits (nesting_left 0 + 1 + 1)) (formula tables units again display ts)
+    formula_fits again fitting bounded display ts = holds_next (Fits (nesting_left 0 + 1 + 1)) (FormulaFits (nesting_left 0 + 1 + 1)) (list tables units again (body_ending display) 0 None ts) (with_tag tables units again) (list_fits again fitting bounded (body_ending display) 0 None ts) (λ body rest f. with_tag_fits again fitting bounded body rest f)
 
 -- what was read is modest
 abbrev pub IsModestReading : Reading → Type 0
@@ -363,14 +363,14 @@ IsModestReading (Reads body tag) = IsModestFormula (body, tag)
 IsModestReading (ReadFault cause place) = ⊤
 IsModestReading NotReadInTurns = ⊤
 
-modest_list : (s : Sequence) → Fits (room 0 + 1 + 1) s → list_items s ≤ 200000 → IsModestList s
-modest_list s f h = record { nesting = omega (arith, f.nesting, room_start); items = omega (arith, h); amounts = f.amounts }
+modest_list : (s : Sequence) → Fits (nesting_left 0 + 1 + 1) s → list_items s ≤ 200000 → IsModestList s
+modest_list s f h = record { nesting = omega (arith, f.nesting, nesting_left_start); items = omega (arith, h); amounts = f.amounts }
 
-modest_tag : (tag : Option Tag) → TagFits (room 0 + 1 + 1) tag → tag_items tag ≤ 200000 → IsModestTag tag
+modest_tag : (tag : Option Tag) → TagFits (nesting_left 0 + 1 + 1) tag → tag_items tag ≤ 200000 → IsModestTag tag
 modest_tag None f h = tt
 modest_tag (Some t) f h = modest_list t.body f h
 
-modest_of : (n count : ℕ) (r : Read FormulaParts) → Holds (FormulaFits (room 0 + 1 + 1)) r → HasAtMost n (reading_of count r) → n ≤ 200000 → IsModestReading (reading_of count r)
+modest_of : (n count : ℕ) (r : Read FormulaParts) → Holds (FormulaFits (nesting_left 0 + 1 + 1)) r → HasAtMost n (reading_of count r) → n ≤ 200000 → IsModestReading (reading_of count r)
 modest_of n count (Got f rest) g b h = (modest_list f.0 g.0 (omega (arith, b, h)), modest_tag f.1 g.1 (omega (arith, b, h)))
 modest_of n count (Fault cause left) g b h = tt
 modest_of n count NoTurn g b h = tt

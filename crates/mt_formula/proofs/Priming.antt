@@ -118,12 +118,12 @@ module _ (tables : CodeTables) (units : Units) (again : ItemRunReader) (level : 
 
 -- a { in front
 pub argument_braced : (tables : CodeTables) (level : ℕ) (ts : List Token) (t : Token) (a : ScriptArgument) (after : List Token) → 1 ≤ length ts → t ≡ get_or ts 0 t → OpenBrace ≡ role_of tables t → level < max_groups → after ≡ drop 1 ts → GivesBraced a (level + 1) after → GivesArgument (Ok a) tables level ts
-argument_braced tables level [] t a after h e role room d g = absurd (omega (arith, h))
-argument_braced tables level (u ∷ rest) t a after h e role room d g = λ units again count family last k.
+argument_braced tables level [] t a after h e role few d g = absurd (omega (arith, h))
+argument_braced tables level (u ∷ rest) t a after h e role few d g = λ units again count family last k.
     let is_role : role_of tables u ≡ OpenBrace = ap (role_of tables) (sym e) ∙ sym role in
     ap (λ r. then_read (argument_at tables units again count level family u rest r) (put_superscript tables units again level family last)) is_role
     ∙ (ap (λ r. then_read (then_read (if is_open_brace r then (if nat_lt level max_groups then Got tt rest else Fault TooDeep (length rest + 1)) else Fault MissingField (length rest + 1)) (λ (here : ⊤) (inside : List Token). braced_argument tables units again count (level + 1) family inside (group 0 inside))) (put_superscript tables units again level family last)) is_role
-    ∙ (ap (λ b. then_read (then_read (if b then Got tt rest else Fault TooDeep (length rest + 1)) (λ (here : ⊤) (inside : List Token). braced_argument tables units again count (level + 1) family inside (group 0 inside))) (put_superscript tables units again level family last)) (lt-ltb level max_groups room)
+    ∙ (ap (λ b. then_read (then_read (if b then Got tt rest else Fault TooDeep (length rest + 1)) (λ (here : ⊤) (inside : List Token). braced_argument tables units again count (level + 1) family inside (group 0 inside))) (put_superscript tables units again level family last)) (lt-ltb level max_groups few)
     ∙ subst (GivesBraced a (level + 1)) d g tables units again count level family last k))
 
 -- another token in front

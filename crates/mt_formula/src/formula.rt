@@ -52,24 +52,18 @@ fn formula_parts(
     ensures { ReadsFormula result
         (formula codes.now units (item_run codes.now units (length tokens.now + 1)) display tokens.now) }
 {
-    match read_list(alloc, codes, units, body_ending(display), tokens) {
-        Ok(body) => match body.rest {
-            [token, rest @ ..] => match read_list(alloc, codes, units, Ending::AtEnd, rest) {
-                Ok(side) => {
-                    let left = is_at_left(role_of(codes, token));
-                    Ok((
-                        body.value,
-                        Some(Tag {
-                            body: side.value,
-                            left,
-                        }),
-                    ))
-                }
-                Err(stop) => Err(stop),
-            },
-            [] => Ok((body.value, None)),
-        },
-        Err(stop) => Err(stop),
+    let body = read_list(alloc, codes, units, body_ending(display), tokens)?;
+    match body.rest {
+        [token, rest @ ..] => {
+            let side = read_list(alloc, codes, units, Ending::AtEnd, rest)?;
+            let left = is_at_left(role_of(codes, token));
+            let tag = Tag {
+                body: side.value,
+                left,
+            };
+            Ok((body.value, Some(tag)))
+        }
+        [] => Ok((body.value, None)),
     }
 }
 

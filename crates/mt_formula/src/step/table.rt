@@ -139,10 +139,7 @@ fn role_action<'a>(
         | Role::FractionWord(_, _)
         | Role::NumberWord(_) => return Ok(None),
     };
-    match read {
-        Ok(action) => Ok(Some(action)),
-        Err(fault) => Err(fault),
-    }
+    Ok(Some(read?))
 }
 
 /// The role of the token in front, if there is one.
