@@ -1,10 +1,6 @@
 -- How much a run takes.
 use Rattle.std.specs.Prelude.{ℕ}
 
--- the most bytes of a font list
-abbrev pub max_list : ℕ
-max_list = 65536
-
 -- the most bytes of a TFM file: its head can speak of no more
 abbrev pub max_tfm : ℕ
 max_tfm = 131068
