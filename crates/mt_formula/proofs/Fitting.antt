@@ -16,6 +16,7 @@ use Rattle.mt_rules.specs.declared.symbol.Glue.{Glue}
 use Rattle.mt_rules.specs.Sequence.{Sequence, Element, Part, Rows, End, More, AtomElement, FractionElement, LeftElement, RightElement, StyleElement, ChoiceElement, MuSpaceElement, SpaceElement, MuKernElement, KernElement, NonscriptElement, EmptyPart, SymbolPart, ListPart, RowsPart, NoRows, MoreRows}
 use Rattle.mt_rules.specs.Modest.{list_items, element_items, part_items, rows_items, list_nesting, element_nesting, part_nesting, rows_nesting, IsAmount, GlueAmounts, ThicknessAmount, ListAmounts, ElementAmounts, PartAmounts, RowsAmounts}
 use Rattle.mt_plain.specs.CodeTables.{CodeTables, math_code_of}
+use Rattle.mt_plain.specs.Limits.{max_math_code}
 use Rattle.mt_plain.specs.Names.{control}
 use Rattle.mt_plain.specs.declared.meaning.Command.{Command}
 use Rattle.mt_plain.specs.declared.meaning.Command.TheVariants.{Thin, Medium, Thick, NegativeThin}
@@ -292,7 +293,7 @@ meaning_fits (Some (CodeMeaning code)) = tt
 meaning_fits (Some (CommandMeaning command)) = command_fits command
 
 code_fits : (c code : ℕ) → RoleFits (code_role c code)
-code_fits c code = role_if (code == 32768) (if c == 39 then Prime else Unknown) (MathCode code) (role_if (c == 39) Prime Unknown tt tt) tt
+code_fits c code = role_if (code == max_math_code) (if c == 39 then Prime else Unknown) (MathCode code) (role_if (c == 39) Prime Unknown tt tt) tt
 
 character_fits : (tables : CodeTables) (c : ℕ) → RoleFits (character_role tables c)
 character_fits tables c =

@@ -15,6 +15,9 @@ use std::marker::Model;
 /// The greatest math code, which makes a character active (The TeXbook, chapter 17).
 pub const MAX_MATH_CODE: u16 = 32_768;
 
+/// The greatest delimiter code, 2^24 - 1 (The TeXbook, chapter 17).
+pub const MAX_DELIMITER_CODE: u32 = 16_777_215;
+
 /// The codes of the characters 0 to 127, and the meanings of names.
 #[derive(Debug, Drop)]
 pub struct Codes {

@@ -11,7 +11,7 @@ mod meaning;
 mod meanings;
 mod names;
 
-pub use codes::{Codes, MAX_MATH_CODE};
+pub use codes::{Codes, MAX_DELIMITER_CODE, MAX_MATH_CODE};
 pub use error::CodeError;
 pub use macros::plain_macros;
 pub use meaning::{Command, Meaning};

@@ -6,15 +6,12 @@ ghost use Rattle.mt_reader.specs.documents.Assignments.{math_code_assignment, de
 ghost use Rattle.mt_reader.specs.documents.Lent.{Assigns};
 ghost use Rattle.mt_scan.specs.Meets.{Meets};
 
-use mt_plain::{Codes, MAX_MATH_CODE};
+use mt_plain::{Codes, MAX_DELIMITER_CODE, MAX_MATH_CODE};
 use mt_scan::{Fault, ReadCause, Scanned, after_spaces, number_to, whole_number};
 use mt_token::{Token, character_code};
 
 /// The greatest character.
 const MAX_CHARACTER: u32 = 127;
-
-/// The greatest delimiter code.
-const MAX_DELCODE: i64 = 16_777_215;
 
 // The tokens after `=` and Spaces, where one stands.
 fn after_equals<'a>(tokens: &'a [Token]) -> &'a [Token]
@@ -40,7 +37,7 @@ fn code_or_none<'a>(
     if n < 0 {
         return Ok(Scanned { value: None, rest });
     }
-    if n <= MAX_DELCODE {
+    if n <= i64::from(MAX_DELIMITER_CODE) {
         return Ok(Scanned {
             value: Some(n as u32),
             rest,

@@ -3,7 +3,7 @@ use Rattle.std.specs.Prelude.{ℕ, ◌==◌, nat_le, ℤ, pos, negsuc, List, [],
 use Rattle.mt_token.specs.declared.token.Token.{Token}
 use Rattle.mt_token.specs.Character.{character_code}
 use Rattle.mt_plain.specs.CodeTables.{CodeTables, with_math_code, with_delcode}
-use Rattle.mt_plain.specs.Limits.{max_math_code}
+use Rattle.mt_plain.specs.Limits.{max_delimiter_code, max_math_code}
 use Rattle.mt_scan.specs.declared.fault.ReadCause.TheVariants.{BadNumber}
 use Rattle.mt_scan.specs.Parts.{Read, Got, Fault, then_read, after_spaces}
 use Rattle.mt_scan.specs.Numbers.{whole_number, number_to}
@@ -22,7 +22,7 @@ assignment code change tokens =
 
 -- a number of at most 2^24 - 1; a negative one means that there is no code
 abbrev pub code_or_none : ℕ → ℤ → List Token → Read (Option ℕ)
-code_or_none first (pos n) rest = if nat_le n 16777215 then Got (Some n) rest else Fault BadNumber first
+code_or_none first (pos n) rest = if nat_le n max_delimiter_code then Got (Some n) rest else Fault BadNumber first
 code_or_none first (negsuc n) rest = Got None rest
 
 abbrev pub delimiter_value : List Token → Read (Option ℕ)
