@@ -1,4 +1,4 @@
-use mt_macro::{ExpandError, MacroError, Macros, expand, first_bad_parameter};
+use mt_macro::{ExpandError, MacroError, Macros, expand, expands_to_itself, first_bad_parameter};
 use mt_scaled::Name;
 use mt_token::{Token, TokenKind, TokenList, tokens};
 use std::alloc::Global;
@@ -100,6 +100,24 @@ fn finds_first_fault(rt: HostRuntime) -> Result<(), Fail> {
     ];
     for (text, want) in &faults {
         assert_eq!(rt; expand_text(alloc, &macros, text)?.err(), Some(*want));
+    }
+    Ok(())
+}
+
+#[test]
+fn tells_what_expands_to_itself(rt: HostRuntime) -> Result<(), Fail> {
+    let alloc = rt.alloc();
+    let macros = four_macros(&rt, alloc)?;
+    let cases: [(&[u8], bool); 5] = [
+        (b"", true),
+        (b"\\undefined{a}", true),
+        (b"{a\\z}", false),
+        (b"\\y", false),
+        (b"{a", false),
+    ];
+    for (text, want) in &cases {
+        let list = tokens(alloc, text)?;
+        assert_eq!(rt; expands_to_itself(&macros, list.as_slice()), *want);
     }
     Ok(())
 }
