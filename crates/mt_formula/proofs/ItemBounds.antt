@@ -28,7 +28,7 @@ use Rattle.mt_formula.specs.Groups.{between_boundaries, brace_group}
 use Rattle.mt_formula.specs.Primes.{followed_by, primes, after_primes, braced_argument, argument_at, argument_after, prime_script_at, prime_script_of, prime_script}
 use Rattle.mt_formula.specs.Rows.{closing, row, RowsReader, next_row_at, next_row, rows_here_at, first_rows, later_rows, rows_from, rows}
 use Rattle.mt_formula.specs.declared.step.action.Action.{Action}
-use Rattle.mt_formula.specs.declared.step.action.Action.TheVariants.{Skip as SkipAction, Atom, Script, Item, Family, Limits, Prime as PrimeAction, Rows as RowsAction, Group, ScriptGroup, LeftRight, Choice, Stop}
+use Rattle.mt_formula.specs.declared.step.action.Action.TheVariants.{Nothing, Atom, Script, Item, Family, Limits, Prime as PrimeAction, Rows as RowsAction, Group, ScriptGroup, LeftRight, Choice, Stop}
 use Rattle.mt_formula.specs.Items.{put_atom, put_item, put_script, choice_with_none, choice_with_one, choice_with_two, choice_with_three, action_here, follows, turn}
 use Rattle.mt_formula.specs.Formulas.{item_run, FormulaParts, Reading, Reads, ReadFault, NotReadInTurns, reading_of, is_at_left, body_ending, with_tag, formula, reading}
 use Rattle.mt_rules.specs.Modest.{list_items, element_items, part_items, rows_items}
@@ -178,7 +178,7 @@ module _ (tables : CodeTables) where
 
       -- what follows an action
       pub follows_within : (level : ℕ) (family : Option ℕ) (last : Option AtomValue) (a : Action) (after : List Token) → Within item_run_items (action_four a + 4 * length after + last_atom_count last) (follows tables units again level family last a after)
-      follows_within level family last SkipAction after = within_more item_run_items (4 * length after + last_atom_count last) (4 + 4 * length after + last_atom_count last) (again level family last after) (omega arith) (bounded level family last after)
+      follows_within level family last Nothing after = within_more item_run_items (4 * length after + last_atom_count last) (4 + 4 * length after + last_atom_count last) (again level family last after) (omega arith) (bounded level family last after)
       follows_within level family last (Atom kind symbol) after = put_atom_within level family last (plain_atom (nucleus_kind kind) (SymbolPart symbol)) after (4 + 4 * length after + last_atom_count last) (omega arith)
       follows_within level family last (Script side symbol) after = put_script_within level family last side (SymbolPart symbol) after (4 + 4 * length after + last_atom_count last) (omega arith)
       follows_within level family last (Item item) after = put_item_within level family last (simple_element item) after (4 + 4 * length after + last_atom_count last) (omega (arith, simple_size item))

@@ -33,7 +33,7 @@ use Rattle.mt_formula.specs.Groups.{between_boundaries, brace_group}
 use Rattle.mt_formula.specs.Primes.{followed_by, primes, after_primes, braced_argument, argument_at, argument_after, prime_script_at, prime_script_of, prime_script}
 use Rattle.mt_formula.specs.Rows.{closing, row, RowsReader, next_row_at, next_row, rows_here_at, first_rows, later_rows, rows_from, rows}
 use Rattle.mt_formula.specs.declared.step.action.Action.{Action}
-use Rattle.mt_formula.specs.declared.step.action.Action.TheVariants.{Skip as SkipAction, Atom, Script, Item, Family, Limits, Prime as PrimeAction, Rows as RowsAction, Group, ScriptGroup, LeftRight, Choice, Stop}
+use Rattle.mt_formula.specs.declared.step.action.Action.TheVariants.{Nothing, Atom, Script, Item, Family, Limits, Prime as PrimeAction, Rows as RowsAction, Group, ScriptGroup, LeftRight, Choice, Stop}
 use Rattle.mt_formula.specs.Items.{put_atom, put_item, put_script, choice_with_none, choice_with_one, choice_with_two, choice_with_three, action_here, follows, turn}
 use Rattle.mt_formula.specs.Formulas.{item_run, FormulaParts, Reading, Reads, ReadFault, NotReadInTurns, reading_of, is_at_left, body_ending, with_tag, formula, reading}
 use Rattle.mt_formula.specs.Counts.{tag_items, IsModestTag, IsModestFormula}
@@ -299,7 +299,7 @@ module _ (tables : CodeTables) where
 
         -- what follows an action
         follows_fits : (level : ℕ) (family : Option ℕ) (last : Option AtomValue) (a : Action) (after : List Token) → LastAtomFits (nesting_left level + 1) last → Carries level a → RunFits level (follows tables units again level family last a after)
-        follows_fits level family last SkipAction after h c = fitting level family last after h
+        follows_fits level family last Nothing after h c = fitting level family last after h
         follows_fits level family last (Atom kind symbol) after h c = put_atom_fits level family last (plain_atom (nucleus_kind kind) (SymbolPart symbol)) after h (record { nesting = omega arith; amounts = (tt, tt, tt) })
         follows_fits level family last (Script side symbol) after h c = put_script_fits level family last side (SymbolPart symbol) after h (record { nesting = omega arith; amounts = tt })
         follows_fits level family last (Item item) after h c = put_item_fits level family last (simple_element item) after h (simple_fits (nesting_left level) item c)

@@ -28,7 +28,7 @@ use Rattle.mt_scan.specs.Delimiters.{scan_delimiter}
 use Rattle.mt_formula.specs.declared.step.action.FieldStart.{FieldStart}
 use Rattle.mt_formula.specs.declared.step.action.FieldStart.TheVariants.{Symbol as SymbolStart, Group as GroupStart}
 use Rattle.mt_formula.specs.declared.step.action.Action.{Action}
-use Rattle.mt_formula.specs.declared.step.action.Action.TheVariants.{Skip as SkipAction, Atom, Script, Item, Family, Limits, Prime, Rows as RowsAction, Group, ScriptGroup, LeftRight, Choice, Stop}
+use Rattle.mt_formula.specs.declared.step.action.Action.TheVariants.{Nothing, Atom, Script, Item, Family, Limits, Prime, Rows as RowsAction, Group, ScriptGroup, LeftRight, Choice, Stop}
 use Rattle.mt_formula.specs.declared.open.open_list.Ending.TheVariants.{AtBrace, AtRight}
 use Rattle.mt_formula.specs.Atoms.{AtomValue, InGroup, append, last_atom_items, plain_atom, is_free, is_op, with_limits, with_script, nucleus_atom, nucleus_of}
 use Rattle.mt_formula.specs.Lists.{ItemRunReader, ItemRun, items_before, list}
@@ -83,7 +83,7 @@ module _ (tables : CodeTables) where
 module _ (tables : CodeTables) (units : Units) where
   -- what a token does, and the tokens after what was read of it
   abbrev pub action : ℕ → Option ℕ → Option AtomValue → Token → List Token → Role → Read Action
-  action level family last t rest Blank = Got SkipAction rest
+  action level family last t rest Blank = Got Nothing rest
   action level family last t rest (MathCode code) = Got (coded_action family code) rest
   action level family last t rest CharWord =
       then_read (math_code rest) (λ (code : ℕ) (after : List Token). Got (coded_action family code) after)
@@ -150,7 +150,7 @@ module _ (tables : CodeTables) (units : Units) where
 
     -- what is read after an action, and what it puts to the list
     abbrev pub follows : ℕ → Option ℕ → Option AtomValue → Action → List Token → Read ItemRun
-    follows level family last SkipAction rest = again level family last rest
+    follows level family last Nothing rest = again level family last rest
     follows level family last (Atom kind symbol) rest = put_atom level family last (plain_atom (nucleus_kind kind) (SymbolPart symbol)) rest
     follows level family last (Script side symbol) rest = put_script level family last side (SymbolPart symbol) rest
     follows level family last (Item item) rest = put_item level family last (simple_element item) rest

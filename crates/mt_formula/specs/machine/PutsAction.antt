@@ -5,7 +5,7 @@ use Rattle.mt_scaled.specs.declared.unit.Units.{Units}
 use Rattle.mt_rules.specs.Sequence.{Sequence}
 use Rattle.mt_plain.specs.CodeTables.{CodeTables}
 use Rattle.mt_formula.specs.declared.step.action.Action.{Action}
-use Rattle.mt_formula.specs.declared.step.action.Action.TheVariants.{Skip, Atom, Script, Item, Family, Limits}
+use Rattle.mt_formula.specs.declared.step.action.Action.TheVariants.{Nothing, Atom, Script, Item, Family, Limits}
 use Rattle.mt_formula.specs.declared.open.open_list.OpenList.{OpenList}
 use Rattle.mt_formula.specs.Atoms.{AtomValue}
 use Rattle.mt_formula.specs.Lists.{ItemRunReader, items_before}
@@ -13,7 +13,7 @@ use Rattle.mt_formula.specs.machine.OpenLists.{last_atom_of, Becomes}
 use Rattle.mt_formula.specs.Items.{follows}
 
 abbrev pub is_plain_action : Action → Bool
-is_plain_action Skip = true
+is_plain_action Nothing = true
 is_plain_action (Atom kind symbol) = true
 is_plain_action (Script side symbol) = true
 is_plain_action (Item item) = true

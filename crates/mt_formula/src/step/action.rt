@@ -26,7 +26,7 @@ pub enum FieldStart {
 #[derive(Clone, Copy, Debug, PartialEq, Eq)]
 pub enum Action {
     /// Nothing.
-    Skip,
+    Nothing,
     /// It is an atom of this kind, with a symbol as nucleus.
     Atom(FieldKind, Symbol),
     /// It is a symbol as a script.

@@ -32,7 +32,7 @@ pub fn put_action(alloc: Global, list: &mut OpenList, action: Action) -> Result<
     ensures { OnOk result (PutsAction action list.old list.new) }
 {
     match action {
-        Action::Skip => Ok(()),
+        Action::Nothing => Ok(()),
         Action::Atom(kind, symbol) => {
             let atom = plain_last_atom(alloc, kind, Field::Sym(symbol))?;
             put_last_atom(list, atom)
@@ -105,7 +105,7 @@ pub fn perform<'a>(
         Action::Group(_) | Action::ScriptGroup(_) | Action::LeftRight(_) | Action::Choice => {
             open_list(alloc, frames, list, action, tokens)
         }
-        Action::Skip
+        Action::Nothing
         | Action::Atom(_, _)
         | Action::Script(_, _)
         | Action::Item(_)

@@ -106,7 +106,7 @@ fn role_action<'a>(
     let family = list.family;
     let read = match role {
         Role::Blank => Ok(Scanned {
-            value: Action::Skip,
+            value: Action::Nothing,
             rest: after,
         }),
         Role::MathCode(code) => Ok(Scanned {
