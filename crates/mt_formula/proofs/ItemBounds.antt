@@ -26,7 +26,7 @@ use Rattle.mt_formula.specs.declared.open.open_list.Ending.TheVariants.{AtEnd, A
 use Rattle.mt_formula.specs.Lists.{ItemRunReader, list}
 use Rattle.mt_formula.specs.Groups.{between_boundaries, brace_group}
 use Rattle.mt_formula.specs.Primes.{followed_by, primes, after_primes, braced_argument, argument_at, argument_after, prime_script_at, prime_script_of, prime_script}
-use Rattle.mt_formula.specs.Rows.{closing, row, RowsReader, next_row_at, next_row, rows_here_at, first_rows, later_rows, rows_from, rows}
+use Rattle.mt_formula.specs.Rows.{brace_closes, row, RowsReader, next_row_at, next_row, rows_here_at, first_rows, later_rows, rows_from, rows}
 use Rattle.mt_formula.specs.declared.step.action.Action.{Action}
 use Rattle.mt_formula.specs.declared.step.action.Action.TheVariants.{Nothing, Atom, Script, Item, Family, Limits, Prime as PrimeAction, Rows as RowsAction, Group, ScriptGroup, LeftRight, Choice, Stop}
 use Rattle.mt_formula.specs.Items.{put_atom, put_item, put_script, choice_with_none, choice_with_one, choice_with_two, choice_with_three, action_here, follows, turn}
@@ -111,24 +111,24 @@ module _ (tables : CodeTables) where
       prime_script_within level family ts = within_more list_items ((primes tables 0 ts).count + 1 + 4 * length (primes tables 0 ts).rest) (1 + 4 * length ts) (prime_script tables units again level family ts) (omega (arith, primes_within 0 ts)) (prime_script_of_within (primes tables 0 ts).count level family (primes tables 0 ts).rest)
 
       -- rows
-      pub closing_short : (ts : List Token) → Shortens ts (closing tables units again ts)
-      closing_short [] = tt
-      closing_short (t ∷ rest) = within_if none (4 * length (t ∷ rest)) (is_close_brace (role_of tables t)) (Got tt rest) (Fault MissingField (length rest + 1)) (omega arith) tt
+      pub brace_closes_short : (ts : List Token) → Shortens ts (brace_closes tables ts)
+      brace_closes_short [] = tt
+      brace_closes_short (t ∷ rest) = within_if none (4 * length (t ∷ rest)) (is_close_brace (role_of tables t)) (Got tt rest) (Fault MissingField (length rest + 1)) (omega arith) tt
 
       pub row_within : (level : ℕ) (ts : List Token) → Within with_four (4 * length ts) (row tables units again level ts)
       row_within level ts =
           within_next (λ (brace : ⊤). 4) with_four (4 * length ts) (4 * length ts) (opening tables is_open_brace level ts)
-          (λ (brace : ⊤) (after : List Token). then_read (opening tables is_math_shift (level + 1) after) (λ (dollar : ⊤) (inside : List Token). then_read (list tables units again AtDollar (level + 2) None inside) (λ (inner : Sequence) (end : List Token). then_read (closing tables units again (drop 1 end)) (λ (closed : ⊤) (rest : List Token). Got inner rest))))
+          (λ (brace : ⊤) (after : List Token). then_read (opening tables is_math_shift (level + 1) after) (λ (dollar : ⊤) (inside : List Token). then_read (list tables units again AtDollar (level + 2) None inside) (λ (inner : Sequence) (end : List Token). then_read (brace_closes tables (drop 1 end)) (λ (closed : ⊤) (rest : List Token). Got inner rest))))
           (opening_takes tables is_open_brace level ts)
           (λ brace after w. within_next (λ (dollar : ⊤). 4) with_four (4 * length after) (4 * length ts) (opening tables is_math_shift (level + 1) after)
-          (λ (dollar : ⊤) (inside : List Token). then_read (list tables units again AtDollar (level + 2) None inside) (λ (inner : Sequence) (end : List Token). then_read (closing tables units again (drop 1 end)) (λ (closed : ⊤) (rest : List Token). Got inner rest)))
+          (λ (dollar : ⊤) (inside : List Token). then_read (list tables units again AtDollar (level + 2) None inside) (λ (inner : Sequence) (end : List Token). then_read (brace_closes tables (drop 1 end)) (λ (closed : ⊤) (rest : List Token). Got inner rest)))
           (opening_takes tables is_math_shift (level + 1) after)
           (λ dollar inside v. within_next list_items with_four (4 * length inside) (4 * length ts) (list tables units again AtDollar (level + 2) None inside)
-          (λ (inner : Sequence) (end : List Token). then_read (closing tables units again (drop 1 end)) (λ (closed : ⊤) (rest : List Token). Got inner rest))
+          (λ (inner : Sequence) (end : List Token). then_read (brace_closes tables (drop 1 end)) (λ (closed : ⊤) (rest : List Token). Got inner rest))
           (list_within tables units again bounded AtDollar (level + 2) None inside)
-          (λ inner end u. within_next none with_four (4 * length (drop 1 end)) (4 * length ts) (closing tables units again (drop 1 end))
+          (λ inner end u. within_next none with_four (4 * length (drop 1 end)) (4 * length ts) (brace_closes tables (drop 1 end))
           (λ (closed : ⊤) (rest : List Token). Got inner rest)
-          (closing_short (drop 1 end))
+          (brace_closes_short (drop 1 end))
           (λ closed rest x. omega (arith, x, u, v, w, drop_short end)))))
 
       abbrev pub IsBoundedRows : RowsReader tables units again → Type 0

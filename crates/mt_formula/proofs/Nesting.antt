@@ -31,7 +31,7 @@ use Rattle.mt_formula.specs.declared.open.open_list.FractionHead.{FractionHead}
 use Rattle.mt_formula.specs.Lists.{ends_with_tokens, ends_at, misplaced_cause, fraction_list, ItemRun, items_before, ItemRunReader, fraction_head, list_end, denominator, after_item_run_at, after_item_run, list_after, list}
 use Rattle.mt_formula.specs.Groups.{between_boundaries, brace_group}
 use Rattle.mt_formula.specs.Primes.{followed_by, primes, after_primes, braced_argument, argument_at, argument_after, prime_script_at, prime_script_of, prime_script}
-use Rattle.mt_formula.specs.Rows.{closing, row, RowsReader, next_row_at, next_row, rows_here_at, first_rows, later_rows, rows_from, rows}
+use Rattle.mt_formula.specs.Rows.{brace_closes, row, RowsReader, next_row_at, next_row, rows_here_at, first_rows, later_rows, rows_from, rows}
 use Rattle.mt_formula.specs.declared.step.action.Action.{Action}
 use Rattle.mt_formula.specs.declared.step.action.Action.TheVariants.{Nothing, Atom, Script, Item, Family, Limits, Prime as PrimeAction, Rows as RowsAction, Group, ScriptGroup, LeftRight, Choice, Stop}
 use Rattle.mt_formula.specs.Items.{put_atom, put_item, put_script, choice_with_none, choice_with_one, choice_with_two, choice_with_three, action_here, follows, turn}
@@ -225,14 +225,14 @@ module _ (tables : CodeTables) where
         row_fits : (level : ℕ) (ts : List Token) → Holds (Fits (nesting_left level)) (row tables units again level ts)
         row_fits level ts =
             holds_next (λ (here : ⊤). level < max_groups) (Fits (nesting_left level)) (opening tables is_open_brace level ts)
-            (λ (brace : ⊤) (after : List Token). then_read (opening tables is_math_shift (level + 1) after) (λ (dollar : ⊤) (inside : List Token). then_read (list tables units again AtDollar (level + 2) None inside) (λ (inner : Sequence) (end : List Token). then_read (closing tables units again (drop 1 end)) (λ (closed : ⊤) (rest : List Token). Got inner rest))))
+            (λ (brace : ⊤) (after : List Token). then_read (opening tables is_math_shift (level + 1) after) (λ (dollar : ⊤) (inside : List Token). then_read (list tables units again AtDollar (level + 2) None inside) (λ (inner : Sequence) (end : List Token). then_read (brace_closes tables (drop 1 end)) (λ (closed : ⊤) (rest : List Token). Got inner rest))))
             (opening_level tables is_open_brace level ts)
             (λ brace after h. holds_after (Fits (nesting_left level)) (opening tables is_math_shift (level + 1) after)
-            (λ (dollar : ⊤) (inside : List Token). then_read (list tables units again AtDollar (level + 2) None inside) (λ (inner : Sequence) (end : List Token). then_read (closing tables units again (drop 1 end)) (λ (closed : ⊤) (rest : List Token). Got inner rest)))
+            (λ (dollar : ⊤) (inside : List Token). then_read (list tables units again AtDollar (level + 2) None inside) (λ (inner : Sequence) (end : List Token). then_read (brace_closes tables (drop 1 end)) (λ (closed : ⊤) (rest : List Token). Got inner rest)))
             (λ dollar inside. holds_next (Fits (nesting_left (level + 2) + 1 + 1)) (Fits (nesting_left level)) (list tables units again AtDollar (level + 2) None inside)
-            (λ (inner : Sequence) (end : List Token). then_read (closing tables units again (drop 1 end)) (λ (closed : ⊤) (rest : List Token). Got inner rest))
+            (λ (inner : Sequence) (end : List Token). then_read (brace_closes tables (drop 1 end)) (λ (closed : ⊤) (rest : List Token). Got inner rest))
             (list_fits AtDollar (level + 2) None inside)
-            (λ inner end f. holds_after (Fits (nesting_left level)) (closing tables units again (drop 1 end)) (λ (closed : ⊤) (rest : List Token). Got inner rest)
+            (λ inner end f. holds_after (Fits (nesting_left level)) (brace_closes tables (drop 1 end)) (λ (closed : ⊤) (rest : List Token). Got inner rest)
             (λ closed rest. fits_more (nesting_left (level + 2) + 1 + 1) (nesting_left level) inner (omega (arith, nesting_left_of_row level h)) f))))
 
         abbrev RowsReaderFits : ℕ → RowsReader tables units again → Type 0

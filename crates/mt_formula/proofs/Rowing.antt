@@ -20,14 +20,14 @@ use Rattle.mt_scan.specs.Role.{role_of, is_open_brace}
 use Rattle.mt_scan.specs.Parts.{Read, Got, Fault, then_read, opening, after_spaces}
 use Rattle.mt_formula.specs.Atoms.{plain_atom}
 use Rattle.mt_formula.specs.Lists.{ItemRunReader, ItemRun, list}
-use Rattle.mt_formula.specs.Rows.{closing, row, next_row, next_row_at, rows_here_at, first_rows, later_rows, rows_from}
+use Rattle.mt_formula.specs.Rows.{brace_closes, row, next_row, next_row_at, rows_here_at, first_rows, later_rows, rows_from}
 use Rattle.mt_formula.specs.Items.{put_atom, follows}
 use Rattle.mt_formula.specs.machine.OpenLists.{last_atom_of, Begins}
 use Rattle.mt_formula.specs.machine.Frames.{append_rows, rows_then, shifted}
 use Rattle.mt_formula.specs.machine.Resumes.{ResumesRows}
 use Rattle.mt_formula.specs.machine.Stands.{Stands, tokens_after_all}
 use Rattle.mt_formula.specs.machine.Turned.{Performing, Resuming}
-use Rattle.mt_formula.specs.machine.Continues.{rows_at, next_row_begins_at, next_row_begins, row_begins_at, first_row_begins, later_row_begins, brace_closes, row_ends, row_opens, Continuing, put_rows, more_rows, NextRows}
+use Rattle.mt_formula.specs.machine.Continues.{rows_at, next_row_begins_at, next_row_begins, row_begins_at, first_row_begins, later_row_begins, row_ends, row_opens, Continuing, put_rows, more_rows, NextRows}
 use Rattle.mt_formula.proofs.Standing.{then_same, then_then, not_shifted}
 use Rattle.mt_formula.proofs.Continuing.{performing_continues, resuming_continues, continuing_same, continued_put, continued_fault, continued_open}
 
@@ -67,14 +67,10 @@ module _ (tables : CodeTables) (units : Units) (again : ItemRunReader) where
     later_is [] = refl
     later_is (t ∷ rest) = here_at rest (next_row tables units again more (after_spaces (t ∷ rest))) (next_row_begins tables (after_spaces (t ∷ rest))) (next_is (after_spaces (t ∷ rest))) (role_of tables t)
 
-  closing_is : (ts : List Token) → closing tables units again ts ≡ brace_closes tables ts
-  closing_is [] = refl
-  closing_is (t ∷ rest) = refl
-
   module _ (l : OpenList) where
     -- what follows the list of a row
     abbrev row_list_ends : Sequence → List Token → Read Sequence
-    row_list_ends inner end = then_read (closing tables units again (drop 1 end)) (λ (closed : ⊤) (rest : List Token). Got inner rest)
+    row_list_ends inner end = then_read (brace_closes tables (drop 1 end)) (λ (closed : ⊤) (rest : List Token). Got inner rest)
 
     abbrev row_list : List Token → Read Sequence
     row_list inside = then_read (list tables units again AtDollar (l.level + 1 + 2) None inside) row_list_ends
@@ -94,13 +90,13 @@ module _ (tables : CodeTables) (units : Units) (again : ItemRunReader) where
         then_then (later_rows tables units again (rows_from tables units again k (l.level + 1)) after) _ (put_rows tables units l done again)
         ∙ then_same (later_rows tables units again (rows_from tables units again k (l.level + 1)) after) _ _ (put_same done inner)
 
-    after_row_list : (k : ℕ) (done : List Sequence) (inner : Sequence) (end : List Token) → then_read (row_list_ends inner end) (λ (inner : Sequence) (after : List Token). then_read (rows_after k inner after) (put_rows tables units l (rows_of done) again)) ≡ then_read (closing tables units again (drop 1 end)) (λ (closed : ⊤) (rest : List Token). rows_then tables units again l.level l.family (last_atom_of l.last) k (append_rows (rows_of done) (MoreRows inner NoRows)) rest)
+    after_row_list : (k : ℕ) (done : List Sequence) (inner : Sequence) (end : List Token) → then_read (row_list_ends inner end) (λ (inner : Sequence) (after : List Token). then_read (rows_after k inner after) (put_rows tables units l (rows_of done) again)) ≡ then_read (brace_closes tables (drop 1 end)) (λ (closed : ⊤) (rest : List Token). rows_then tables units again l.level l.family (last_atom_of l.last) k (append_rows (rows_of done) (MoreRows inner NoRows)) rest)
     after_row_list k done inner end =
-        then_then (closing tables units again (drop 1 end)) _ _
-        ∙ then_same (closing tables units again (drop 1 end)) _ _ (λ closed rest. after_row k (rows_of done) inner rest)
+        then_then (brace_closes tables (drop 1 end)) _ _
+        ∙ then_same (brace_closes tables (drop 1 end)) _ _ (λ closed rest. after_row k (rows_of done) inner rest)
 
     abbrev row_then : ℕ → List Sequence → Sequence → List Token → Read ItemRun
-    row_then k done inner end = then_read (closing tables units again (drop 1 end)) (λ (closed : ⊤) (rest : List Token). rows_then tables units again l.level l.family (last_atom_of l.last) k (append_rows (rows_of done) (MoreRows inner NoRows)) rest)
+    row_then k done inner end = then_read (brace_closes tables (drop 1 end)) (λ (closed : ⊤) (rest : List Token). rows_then tables units again l.level l.family (last_atom_of l.last) k (append_rows (rows_of done) (MoreRows inner NoRows)) rest)
 
     row_list_then : (k : ℕ) (done : List Sequence) (inside : List Token) → then_read (then_read (row_list inside) (rows_after k)) (put_rows tables units l (rows_of done) again) ≡ then_read (shifted 0 (list tables units again AtDollar (l.level + 1 + 2) None inside)) (row_then k done)
     row_list_then k done inside =
@@ -140,9 +136,8 @@ module _ (tables : CodeTables) (units : Units) (again : ItemRunReader) where
 
     pub row_closed : (k : ℕ) (done : List Sequence) (inner : Sequence) (end : List Token) → row_then k done inner end ≡ then_read (row_ends tables (drop 1 end)) (λ (begins : Bool) (after : List Token). more_rows tables units l k (append_rows (rows_of done) (MoreRows inner NoRows)) begins after again)
     row_closed k done inner end =
-        then_same (closing tables units again (drop 1 end)) _ _ (rows_go_on k (append_rows (rows_of done) (MoreRows inner NoRows)))
-        ∙ (ap (λ (r : Read ⊤). then_read r (λ (closed : ⊤) (rest : List Token). then_read (later_row_begins tables rest) (λ (begins : Bool) (after : List Token). more_rows tables units l k (append_rows (rows_of done) (MoreRows inner NoRows)) begins after again))) (closing_is (drop 1 end))
-        ∙ sym (then_then (brace_closes tables (drop 1 end)) _ (λ (begins : Bool) (after : List Token). more_rows tables units l k (append_rows (rows_of done) (MoreRows inner NoRows)) begins after again)))
+        then_same (brace_closes tables (drop 1 end)) _ _ (rows_go_on k (append_rows (rows_of done) (MoreRows inner NoRows)))
+        ∙ sym (then_then (brace_closes tables (drop 1 end)) _ (λ (begins : Bool) (after : List Token). more_rows tables units l k (append_rows (rows_of done) (MoreRows inner NoRows)) begins after again))
 
 module _ (tables : CodeTables) (units : Units) (whole : Read Sequence) (outer : List Frame) (l : OpenList) where
   -- another row begins, by so many

@@ -1,5 +1,5 @@
 -- Lists that go on after what was read of one of their items (`Continuing`).
-use Rattle.std.specs.Prelude.{ℕ, ◌+◌, ◌<◌, Bool, true, false, List, [], ◌∷◌, length, Result, ⊤, if◌then◌else◌}
+use Rattle.std.specs.Prelude.{ℕ, ◌+◌, ◌<◌, Bool, true, false, List, [], ◌∷◌, length, Result, ⊤}
 use Rattle.std.specs.Borrow.{Bor}
 use Rattle.mt_token.specs.declared.token.Token.{Token}
 use Rattle.mt_scaled.specs.declared.unit.Units.{Units}
@@ -13,12 +13,12 @@ use Rattle.mt_scan.specs.declared.fault.ReadCause.TheVariants.{MissingField}
 use Rattle.mt_scan.specs.declared.role.Role.{Role}
 use Rattle.mt_scan.specs.declared.role.Role.TheVariants.{CloseBrace, HboxWord}
 use Rattle.mt_formula.specs.declared.open.open_list.Stop.{Stop}
-use Rattle.mt_scan.specs.Role.{role_of, is_open_brace, is_math_shift, is_close_brace}
+use Rattle.mt_scan.specs.Role.{role_of, is_open_brace, is_math_shift}
 use Rattle.mt_scan.specs.Parts.{Read, Got, Fault, then_read, opening, after_spaces}
 use Rattle.mt_formula.specs.Atoms.{plain_atom}
 use Rattle.mt_formula.specs.Lists.{ItemRunReader, ItemRun}
 use Rattle.mt_formula.specs.Groups.{brace_group}
-use Rattle.mt_formula.specs.Rows.{rows_from}
+use Rattle.mt_formula.specs.Rows.{brace_closes, rows_from}
 use Rattle.mt_formula.specs.Items.{put_atom}
 use Rattle.mt_formula.specs.Formulas.{item_run}
 use Rattle.mt_formula.specs.machine.OpenLists.{last_atom_of}
@@ -57,14 +57,9 @@ module _ (tables : CodeTables) where
   later_row_begins [] = Fault MissingField 0
   later_row_begins (t ∷ rest) = row_begins_at rest (next_row_begins (after_spaces (t ∷ rest))) (role_of tables t)
 
-  -- a } that must stand here
-  abbrev pub brace_closes : List Token → Read ⊤
-  brace_closes [] = Fault MissingField 0
-  brace_closes (t ∷ rest) = if is_close_brace (role_of tables t) then Got tt rest else Fault MissingField (length rest + 1)
-
   -- } after a row, and whether another row begins
   abbrev pub row_ends : List Token → Read Bool
-  row_ends tokens = then_read (brace_closes tokens) (λ (closed : ⊤) (rest : List Token). later_row_begins rest)
+  row_ends tokens = then_read (brace_closes tables tokens) (λ (closed : ⊤) (rest : List Token). later_row_begins rest)
 
   -- {$ that must stand here
   abbrev pub row_opens : ℕ → List Token → Read ⊤

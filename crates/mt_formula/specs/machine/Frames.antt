@@ -20,7 +20,7 @@ use Rattle.mt_scan.specs.Delimiters.{scan_delimiter}
 use Rattle.mt_formula.specs.Atoms.{AtomValue, InGroup, nucleus_of, nucleus_atom, plain_atom}
 use Rattle.mt_formula.specs.Lists.{ItemRunReader, ItemRun}
 use Rattle.mt_formula.specs.Groups.{between_boundaries}
-use Rattle.mt_formula.specs.Rows.{closing, later_rows, rows_from}
+use Rattle.mt_formula.specs.Rows.{brace_closes, later_rows, rows_from}
 use Rattle.mt_formula.specs.Items.{put_atom, put_script, choice_with_none, choice_with_one, choice_with_two, choice_with_three}
 use Rattle.mt_formula.specs.machine.OpenLists.{inner_sequence}
 
@@ -52,7 +52,7 @@ module _ (tables : CodeTables) (units : Units) (again : ItemRunReader) (level : 
       (λ (right : Delim) (rest : List Token). put_atom tables units again level family last (plain_atom (Plain Inner) (ListPart (between_boundaries left inner right))) rest)
   owned k (Choice lists) inner end = choice_with lists inner (drop 1 end)
   owned k (Row done) inner end =
-      then_read (closing tables units again (drop 1 end)) (λ (closed : ⊤) (rest : List Token). rows_then k (append_rows (rows_of done.items) (MoreRows inner NoRows)) rest)
+      then_read (brace_closes tables (drop 1 end)) (λ (closed : ⊤) (rest : List Token). rows_then k (append_rows (rows_of done.items) (MoreRows inner NoRows)) rest)
   owned k (Argument after count) inner end = put_script tables units again level family last Up (ListPart inner) after.now
   owned k OpenArgument inner end = Fault Unbalanced 0
 
