@@ -1,8 +1,10 @@
 //! Expansion: macros are replaced, one step after another, until none is left.
-ghost use Rattle.std.specs.Prelude.{◌≡◌, ◌<◌, ◌≤◌, ◌↔◌, ◌+◌, ◌∷◌, [], ◌++◌, IfOk, OnOk, IsTrue, length, Err, None};
+ghost use Rattle.std.specs.Prelude.{◌≡◌, ◌<◌, ◌≤◌, ◌↔◌, ◌+◌, ◌^◌, ◌∷◌, [], ◌++◌};
+ghost use Rattle.std.specs.Prelude.{IfOk, OnOk, IsTrue, length, Err, None};
 ghost use Rattle.std.specs.List.{list_any};
 ghost use Rattle.mt_macro.specs.Limits.{max_steps, max_tokens};
 ghost use Rattle.mt_macro.specs.Braces.{first_unmatched};
+ghost use Rattle.mt_macro.specs.inner.Ends.{AreEnds};
 ghost use Rattle.mt_macro.specs.inner.Kept.{HasShortBody};
 ghost use Rattle.mt_macro.specs.inner.Taking.{lent_tokens};
 ghost use Rattle.mt_macro.specs.Arguments.{arguments};
@@ -202,6 +204,18 @@ fn keep_all<'a>(
     Ok(())
 }
 
+// The ends of the groups of a list, by which arguments are taken; none where no macro takes any.
+fn known_ends(alloc: Global, macros: &Macros, list: &[Token]) -> Result<Vec<u32>, AllocError>
+    requires { length list.now < 2 ^ 31 }
+    ensures { IfOk result (λ ends. AreEnds list.now ends.items) }
+{
+    if macros.has_parameters() {
+        ends_of(alloc, list)
+    } else {
+        Ok(Vec::new(alloc))
+    }
+}
+
 // The tokens that the steps leave.
 fn run_steps<'a>(
     alloc: Global,
@@ -211,7 +225,7 @@ fn run_steps<'a>(
     requires { length list.now ≤ max_tokens }
     ensures { Expands result (run macros.now max_steps 0 list.now) }
 {
-    let ends = ends_of(alloc, list)?;
+    let ends = known_ends(alloc, macros, list)?;
     let mut passed = Vec::with_capacity(alloc, list.len())?;
     let mut rest = Inputs::of(alloc, Piece::new(list, ends.as_slice()));
     let mut spare = SpareLists::none(alloc);

@@ -34,6 +34,7 @@ pub struct Macros {
     by_name: BTreeMap<Vec<u8>, Macro>,
     own_names: usize,
     marks: NameMarks,
+    has_parameters: bool,
 }
 
 impl Model for Macros {
@@ -59,6 +60,7 @@ impl Macros {
             by_name: BTreeMap::new(alloc),
             own_names: 0,
             marks: NameMarks::none(),
+            has_parameters: false,
         }
     }
 
@@ -108,6 +110,11 @@ impl Macros {
         self.own_names
     }
 
+    /// Whether a macro with parameters was ever put in. Only the time of expansions depends on it.
+    pub(crate) fn has_parameters(&self) -> bool {
+        self.has_parameters
+    }
+
     /// Puts a macro under a name, in place of an older one. The name is the user's own where this
     /// makes it so, or where it was so before.
     pub(crate) fn put(
@@ -138,6 +145,7 @@ impl Macros {
         self.by_name.insert(key, entry)?;
         self.own_names = own_names_after(self.own_names, makes_own, was_own);
         self.marks.add(name.as_slice());
+        self.has_parameters = either(self.has_parameters, params > 0);
         Ok(())
     }
 }
