@@ -14,5 +14,5 @@ mod write;
 
 pub use error::DviWriteError;
 pub use file::{DviBytes, DviFile};
-pub use moves::{MoveForm, move_code};
+pub use moves::{MAX_COORDINATE, MoveForm, move_code};
 pub use write::{MAX_PLACES, write_dvi};

@@ -1,7 +1,11 @@
 //! How an amount is moved by in the fewest bytes.
 ghost use Rattle.std.specs.Prelude.{◌≡◌, ◌≤◌, nat_abs};
+ghost use Rattle.mt_dvi.specs.Limits.{max_coordinate};
 ghost use Rattle.mt_dvi.specs.Moves.{least_size, move_form};
 ghost use Rattle.mt_dvi.specs.writer.HeldAmounts.{with_next};
+
+/// The greatest size of a coordinate or a move, 2^31 - 1 sp.
+pub const MAX_COORDINATE: i64 = 2_147_483_647;
 
 /// How an amount is moved by, where two registers hold amounts.
 #[derive(Clone, Copy, Debug, PartialEq, Eq)]
@@ -18,7 +22,7 @@ pub enum MoveForm {
 
 // The least number of bytes that hold an amount as a signed number.
 fn least_size(amount: i64) -> u8
-    requires { nat_abs amount ≤ 2147483647 }
+    requires { nat_abs amount ≤ max_coordinate }
     ensures { result ≡ least_size amount }
 {
     if -128 <= amount && amount < 128 {
@@ -38,7 +42,7 @@ fn least_size(amount: i64) -> u8
 ///
 /// The amount is at most 2^31 - 1 in size.
 pub fn move_code(amount: i64, first: i64, second: i64) -> MoveForm
-    requires { nat_abs amount ≤ 2147483647 }
+    requires { nat_abs amount ≤ max_coordinate }
     ensures { result ≡ move_form amount first second }
 {
     if amount == 0 {

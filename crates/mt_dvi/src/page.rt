@@ -18,7 +18,7 @@ use crate::edges::{GreatestEdges, edges_of};
 use crate::emit;
 use crate::emit::Register;
 use crate::fonts::define;
-use crate::moves::{HeldAmounts, MoveForm, move_code};
+use crate::moves::{HeldAmounts, MAX_COORDINATE, MoveForm, move_code};
 use mt_box::Place;
 use mt_family::FontSet;
 use std::alloc::AllocError;
@@ -195,7 +195,7 @@ fn is_far(amount: i64) -> bool
     requires { nat_abs amount < 4294967296 }
     ensures { result ≡ is_far amount }
 {
-    amount > 2147483647 || amount < -2147483647
+    amount > MAX_COORDINATE || amount < -MAX_COORDINATE
 }
 
 // Goes over the place where the cursor is, which has this right edge, as the machine does.

@@ -3,6 +3,8 @@ ghost use Rattle.std.specs.Prelude.{◌≡◌, ◌<◌, ◌+ℤ◌, pos, nat_abs
 ghost use Rattle.std.specs.Option.{option_map};
 ghost use Rattle.mt_dvi.specs.Machine.{is_far};
 
+use mt_dvi::MAX_COORDINATE;
+
 /// A coordinate on a page in scaled points, at most 2^31 - 1 in size.
 #[derive(Clone, Copy, Debug, PartialEq, Eq)]
 pub struct Coordinate {
@@ -28,7 +30,7 @@ impl Coordinate {
         ensures { option_map (λ (c : Coordinate). c.sp) result ≡ in_reach (self.sp +ℤ by) }
     {
         let sum = i64::from(self.sp) + by;
-        if sum > 2_147_483_647 || sum < -2_147_483_647 {
+        if sum > MAX_COORDINATE || sum < -MAX_COORDINATE {
             None
         } else {
             Some(Coordinate { sp: sum as i32 })
