@@ -139,7 +139,11 @@ fn role_action<'a>(
         | Role::FractionWord(_, _)
         | Role::NumberWord(_) => return Ok(None),
     };
-    Ok(Some(read?))
+    // Not by `?`, which would move each action once more.
+    match read {
+        Ok(action) => Ok(Some(action)),
+        Err(fault) => Err(fault),
+    }
 }
 
 /// The role of the token in front, if there is one.
