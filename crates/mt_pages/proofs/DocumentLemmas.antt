@@ -1,19 +1,18 @@
 -- The pages of a document, one after another.
-use Rattle.std.proofs.Common.{◌≡◌, ◌+◌, ◌-◌, ◌≤◌, ◌^◌, List, [], ◌∷◌, ◌++◌, length, refl, sym, ◌∙◌, ap, subst, arith}
+use Rattle.std.proofs.Common.{◌≡◌, ◌-◌, List, [], ◌∷◌, ◌++◌, length, refl, ◌∙◌, ap}
 use Rattle.std.specs.Prelude.{ℤ, Result, Ok, Err}
-use Rattle.std.proofs.lemmas.List.Sums.{sum_by-append, sum_by-cons}
 use Rattle.mt_scaled.specs.Results.{◌>>=◌}
 use Rattle.mt_family.specs.SetValue.{SetValue}
 use Rattle.mt_box.specs.declared.place.Place.{Place}
 use Rattle.mt_rules.specs.declared.document.Formula.{Formula}
 use Rattle.mt_display.specs.Lines.{LineValue}
-use Rattle.mt_reader.specs.documents.Weights.{page_weight, pages_weight}
 use Rattle.mt_pages.specs.FormulaLines.{formula_lines}
 use Rattle.mt_pages.specs.Pages.{PageLinesValue, with_formula_lines, no_lines, page_lines, document_lines, document_pages, page_places, pages_places}
 use Rattle.mt_pages.specs.inner.Placed.{PlacedValue, add_page, nothing_placed, place_rest}
-use Rattle.mt_status.specs.Origins.{IsPure, refusal_origin}
+use Rattle.mt_pages.specs.inner.SetPages.{rest_pages}
+use Rattle.mt_status.specs.Origins.{IsPure}
 use Rattle.mt_status.specs.declared.status.Status.{Status}
-use Rattle.mt_status.proofs.PureLemmas.{pure_err, pure_by}
+use Rattle.mt_status.proofs.PureLemmas.{pure_err}
 
 -- ---- the formulas of a page
 
@@ -27,10 +26,6 @@ pub page_err : (set : SetValue) (width : ℤ) (page : PageLinesValue) (f : Formu
 page_err set width page f fs status is = pure_err (formula_lines set width f) (λ ls. page_lines set width (with_formula_lines page f.number ls) fs) status is
 
 -- ---- the pages of a document
-
--- the pages of a document that are left, after those that are placed
-abbrev pub rest_pages : SetValue → ℤ → Result PlacedValue Status → List (List Formula) → Result (List (List Place)) Status
-rest_pages set width placed pages = document_lines set width pages >>= place_rest placed
 
 pub pages_start : (set : SetValue) (width : ℤ) (document : List (List Formula)) → document_pages set width document ≡ rest_pages set width nothing_placed document
 unfolding document_pages
@@ -61,15 +56,6 @@ pages_next set width placed page pages lines is =
 
 -- a formula of the next page is refused
 pub pages_err : (set : SetValue) (width : ℤ) (placed : Result PlacedValue Status) (page : List Formula) (pages : List (List Formula)) (status : Status)
-    → IsPure (page_lines set width no_lines page) (Err status) → IsPure (rest_pages set width placed (page ∷ pages)) (Err status)
+    → page_lines set width no_lines page ≡ Err status → rest_pages set width placed (page ∷ pages) ≡ Err status
 pages_err set width placed page pages status is =
-    pure_by (refusal_origin status) _ _
-    (λ same. ap (λ (r : Result PageLinesValue Status). (r >>= (λ ls. document_lines set width pages >>= (λ rest. Ok (ls ∷ rest)))) >>= place_rest placed) same) is
-
--- a page of a document whose formulas are few has few formulas
-pub page_fits : (before : List (List Formula)) (page : List Formula) (later rest all : List (List Formula)) → rest ≡ page ∷ later → before ++ rest ≡ all → pages_weight all ≤ 2 ^ 21
-    → page_weight page ≤ 2 ^ 21
-page_fits before page later rest all steps left few =
-    let whole : before ++ page ∷ later ≡ all = ap (λ (l : List (List Formula)). before ++ l) (sym steps) ∙ left in
-    let weight : pages_weight (before ++ page ∷ later) ≤ 2 ^ 21 = subst (λ (l : List (List Formula)). pages_weight l ≤ 2 ^ 21) (sym whole) few in
-    omega (arith, weight, sum_by-append page_weight before (page ∷ later), sum_by-cons page_weight page later)
+    ap (λ (r : Result PageLinesValue Status). (r >>= (λ ls. document_lines set width pages >>= (λ rest. Ok (ls ∷ rest)))) >>= place_rest placed) is

@@ -1,6 +1,6 @@
 -- Reading a source is never refused for want of memory (`document_avoids`).
 use Rattle.std.proofs.Common.{◌≡◌, ◌+◌, ◌-◌, ℕ, zero, suc, length, map, Bool, true, false, List, [], ◌∷◌, refl, cond}
-use Rattle.std.specs.Prelude.{Option, Some, None, Result, Ok, Err, nat_lt, ◌==◌, drop, ⊤}
+use Rattle.std.specs.Prelude.{Option, Some, None, Result, Ok, Err, nat_lt, drop, ⊤}
 use Rattle.mt_scaled.specs.declared.unit.Units.{Units}
 use Rattle.mt_token.specs.declared.token.Token.{Token}
 use Rattle.mt_token.specs.declared.token.TokenError.{TokenError}
@@ -34,7 +34,7 @@ use Rattle.mt_reader.specs.documents.Documents.{DocumentState, DocumentAnswer, D
 use Rattle.mt_reader.specs.documents.Dollars.{begins_display, between_dollars, up_to_end}
 use Rattle.mt_reader.specs.documents.Sources.{document_by}
 use Rattle.mt_pages.specs.Documents.{document_from, document_of, document_refusal, reading_refusal, token_refusal}
-use Rattle.mt_status.specs.declared.status.Status.TheVariants.{BadFormula, TooDeep, OutOfMemory}
+use Rattle.mt_status.specs.declared.status.Status.TheVariants.{OutOfMemory}
 use Rattle.mt_status.proofs.Avoiding.{Avoids, avoids_err}
 use Rattle.mt_pages.proofs.Balanced.{balanced}
 

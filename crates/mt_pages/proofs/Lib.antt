@@ -4,6 +4,8 @@ pub mod LineLemmas
 pub mod PageLemmas
 -- the pages of a document, one after another
 pub mod DocumentLemmas
+-- pages that are set and placed one after another
+pub mod SetLemmas
 -- small sources
 mod Worked
 -- lines of the listing, one after another

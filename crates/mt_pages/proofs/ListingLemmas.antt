@@ -1,8 +1,15 @@
 -- Lines of the listing, one after another.
-use Rattle.std.proofs.Common.{◌≡◌, ◌∙◌, ℕ, ◌+◌, ◌<◌, List, ◌++◌, length, get_or, drop, sym, ap, append_assoc}
-use Rattle.std.proofs.lemmas.List.{at_drop_more}
+use Rattle.std.proofs.Common.{◌≡◌, ◌∙◌, ℕ, suc, ◌+◌, ◌<◌, Bool, List, [], ◌∷◌, ◌++◌, length, get_or, drop, sym, ap, append_assoc, arith}
+use Rattle.std.specs.Prelude.{Result, Ok, Err, OnOk, codes, cond, count_by}
+use Rattle.std.proofs.lemmas.List.Sums.{sum_by-append}
+use Rattle.std.proofs.lemmas.List.{append-nil, at_drop_more, length-append}
 use Rattle.mt_box.specs.declared.place.Place.{Place}
-use Rattle.mt_pages.specs.Listing.{page_text, pages_text}
+use Rattle.mt_dvi.specs.WrittenPlaces.{all_places}
+use Rattle.mt_pages.specs.Listing.{is_glyph_place, is_rule_place, listing, number_line, page_text, pages_text}
+use Rattle.mt_pages.specs.inner.Texts.{AreCountsOf, IsListingOf}
+use Rattle.mt_pages.specs.declared.listings.ListingText.{ListingText}
+use Rattle.mt_pages.specs.declared.summaries.Counts.{Counts}
+use Rattle.mt_pages.proofs.PageLemmas.{all_places_append}
 
 -- the text of one more page, before that of the pages after it
 pub page_pushed : (was now all : List ℕ) (page : List Place) (pages : List (List Place)) (i n : ℕ) (d : List Place) → i < length pages → page ≡ get_or pages i d
@@ -18,3 +25,43 @@ pub line_pushed : (start first second third fourth end out a b c d e line : List
     → a ≡ out ++ start → b ≡ a ++ first → c ≡ b ++ second → d ≡ c ++ third → e ≡ d ++ fourth → line ≡ e ++ end
     → line ≡ out ++ (start ++ (first ++ (second ++ (third ++ (fourth ++ end)))))
 line_pushed start first second third fourth end out a b c d e line p q r s t u = rw (u, t, s, r, q, p) (simp append_assoc)
+
+pub on_ok : {A E P Q : Type 0} (r : Result A E) → (P → Q) → OnOk r P → OnOk r Q
+on_ok (Ok x) to is = to is
+on_ok (Err e) to is = is
+
+pages_more : (n : ℕ) (pages : List (List Place)) (page : List Place) → pages_text n (pages ++ page ∷ []) ≡ pages_text n pages ++ page_text (n + length pages) page
+pages_more n [] page =
+    let zero : n ≡ n + length {A = List Place} [] = omega arith in
+    append-nil (page_text n page) ∙ ap (λ (k : ℕ). page_text k page) zero
+pages_more n (p ∷ ps) page =
+    let count : (n + 1) + length ps ≡ n + suc (length ps) = omega arith in
+    ap (λ (l : List ℕ). page_text n p ++ l) (pages_more (n + 1) ps page)
+    ∙ (sym (append_assoc (page_text n p) (pages_text (n + 1) ps) (page_text ((n + 1) + length ps) page))
+    ∙ ap (λ (k : ℕ). (page_text n p ++ pages_text (n + 1) ps) ++ page_text k page) count)
+
+-- a listing of one page more
+pub listing_more : (pages : List (List Place)) (page : List Place) (old new : ListingText) → IsListingOf pages old → new.pages ≡ old.pages + 1 → new.out.items ≡ old.out.items ++ page_text (old.pages + 1) page → IsListingOf (pages ++ page ∷ []) new
+listing_more pages page old new is count text =
+    let next : old.pages + 1 ≡ 1 + length pages = omega (arith, is.count) in
+    record {
+      is = text ∙ (ap (λ (l : List ℕ). l ++ page_text (old.pages + 1) page) is.is ∙ (ap (λ (k : ℕ). pages_text 1 pages ++ page_text k page) next ∙ sym (pages_more 1 pages page)));
+      count = omega (arith, is.count, count, length-append pages (page ∷ []));
+    }
+
+-- the whole listing
+pub listing_ends : (pages : List (List Place)) (text : ListingText) (out : List ℕ) → IsListingOf pages text → out ≡ text.out.items ++ number_line (codes "pages") text.pages → out ≡ listing pages
+unfolding listing
+listing_ends pages text out is ends = ends ∙ (ap (λ (l : List ℕ). l ++ number_line (codes "pages") text.pages) is.is ∙ ap (λ (n : ℕ). pages_text 1 pages ++ number_line (codes "pages") n) is.count)
+
+count_more : (p : Place → Bool) (xs ys : List Place) → count_by p (xs ++ ys) ≡ count_by p xs + count_by p ys
+count_more p xs ys = sum_by-append (λ (x : Place). cond (p x) 1 0) xs ys
+
+-- the counts of one page more
+pub counts_more : (pages : List (List Place)) (page : List Place) (old new : Counts) → AreCountsOf pages old → new.pages ≡ old.pages + 1 → new.glyphs ≡ old.glyphs + count_by is_glyph_place page
+    → new.rules ≡ old.rules + count_by is_rule_place page → AreCountsOf (pages ++ page ∷ []) new
+counts_more pages page old new is count glyphs rules = record {
+  count = omega (arith, is.count, count, length-append pages (page ∷ []));
+  glyphs = omega (arith, glyphs, is.glyphs, ap (count_by is_glyph_place) (all_places_append pages page), count_more is_glyph_place (all_places pages) page);
+  rules = omega (arith, rules, is.rules, ap (count_by is_rule_place) (all_places_append pages page), count_more is_rule_place (all_places pages) page);
+}

@@ -1,11 +1,9 @@
 -- The places of a page can be written, and they are not too many.
-use Rattle.std.proofs.Common.{◌≡◌, ℕ, ◌+◌, ◌-◌, ◌≤◌, List, [], ◌∷◌, ◌++◌, length, refl, sym, ◌∙◌, ap, subst, false, arith}
-use Rattle.std.specs.Prelude.{Option, Some, None, Ok, All, IfSome, IsSomeAnd, is_some, nat_lt}
-use Rattle.std.proofs.lemmas.Bool.Decides.{nat_tests}
+use Rattle.std.proofs.Common.{◌≡◌, ℕ, ◌+◌, ◌-◌, ◌≤◌, List, [], ◌∷◌, ◌++◌, length, sym, ◌∙◌, ap, subst, arith}
+use Rattle.std.specs.Prelude.{Option, Ok, All, IsSomeAnd}
 use Rattle.std.proofs.lemmas.List.{append-nil, append_assoc, length-append}
-use Rattle.std.proofs.lemmas.List.Elements.{All-append, All-cons, All-head, All-nil, All-tail}
+use Rattle.std.proofs.lemmas.List.Elements.{All-cons, All-head, All-nil, All-tail}
 use Rattle.mt_tfm.specs.Font.{Metrics}
-use Rattle.mt_reader.specs.documents.Limits.{max_document_pages}
 use Rattle.mt_family.specs.SetValue.{SetValue}
 use Rattle.mt_box.specs.Rows.{PieceValue, PieceGlyph, PieceBox, PieceKern, PieceSpace}
 use Rattle.mt_box.proofs.Room.{PlaceInRange}
@@ -14,17 +12,12 @@ use Rattle.mt_box.specs.declared.place.Place.{Place}
 use Rattle.mt_box.specs.declared.place.Place.TheVariants.{Glyph, Rule}
 use Rattle.mt_dvi.specs.Writable.{HasGlyph, IsWritable}
 use Rattle.mt_dvi.specs.WrittenPlaces.{all_places}
-use Rattle.mt_dvi.specs.Limits.{max_places, max_dvi_pages}
-use Rattle.mt_dvi.specs.Refusal.{refusal_of}
+use Rattle.mt_dvi.specs.Limits.{max_places}
 use Rattle.mt_display.specs.Lines.{LineValue}
 use Rattle.mt_display.specs.Stack.{stacked_lines}
 use Rattle.mt_display.proofs.PagePlaces.{LineHas, page_has}
 use Rattle.mt_convert.specs.Holding.{PlaceHolds, PieceHolds, RowHolds}
 use Rattle.mt_convert.proofs.holds.Boxes.{all_places_hold}
-use Rattle.mt_pages.specs.inner.Placed.{PlacedHolds}
-use Rattle.mt_status.specs.Origins.{Told, refusal_origin}
-use Rattle.mt_pages.specs.declared.pages.PlacedPages.{PlacedPages}
-use Rattle.mt_status.specs.declared.status.Status.{Status}
 
 -- that a glyph exists and that a rule marks something does not depend on where it stands
 pub places_still : (set : SetValue) → IsStill (PlaceHolds set)
@@ -75,35 +68,6 @@ less_room pages page room fits full =
     let more : length (all_places (pages ++ page ∷ [])) ≡ length (all_places pages) + length page = ap length (all_places_append pages page) ∙ length-append (all_places pages) page in
     omega (arith, more, fits, full)
 
--- pages with no more places than there may be are not refused
-pub pages_few : (pages : List (List Place)) → length pages ≤ max_document_pages → length (all_places pages) ≤ max_places → refusal_of pages ≡ None
-pages_few pages few places =
-    let pages_in : nat_lt max_dvi_pages (length pages) ≡ false = grind (arith, nat_tests) in
-    let places_in : nat_lt max_places (length (all_places pages)) ≡ false = grind (arith, nat_tests) in
-    rw (pages_in, places_in) refl
-
 -- the places of lines that hold can be written
 pub stacked_writable : (set : SetValue) (room : ℕ) (lines : List LineValue) (page : List Place) → All (LineHas (PlaceHolds set)) lines → stacked_lines room lines ≡ Ok page → All (IsWritable set) page
 stacked_writable set room lines page hold is = page_has (PlaceHolds set) (IsWritable set) (places_still set) (place_writable set) room lines page hold is
-
--- one page more
-pub placed_more : (set : SetValue) (count room : ℕ) (pages : List (List Place)) (page : List Place) (placed : PlacedPages)
-    → PlacedHolds set count placed → placed.pages.items ≡ pages → placed.room ≡ room → All (IsWritable set) page → length page ≤ room
-    → (now : PlacedPages) → now.pages.items ≡ pages ++ page ∷ [] → now.room ≡ room - length page → now.fault ≡ None → PlacedHolds set (count + 1) now
-placed_more set count room pages page placed holds is has writable fits now pages' room' fault =
-    let every = λ (ps : List Place). All (IsWritable set) ps in
-    let before : All every pages = subst (λ (l : List (List Place)). All every l) is holds.writable in
-    let full : length (all_places pages) + room ≡ max_places = subst (λ (l : List (List Place)). length (all_places l) + room ≡ max_places) is (subst (λ (n : ℕ). length (all_places placed.pages.items) + n ≡ max_places) has holds.places) in
-    let few : length pages ≤ count = subst (λ (l : List (List Place)). length l ≤ count) is holds.few in
-    record {
-      writable = subst (λ (l : List (List Place)). All every l) (sym pages') (All-append every pages (page ∷ []) before (All-cons every page [] writable (All-nil every)));
-      places =
-          subst (λ (l : List (List Place)). length (all_places l) + now.room ≡ max_places) (sym pages')
-          (subst (λ (n : ℕ). length (all_places (pages ++ page ∷ [])) + n ≡ max_places) (sym room') (less_room pages page room fits full));
-      few = subst (λ (l : List (List Place)). length l ≤ count + 1) (sym pages') (omega (arith, length-append pages (page ∷ []), few));
-      told = subst (λ (f : Option Status). IfSome f (λ status. refusal_origin status ≡ Told)) (sym fault) tt;
-    }
-
-pub no_fault : (fault : Option Status) → is_some fault ≡ false → fault ≡ None
-no_fault None is = refl
-no_fault (Some status) is = absurd (cc)

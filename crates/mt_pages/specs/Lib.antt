@@ -6,6 +6,8 @@ pub mod Documents
 pub mod FormulaLines
 -- the pages of a source
 pub mod Pages
+-- what is made of the pages of a source
+pub mod Output
 -- how wide a line may be
 pub mod LineWidth
 -- pages as a text

@@ -2,3 +2,7 @@
 pub mod Lines
 -- pages of places, up to the first fault of a place
 pub mod Placed
+-- pages that are set and placed one after another
+pub mod SetPages
+-- texts to which pages are added
+pub mod Texts

@@ -1,18 +1,16 @@
-//! The document of a source.
+//! The tokens of a source, and why it has no document.
 ghost use Rattle.std.specs.Prelude.{◌≡◌, ◌≤◌, ◌^◌, IfOk, length};
+ghost use Rattle.mt_family.specs.SetValue.{SetValue};
 ghost use Rattle.mt_reader.specs.documents.Documents.{DocumentAnswer};
-ghost use Rattle.mt_reader.specs.documents.Limits.{max_document_pages};
 ghost use Rattle.mt_reader.specs.documents.Refusals.{IsExpandRefusal, IsReadRefusal, IsRefusal};
-ghost use Rattle.mt_reader.specs.documents.Weights.{IsModestDocument, pages_weight};
 ghost use Rattle.mt_status.specs.Origins.{IsPure};
-ghost use Rattle.mt_pages.specs.Documents.{document_from, document_of, token_refusal};
+ghost use Rattle.mt_pages.specs.Documents.{document_from, token_refusal};
+ghost use Rattle.mt_pages.specs.inner.SetPages.{AreTokensOf};
 
-use mt_family::FontSet;
 use mt_macro::ExpandError;
-use mt_reader::{DocError, ReadError, read_document};
-use mt_rules::Document;
+use mt_reader::{DocError, ReadError, source_tokens};
 use mt_status::{MISSING_ARGUMENT, Much, Status};
-use mt_token::TokenError;
+use mt_token::{TokenError, TokenList};
 use std::alloc::Global;
 
 fn token_refusal(error: TokenError) -> Status
@@ -65,7 +63,8 @@ fn read_refusal(n: u32, error: ReadError) -> Status
     }
 }
 
-fn document_refusal(error: DocError) -> Status
+/// Why a source has no document.
+pub fn document_refusal(error: DocError) -> Status
     ensures { (answer : DocumentAnswer) → IsRefusal error answer
         → IsPure (document_from answer) (Err result) }
 {
@@ -87,29 +86,18 @@ fn document_refusal(error: DocError) -> Status
     }
 }
 
-/// The document of a source of at most 4,194,304 bytes. In a dimension an em and an ex are
-/// parameters 6 and 5 of the text font of family 0, 0 without one.
+/// The tokens of a source of at most 4,194,304 bytes.
 ///
 /// # Errors
 ///
-/// The first of these. `BadSource`, before all others, at the first byte that is not ASCII (cause
-/// 1) or cannot stand where it stands (cause 2). Then, in the order of the source, `BadFormula` for
-/// a token outside of formulas (31 to 36), a macro of a formula without an argument (21) and a
-/// token at which a formula cannot be read on (1 to 10); `Budget` for a formula whose macros do not
-/// come to an end, and where the formulas have too many tokens together; `TooDeep` where too many
-/// groups of a formula are open; `TooMuch` pages, at the formula that would begin one.
-/// `OutOfMemory` where memory ran out.
-///
-/// Its lists are modest: body and number of each formula can be set. It has at most 5,000 pages,
-/// and at most 2^21 formulas, each display counted twice.
-pub fn document_of(alloc: Global, fonts: &FontSet, source: &[u8]) -> Result<Document, Status>
-    ensures is { IsPure (document_of fonts.now source.now) result }
-    ensures modest { IfOk result IsModestDocument }
-    ensures few { IfOk result (λ pages. pages_weight pages ≤ 2 ^ 21) }
-    ensures pages { IfOk result (λ pages. length pages ≤ max_document_pages) }
+/// `BadSource` at the first byte that is not ASCII (cause 1) or cannot stand where it stands (cause 2). `OutOfMemory`
+/// where memory ran out.
+pub fn tokens_of(alloc: Global, source: &[u8]) -> Result<TokenList, Status>
+    ensures is { (fonts : SetValue) → AreTokensOf fonts source.now result }
+    ensures few { IfOk result (λ list. length list ≤ 2 ^ 22) }
 {
-    match read_document(alloc, fonts.units(), source) {
-        Ok(document) => Ok(document),
+    match source_tokens(alloc, source) {
+        Ok(list) => Ok(list),
         Err(error) => Err(document_refusal(error)),
     }
 }

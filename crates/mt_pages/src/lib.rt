@@ -9,9 +9,7 @@ mod pages;
 mod source;
 mod summaries;
 mod text_line;
-mod typeset;
 
 pub use listings::listing;
-pub use source::source_pages;
+pub use source::{source_file, source_listing, source_pages, source_summary};
 pub use summaries::summary;
-pub use typeset::{Typeset, typeset_source};

@@ -1,6 +1,8 @@
 //! Pages as a text.
-ghost use Rattle.std.specs.Prelude.{◌≡◌, ◌++◌, flat_map, IfOk, OnOk};
+ghost use Rattle.std.specs.Prelude.{◌≡◌, ◌++◌, ◌<◌, ◌-◌, ◌^◌, ◌∷◌, [], List, flat_map, IfOk, OnOk};
+ghost use Rattle.mt_box.specs.declared.place.Place.{Place as PlaceFields};
 ghost use Rattle.mt_pages.specs.Listing.{listing, page_text, pages_text, place_line};
+ghost use Rattle.mt_pages.specs.inner.Texts.{IsListingOf};
 
 use crate::text_line::{push_number, push_number_line};
 use mt_box::{PageList, Place, PlaceList};
@@ -73,6 +75,45 @@ fn push_pages(out: &mut Vec<u8>, pages: &[PlaceList]) -> Result<(), AllocError>
         push_page(out, number, page.as_slice())?;
     }
     Ok(())
+}
+
+/// A listing to which pages are added.
+#[derive(Drop)]
+pub struct ListingText {
+    out: Vec<u8>,
+    pages: usize,
+}
+
+impl ListingText {
+    /// Without pages.
+    pub fn new(alloc: Global) -> ListingText
+        ensures { IsListingOf [] result }
+    {
+        ListingText {
+            out: Vec::new(alloc),
+            pages: 0,
+        }
+    }
+
+    /// Adds a page.
+    pub fn page(&mut self, page: &[Place]) -> Result<(), AllocError>
+        requires { self.old.pages < 2 ^ 64 - 1 }
+        ensures { (pages : List (List PlaceFields)) → IsListingOf pages self.old
+            → OnOk result (IsListingOf (pages ++ page.now ∷ []) self.new) }
+    {
+        self.pages += 1;
+        push_page(&mut self.out, self.pages, page)
+    }
+
+    /// The listing of the pages.
+    pub fn finish(self) -> Result<Bytes, AllocError>
+        ensures { (pages : List (List PlaceFields)) → IsListingOf pages self
+            → IfOk result (λ text. text ≡ listing pages) }
+    {
+        let mut out = self.out;
+        push_number_line(&mut out, b"pages", self.pages as u128)?;
+        Ok(Items::from_vec(out))
+    }
 }
 
 /// The listing of pages: for each page its number, counted from 1, and a line for each of its places in order, and last

@@ -1,28 +1,34 @@
-//! The pages of a document.
-ghost use Rattle.std.specs.Prelude.{◌≡◌, ◌≤◌, ◌+◌, ◌^◌, [], All, IfOk, List, OnOk, Result, length, None, ℕ};
+//! The pages of a source, one after another.
+ghost use Rattle.std.specs.Prelude.{◌≡◌, ◌≤◌, ◌^◌, [], All, IfOk, IfSome, List, Ok, Option, Result, length, ℕ, ℤ};
 ghost use Rattle.mt_family.specs.SetValue.{SetValue};
 ghost use Rattle.mt_box.specs.declared.place.Place.{Place as PlaceFields};
 ghost use Rattle.mt_display.specs.Lines.{line_values};
-ghost use Rattle.mt_dvi.specs.Refusal.{refusal_of};
 ghost use Rattle.mt_dvi.specs.Writable.{IsWritable};
-ghost use Rattle.mt_reader.specs.documents.Limits.{max_document_pages};
-ghost use Rattle.mt_reader.specs.documents.Weights.{IsModestDocument, pages_weight};
-ghost use Rattle.mt_pages.specs.Pages.{document_pages, page_places, stack_refusal};
+ghost use Rattle.mt_family.specs.Sets.{units_of};
+ghost use Rattle.mt_token.specs.declared.token.Token.{Token as TokenFields};
+ghost use Rattle.mt_rules.specs.declared.document.Formula.{Formula};
+ghost use Rattle.mt_reader.specs.documents.PageReading.{CanGoOn, GoesOn, IsReadOf};
+ghost use Rattle.mt_reader.specs.documents.Weights.{HasModestLists, page_weight};
+ghost use Rattle.mt_pages.specs.Pages.{no_lines, page_lines, page_places, stack_refusal};
 ghost use Rattle.mt_pages.specs.LineWidth.{IsLineWidth};
 ghost use Rattle.mt_pages.specs.inner.Lines.{LinesHold, LinesStack, page_value};
-ghost use Rattle.mt_pages.specs.inner.Placed.{IsToldAnswer, PlacedHolds, add_page, nothing_placed, place_rest};
-ghost use Rattle.mt_pages.specs.inner.Placed.{placed_value};
-ghost use Rattle.mt_status.specs.Origins.{IsPure};
+ghost use Rattle.mt_pages.specs.inner.Placed.{IsToldAnswer};
+ghost use Rattle.mt_pages.specs.inner.SetPages.{AreFormulasOf, ArePagesOf, AreTokensOf, GoesOnAfter, IsNextOf};
+ghost use Rattle.mt_pages.specs.inner.SetPages.{IsSet, KeepsPlaces, end_of, is_nothing, is_setting};
 
+use crate::document::document_refusal;
 use crate::page_lines::{PageLines, page_lines};
-use mt_box::{PageList, PlaceList};
+use mt_box::PlaceList;
 use mt_display::{StackError, stack_lines};
 use mt_dvi::MAX_PLACES;
 use mt_family::FontSet;
-use mt_rules::Document;
+use mt_reader::PageReader;
+use mt_rules::Page;
 use mt_scaled::Items;
 use mt_status::{Much, Status};
+use mt_token::Token;
 use std::alloc::{AllocError, Global};
+use std::mem;
 
 // A page of these formulas, by the lines, has a place out of range, or too many.
 fn stack_refusal(formulas: &[u32], error: StackError) -> Status
@@ -63,87 +69,164 @@ fn page_places(
     }
 }
 
-// Pages of places, up to the first fault of a place.
+// The first fault that is held back: that of a place, until all formulas are set, or that of a formula that is not set,
+// until all are read.
 #[derive(Drop)]
-struct PlacedPages {
-    pages: Vec<PlaceList>,
-    // how many places more there may be
-    room: u64,
-    fault: Option<Status>,
+enum Held {
+    Nothing,
+    Place(Status),
+    Setting(Status),
 }
 
-impl PlacedPages {
-    fn new(alloc: Global) -> PlacedPages
-        ensures is { placed_value result ≡ nothing_placed }
-        ensures holds { (fonts : SetValue) → PlacedHolds fonts 0 result }
+impl Held {
+    fn is_nothing(&self) -> bool
+        ensures { result ≡ is_nothing self.now }
     {
-        PlacedPages {
-            pages: Vec::new(alloc),
-            room: MAX_PLACES,
-            fault: None,
-        }
+        matches!(self, Held::Nothing)
     }
 
-    // Finds the places of the next page, where none was at fault before.
-    fn add(&mut self, alloc: Global, page: PageLines) -> Result<(), AllocError>
-        requires laid { LinesStack page.lines.items }
-        ensures is { OnOk result (placed_value self.new ≡ add_page (page_value page) (placed_value self.old)) }
-        ensures holds { (fonts : SetValue) → (count : ℕ) → LinesHold fonts (line_values page.lines.items)
-            → PlacedHolds fonts count self.old → OnOk result (PlacedHolds fonts (count + 1) self.new) }
+    fn is_setting(&self) -> bool
+        ensures { result ≡ is_setting self.now }
     {
-        if self.fault.is_some() {
-            return Ok(());
+        matches!(self, Held::Setting(_))
+    }
+}
+
+/// The pages of a source, one after another: they are read, set and placed as they are asked for. Each formula stands on
+/// a line of its own, or on two where its number does not stand beside it. Lines stand one below another from v = 0 on,
+/// 12pt from baseline to baseline, or 1pt apart. After an error it is of no more use.
+#[derive(Drop)]
+pub struct PageSetter<'a> {
+    reader: PageReader<'a>,
+    // how many places more there may be
+    room: u64,
+    held: Held,
+}
+
+impl<'a> PageSetter<'a> {
+    /// The pages of these tokens. None of them is read yet.
+    pub fn new(alloc: Global, tokens: &'a [Token]) -> Result<PageSetter<'a>, AllocError>
+        requires { length tokens.now ≤ 2 ^ 22 }
+        ensures is { IfOk result (λ setter. (fonts : SetValue) → (width : ℤ) → (source : List ℕ)
+            → AreTokensOf fonts source (Ok tokens.now) → ArePagesOf fonts width source [] setter) }
+        ensures more { IfOk result (λ setter. CanGoOn setter.reader) }
+    {
+        Ok(PageSetter {
+            reader: PageReader::new(alloc, tokens)?,
+            room: MAX_PLACES,
+            held: Held::Nothing,
+        })
+    }
+
+    // Finds the places of a page that is set, unless a fault is held back.
+    fn place(&mut self, alloc: Global, page: PageLines) -> Result<Option<PlaceList>, AllocError>
+        requires laid { LinesStack page.lines.items }
+        ensures reader { self.new.reader ≡ self.old.reader }
+        ensures is { (fonts : SetValue) → (width : ℤ) → (formulas : List Formula)
+            → page_lines fonts width no_lines formulas ≡ Ok (page_value page)
+            → IfOk result (λ places. IsSet fonts width formulas self.old self.new places) }
+        ensures writable { (fonts : SetValue) → LinesHold fonts (line_values page.lines.items)
+            → IfOk result (λ places. IfSome places (λ page. All (IsWritable fonts) page)) }
+    {
+        if !self.held.is_nothing() {
+            return Ok(None);
         }
         match page_places(alloc, page, self.room)? {
             Ok(places) => {
                 self.room -= places.len() as u64;
-                self.pages.push(places)?;
+                Ok(Some(places))
             }
-            Err(status) => self.fault = Some(status),
+            Err(status) => {
+                self.held = Held::Place(status);
+                Ok(None)
+            }
         }
-        Ok(())
     }
 
-    // The pages, or the refusal of the first place at fault.
-    fn finish(self) -> Result<PageList, Status>
-        ensures { result ≡ place_rest (placed_value self) [] }
+    // Sets a page and finds its places, unless a fault is held back.
+    fn set(
+        &mut self,
+        alloc: Global,
+        fonts: &FontSet,
+        width: i64,
+        page: Page,
+    ) -> Result<Option<PlaceList>, AllocError>
+        requires width { IsLineWidth width }
+        requires modest { All HasModestLists page }
+        requires few { page_weight page ≤ 2 ^ 21 }
+        ensures reader { self.new.reader ≡ self.old.reader }
+        ensures is { IfOk result (λ places. IsSet fonts.now width page self.old self.new places) }
+        ensures writable { IfOk result (λ places. IfSome places (λ page. All (IsWritable fonts.now) page)) }
     {
-        let PlacedPages { pages, fault, .. } = self;
-        match fault {
-            None => Ok(Items::from_vec(pages)),
-            Some(status) => Err(status),
+        if self.held.is_setting() {
+            return Ok(None);
+        }
+        match page_lines(alloc, fonts, width, page) {
+            Ok(lines) => self.place(alloc, lines),
+            Err(Status::OutOfMemory) => Err(AllocError),
+            Err(status) => {
+                self.held = Held::Setting(status);
+                Ok(None)
+            }
         }
     }
-}
 
-/// The pages of a document. Each formula stands on a line of its own, or on two where its number
-/// does not stand beside it; `width` is the width of a line in scaled points. Lines stand one below
-/// another from v = 0 on, 12pt from baseline to baseline, or 1pt apart.
-///
-/// # Errors
-///
-/// The first refusal of a formula, as [`page_lines`] says. Where no formula is refused, the first
-/// of these, page by page and in the order of the places: `Overflow` with a coordinate that is out
-/// of range, and the number of its formula; `TooMuch` at place 2,000,001. `OutOfMemory` where
-/// memory ran out.
-pub fn document_pages(
-    alloc: Global,
-    fonts: &FontSet,
-    width: i64,
-    document: Document,
-) -> Result<PageList, Status>
-    requires width { IsLineWidth width }
-    requires modest { IsModestDocument document }
-    requires few { pages_weight document ≤ 2 ^ 21 }
-    requires pages { length document ≤ max_document_pages }
-    ensures is { IsPure (document_pages fonts.now width document) result }
-    ensures writable { IfOk result (λ pages. All (λ page. All (IsWritable fonts.now) page) pages) }
-    ensures few_places { IfOk result (λ pages. refusal_of pages ≡ None) }
-{
-    let mut placed = PlacedPages::new(alloc);
-    for page in document.into_vec() {
-        let lines = page_lines(alloc, fonts, width, page)?;
-        placed.add(alloc, lines)?;
+    // The formulas of the next page.
+    fn formulas(&mut self, alloc: Global, fonts: &FontSet) -> Result<Option<Page>, Status>
+        requires more { CanGoOn self.old.reader }
+        ensures is { (tokens : List TokenFields) → (read : List (List Formula))
+            → IsReadOf (units_of fonts.now) tokens read self.old.reader
+            → AreFormulasOf fonts.now tokens read self.new result }
+        ensures keeps { KeepsPlaces self.old self.new }
+        ensures more { IfOk result (λ (page : Option (List Formula)). GoesOn self.old.reader self.new.reader (Ok page)) }
+    {
+        match self.reader.next_page(alloc, fonts.units()) {
+            Ok(page) => Ok(page),
+            Err(error) => Err(document_refusal(error)),
+        }
     }
-    placed.finish()
+
+    // The end of the pages, or the fault that was held back.
+    fn end(&mut self) -> Result<Option<PlaceList>, Status>
+        ensures { result ≡ end_of self.old.held }
+    {
+        match mem::replace(&mut self.held, Held::Nothing) {
+            Held::Nothing => Ok(None),
+            Held::Place(status) => Err(status),
+            Held::Setting(status) => Err(status),
+        }
+    }
+
+    /// The places of the next page; `None` where there are no more. `width` is the width of a line in scaled points;
+    /// fonts and width are the same ones for all pages.
+    ///
+    /// # Errors
+    ///
+    /// The first fault of the document, in the order of the source: `BadFormula` for a token outside of formulas (31 to
+    /// 36), a macro of a formula without an argument (21) and a token at which a formula cannot be read on (1 to 10);
+    /// `Budget` for a formula whose macros do not come to an end, and where the formulas have too many tokens together;
+    /// `TooDeep` where too many groups of a formula are open; `TooMuch` pages, at the formula that would begin one.
+    /// Where all formulas are read, the first fault of setting them, as [`page_lines`] says. Where all are set, the
+    /// first of these, page by page and in the order of the places: `Overflow` with a coordinate that is out of range,
+    /// and the number of its formula; `TooMuch` at place 2,000,001. `OutOfMemory` where memory ran out.
+    pub fn next_page(
+        &mut self,
+        alloc: Global,
+        fonts: &FontSet,
+        width: i64,
+    ) -> Result<Option<PlaceList>, Status>
+        requires width { IsLineWidth width }
+        requires more { CanGoOn self.old.reader }
+        ensures is { (source : List ℕ) → (pages : List (List PlaceFields))
+            → ArePagesOf fonts.now width source pages self.old
+            → IsNextOf fonts.now width source pages self.new result }
+        ensures more { IfOk result (λ places. IfSome places (λ page. GoesOnAfter fonts.now self.old self.new page)) }
+    {
+        while let Some(page) = self.formulas(alloc, fonts)? {
+            if let Some(places) = self.set(alloc, fonts, width, page)? {
+                return Ok(Some(places));
+            }
+        }
+        self.end()
+    }
 }

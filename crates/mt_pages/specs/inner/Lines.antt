@@ -1,5 +1,5 @@
 -- Rows and lines that the code makes (`IsRow`, `IsLines`), and what holds of them (`AreLaid`).
-use Rattle.std.specs.Prelude.{ℕ, ◌≤◌, ◌-◌, ◌^◌, List, [], ◌∷◌, length, All, IfSome, Option, Some, None, Result, Ok, Err, ⊤}
+use Rattle.std.specs.Prelude.{ℕ, ◌≤◌, ◌-◌, ◌^◌, List, length, All, IfSome, Option, Some, None, Result, Ok, Err, ⊤}
 use Rattle.std.specs.Option.{option_map}
 use Rattle.mt_scaled.specs.Number.{Within}
 use Rattle.mt_family.specs.SetValue.{SetValue}

@@ -1,28 +1,16 @@
 -- Pages of places, one after another, up to the first fault of a place.
-use Rattle.std.specs.Prelude.{◌≡◌, ℕ, ◌+◌, ◌-◌, ◌≤◌, List, [], ◌∷◌, ◌++◌, length, All, IfSome, Option, Some, None, Result, Ok, Err, ⊤}
+use Rattle.std.specs.Prelude.{◌≡◌, ℕ, ◌-◌, List, [], ◌∷◌, ◌++◌, length, Result, Ok, Err, ⊤}
 use Rattle.mt_scaled.specs.Results.{◌>>=◌}
-use Rattle.mt_family.specs.SetValue.{SetValue}
 use Rattle.mt_box.specs.declared.place.Place.{Place}
 use Rattle.mt_dvi.specs.Limits.{max_places}
-use Rattle.mt_dvi.specs.Writable.{IsWritable}
-use Rattle.mt_dvi.specs.WrittenPlaces.{all_places}
 use Rattle.mt_pages.specs.Pages.{PageLinesValue, page_places, pages_places}
 use Rattle.mt_status.specs.Origins.{Told, refusal_origin}
-use Rattle.mt_pages.specs.declared.pages.PlacedPages.{PlacedPages}
 use Rattle.mt_status.specs.declared.status.Status.{Status}
 
 -- pages, and how many places more there may be
 pub record PlacedValue : Type 0 where
   pub pages : List (List Place)
   pub room : ℕ
-
-abbrev pub placed_so_far : List (List Place) → ℕ → Option Status → Result PlacedValue Status
-placed_so_far pages room None = Ok (record { pages = pages; room = room })
-placed_so_far pages room (Some status) = Err status
-
--- the pages, or the refusal of the first place at fault
-abbrev pub placed_value : PlacedPages → Result PlacedValue Status
-placed_value p = placed_so_far p.pages.items p.room p.fault
 
 abbrev pub nothing_placed : Result PlacedValue Status
 nothing_placed = Ok (record { pages = []; room = max_places })
@@ -49,10 +37,3 @@ place_rest placed pages = do
 abbrev pub IsToldAnswer : Result (List Place) Status → Type 0
 IsToldAnswer (Ok places) = ⊤
 IsToldAnswer (Err status) = refusal_origin status ≡ Told
-
--- what holds of the pages so far, of which there are at most so many
-pub record PlacedHolds (fonts : SetValue) (count : ℕ) (p : PlacedPages) : Type 0 where
-  pub writable : All (λ page. All (IsWritable fonts) page) p.pages.items
-  pub places : length (all_places p.pages.items) + p.room ≡ max_places
-  pub few : length p.pages.items ≤ count
-  pub told : IfSome p.fault (λ status. refusal_origin status ≡ Told)

@@ -1,0 +1,40 @@
+use Rattle.std.proofs.Common.{ap, refl, subst, to_z-of_z, ◌∙◌, List}
+use Rattle.std.specs.Prelude.{Option, Some, None, Ok}
+use Rattle.std.proofs.lemmas.Result.{err_from_is_err_and}
+use Rattle.mt_rules.specs.declared.document.Formula.{Formula}
+use Rattle.mt_pages.specs.inner.SetPages.{AreFormulasOf, end_of}
+use Rattle.mt_pages.proofs.SetLemmas.{are_set, go_set, kept_at, next_end, next_err}
+use Rattle.mt_pages.proofs.pages.PageSetter.next_page.Goals as goal
+
+pub returns-in_err-page-clause-is : goal.returns-in_err-page-clause-is
+returns-in_err-page-clause-is c =
+    λ source pages are.
+    let a = kept_at c.args.fonts.now _ c.args.width c.args.self.now c.loop-page.self (to_z-of_z c.ranges.width) c.loop-page.invariant.is source pages are in
+    let p = err_from_is_err_and c.from_residual.result c.from_residual.ensures.1 in
+    rw (p.1, p.2) (next_err c.args.fonts.now c.args.width source pages c.loop-page.self c.in_err-page.field-0.0 a (c.in_err-page.ensures.is a.tokens a.read a.reader))
+
+pub returns-in-Some-2-clause-is : goal.returns-in-Some-2-clause-is
+returns-in-Some-2-clause-is c =
+    λ source pages are.
+    are_set c.args.fonts.now _ c.args.width source pages c.in-Some.page c.loop-page.self c.formulas.new.self c.set.new.self c.in_ok-page.field-0 c.in_ok-places.field-0 (Some c.in-Some-2.places) (to_z-of_z c.ranges.width)
+    (kept_at c.args.fonts.now _ c.args.width c.args.self.now c.loop-page.self (to_z-of_z c.ranges.width) c.loop-page.invariant.is source pages are) c.in-Some.is c.in_ok-page.ensures.is c.in_ok-page.ensures.more
+    c.in_ok-page.ensures.keeps c.in_ok-places.ensures.is c.in-Some-2.is c.in_ok-places.ensures.reader
+
+pub loop-page-preserved : goal.loop-page-preserved
+loop-page-preserved c =
+    let on = go_set c.args.self.now c.loop-page.self c.formulas.new.self c.set.new.self c.in-Some.page c.in_ok-page.field-0 c.in-Some.is c.in_ok-page.ensures.more c.in_ok-places.ensures.reader c.loop-page.invariant.falls in
+    record {
+      is = λ source pages are.
+          are_set c.args.fonts.now _ _ source pages c.in-Some.page c.loop-page.self c.formulas.new.self c.set.new.self c.in_ok-page.field-0 c.in_ok-places.field-0 None refl (c.loop-page.invariant.is source pages are) c.in-Some.is
+          c.in_ok-page.ensures.is c.in_ok-page.ensures.more c.in_ok-page.ensures.keeps c.in_ok-places.ensures.is c.in_default-2.is c.in_ok-places.ensures.reader;
+      more = on.more;
+      falls = on.falls;
+    }
+
+pub returns-clause-is : goal.returns-clause-is
+returns-clause-is c =
+    λ source pages are.
+    let a = kept_at c.args.fonts.now _ c.args.width c.args.self.now c.loop-page.self (to_z-of_z c.ranges.width) c.loop-page.invariant.is source pages are in
+    next_end c.args.fonts.now c.args.width source pages c.loop-page.self _ c.end.result a
+    (subst (λ (o : Option (List Formula)). AreFormulasOf c.args.fonts.now a.tokens a.read c.formulas.new.self (Ok o)) c.in_default.is (c.in_ok-page.ensures.is a.tokens a.read a.reader))
+    (c.end.ensures ∙ ap end_of c.in_ok-page.ensures.keeps.held)

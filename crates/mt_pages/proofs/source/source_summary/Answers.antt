@@ -1,0 +1,52 @@
+use Rattle.std.proofs.Common.{List, [], ◌∷◌, ◌++◌, ◌∙◌, ap, subst, sym, to_z-of_z}
+use Rattle.std.specs.Prelude.{Result, Ok}
+use Rattle.std.proofs.lemmas.Result.{err_from_is_err_and}
+use Rattle.mt_scaled.specs.Results.{◌>>=◌}
+use Rattle.mt_box.specs.declared.place.Place.{Place}
+use Rattle.mt_pages.specs.Listing.{summary}
+use Rattle.mt_pages.specs.Pages.{source_pages}
+use Rattle.mt_pages.specs.inner.Texts.{AreCountsOf}
+use Rattle.mt_pages.proofs.SetLemmas.{after_some, few_more, next_none, next_refused, next_some, source_err}
+use Rattle.mt_status.proofs.PureLemmas.{pure_err}
+use Rattle.mt_status.specs.declared.status.Status.{Status}
+use Rattle.mt_pages.proofs.source.source_summary.Goals as goal
+
+pub returns-in_err-tokens : goal.returns-in_err-tokens
+returns-in_err-tokens c = record {
+  is =
+      let p = err_from_is_err_and c.from_residual.result c.from_residual.ensures.1 in
+      rw (p.1, p.2) (pure_err (source_pages c.args.fonts.now c.args.width c.args.source.now) (λ (p : List (List Place)). Ok (summary c.args.formulas p)) _ (source_err c.args.fonts.now c.args.width c.args.source.now c.in_err-tokens.field-0.0 (c.in_err-tokens.ensures.is c.args.fonts.now)));
+}
+
+pub returns-in_err-places : goal.returns-in_err-places
+returns-in_err-places c = record {
+  is =
+      let so = c.loop-setter.invariant.so_far in
+      let p = err_from_is_err_and c.from_residual-in_err-places.result c.from_residual-in_err-places.ensures.1 in
+      rw (p.1, p.2)
+      (pure_err (source_pages c.args.fonts.now c.args.width c.args.source.now) (λ (p : List (List Place)). Ok (summary c.args.formulas p)) _ (next_refused c.args.fonts.now _ c.args.width c.args.source.now c.in_err-places.field-0.0 (to_z-of_z c.ranges.width) (c.in_err-places.ensures.is c.args.source.now so.pages so.are)));
+}
+
+pub loop-setter-preserved : goal.loop-setter-preserved
+loop-setter-preserved c =
+    let so = c.loop-setter.invariant.so_far in
+    let on = after_some c.args.fonts.now c.loop-setter.setter c.next_page.new.self c.in_ok-places.field-0 c.in-Some.places c.in-Some.is c.in_ok-places.ensures.more in
+    let are = next_some c.args.fonts.now _ c.args.source.now so.pages c.next_page.new.self c.in_ok-places.field-0 c.in-Some.places c.in-Some.is (c.in_ok-places.ensures.is c.args.source.now so.pages so.are) in
+    record {
+      so_far = record {
+        pages = so.pages ++ c.in-Some.places ∷ [];
+        are = are;
+        few = few_more c.args.fonts.now _ c.args.source.now (so.pages ++ c.in-Some.places ∷ []) c.next_page.new.self are on.pages;
+        counted = subst (λ (l : List Place). AreCountsOf (so.pages ++ l ∷ []) c.page.new.self) c.as_slice-in-Some.ensures (c.page.ensures so.pages so.counted);
+      };
+      more = on.more;
+    }
+
+pub returns : goal.returns
+returns c = record {
+  is =
+      let so = c.loop-setter.invariant.so_far in
+      ap (λ (r : Result (List (List Place)) Status). r >>= (λ (p : List (List Place)). Ok (summary c.args.formulas p)))
+      (next_none c.args.fonts.now _ c.args.width c.args.source.now so.pages c.next_page.new.self c.in_ok-places.field-0 (to_z-of_z c.ranges.width) c.in_default.is (c.in_ok-places.ensures.is c.args.source.now so.pages so.are))
+      ∙ ap Ok (sym (c.in_ok-text.ensures so.pages so.counted));
+}

@@ -1,0 +1,108 @@
+-- Pages that are read, set and placed one after another (`ArePagesOf`), with the first fault held back.
+use Rattle.std.specs.Prelude.{◌≡◌, ℕ, ◌+◌, ◌≤◌, ◌<◌, ℤ, List, [], ◌∷◌, ◌++◌, length, All, Option, Some, None, Result, Ok, Err, ⊤, Bool, true, false}
+use Rattle.mt_scaled.specs.Results.{◌>>=◌}
+use Rattle.mt_token.specs.declared.token.Token.{Token}
+use Rattle.mt_family.specs.SetValue.{SetValue}
+use Rattle.mt_family.specs.Sets.{units_of}
+use Rattle.mt_box.specs.declared.place.Place.{Place}
+use Rattle.mt_dvi.specs.Limits.{max_places}
+use Rattle.mt_dvi.specs.Writable.{IsWritable}
+use Rattle.mt_dvi.specs.WrittenPlaces.{all_places}
+use Rattle.mt_plain.specs.CodeTables.{plain_codes}
+use Rattle.mt_plain.specs.PlainMacros.{plain_table}
+use Rattle.mt_rules.specs.declared.document.Formula.{Formula}
+use Rattle.mt_reader.specs.documents.Documents.{document}
+use Rattle.mt_reader.specs.documents.Limits.{max_document_pages}
+use Rattle.mt_reader.specs.documents.PageReading.{CanGoOn, IsReadOf, left_to_read}
+use Rattle.mt_pages.specs.Documents.{document_from, document_of}
+use Rattle.mt_pages.specs.Pages.{document_lines, document_pages, source_pages}
+use Rattle.mt_pages.specs.inner.Placed.{PlacedValue, place_rest}
+use Rattle.mt_pages.specs.declared.pages.Held.{Held}
+use Rattle.mt_pages.specs.declared.pages.Held.TheVariants.{Nothing, Place as HeldPlace, Setting as HeldSetting}
+use Rattle.mt_pages.specs.declared.pages.PageSetter.{PageSetter}
+use Rattle.mt_status.specs.Origins.{IsPure, Told, refusal_origin}
+use Rattle.mt_status.specs.declared.status.Status.{Status}
+
+abbrev pub is_nothing : Held → Bool
+is_nothing Nothing = true
+is_nothing held = false
+
+abbrev pub is_setting : Held → Bool
+is_setting (HeldSetting status) = true
+is_setting held = false
+
+-- what is held back is a refusal that the source gives
+abbrev pub IsTold : Held → Type 0
+IsTold Nothing = ⊤
+IsTold (HeldPlace status) = refusal_origin status ≡ Told
+IsTold (HeldSetting status) = refusal_origin status ≡ Told
+
+-- the answer where nothing more is read
+abbrev pub end_of : Held → Result (Option (List Place)) Status
+end_of Nothing = Ok None
+end_of (HeldPlace status) = Err status
+end_of (HeldSetting status) = Err status
+
+-- the document of the source is that of these tokens, or it has none
+abbrev pub AreTokensOf : SetValue → List ℕ → Result (List Token) Status → Type 0
+AreTokensOf fonts source (Ok tokens) = document_of fonts source ≡ document_from (document (units_of fonts) plain_codes plain_table tokens)
+AreTokensOf fonts source (Err status) = IsPure (document_of fonts source) (Err status)
+
+-- the pages of a document that are left, after those that are placed
+abbrev pub rest_pages : SetValue → ℤ → Result PlacedValue Status → List (List Formula) → Result (List (List Place)) Status
+rest_pages set width placed pages = document_lines set width pages >>= place_rest placed
+
+-- the same, where these pages are placed and there is room for so many places more, or by the fault that is held back
+abbrev pub rest_after : SetValue → ℤ → List (List Place) → ℕ → Held → List (List Formula) → Result (List (List Place)) Status
+rest_after set width pages room Nothing rest = rest_pages set width (Ok (record { pages = pages; room = room })) rest
+rest_after set width pages room (HeldPlace status) rest = rest_pages set width (Err status) rest
+rest_after set width pages room (HeldSetting status) rest = Err status
+
+-- these pages of the source were handed out
+pub record ArePagesOf (fonts : SetValue) (width : ℤ) (source : List ℕ) (pages : List (List Place)) (s : PageSetter) : Type 0 where
+  pub tokens : List Token
+  pub same : AreTokensOf fonts source (Ok tokens)
+  pub read : List (List Formula)
+  pub reader : IsReadOf (units_of fonts) tokens read s.reader
+  pub is : (rest : List (List Formula)) → document_pages fonts width (read ++ rest) ≡ rest_after fonts width pages s.room s.held rest
+  pub told : IsTold s.held
+  pub few : length pages ≤ s.reader.state.ended
+  pub room : length (all_places pages) + s.room ≡ max_places
+
+-- what a reader's next page is, or the refusal of the document
+abbrev pub AreFormulasOf : SetValue → List Token → List (List Formula) → PageSetter → Result (Option (List Formula)) Status → Type 0
+AreFormulasOf fonts tokens read new (Ok (Some page)) = IsReadOf (units_of fonts) tokens (read ++ page ∷ []) new.reader
+AreFormulasOf fonts tokens read new (Ok None) = document (units_of fonts) plain_codes plain_table tokens ≡ Ok read
+AreFormulasOf fonts tokens read new (Err status) = IsPure (document_from (document (units_of fonts) plain_codes plain_table tokens)) (Err status)
+
+-- nothing but the reader changes
+pub record KeepsPlaces (old new : PageSetter) : Type 0 where
+  pub room : new.room ≡ old.room
+  pub held : new.held ≡ old.held
+
+abbrev pub with_places : List (List Place) → Option (List Place) → List (List Place)
+with_places pages None = pages
+with_places pages (Some places) = pages ++ places ∷ []
+
+abbrev pub count_places : Option (List Place) → ℕ
+count_places None = 0
+count_places (Some places) = length places
+
+-- a page is set and placed, or a fault is held back
+pub record IsSet (fonts : SetValue) (width : ℤ) (page : List Formula) (old new : PageSetter) (places : Option (List Place)) : Type 0 where
+  pub is : (pages : List (List Place)) (rest : List (List Formula))
+      → rest_after fonts width pages old.room old.held (page ∷ rest) ≡ rest_after fonts width (with_places pages places) new.room new.held rest
+  pub told : IsTold old.held → IsTold new.held
+  pub room : count_places places + new.room ≡ old.room
+
+abbrev pub IsNextOf : SetValue → ℤ → List ℕ → List (List Place) → PageSetter → Result (Option (List Place)) Status → Type 0
+IsNextOf fonts width source pages new (Ok (Some places)) = ArePagesOf fonts width source (pages ++ places ∷ []) new
+IsNextOf fonts width source pages new (Ok None) = source_pages fonts width source ≡ Ok pages
+IsNextOf fonts width source pages new (Err status) = IsPure (source_pages fonts width source) (Err status)
+
+-- a page that was handed out can be written, and there is less left to be read
+pub record GoesOnAfter (fonts : SetValue) (old new : PageSetter) (page : List Place) : Type 0 where
+  pub writable : All (IsWritable fonts) page
+  pub falls : left_to_read new.reader < left_to_read old.reader
+  pub pages : new.reader.state.ended ≤ max_document_pages
+  pub more : CanGoOn new.reader
