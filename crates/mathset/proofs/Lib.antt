@@ -8,3 +8,7 @@ pub mod FontLemmas
 pub mod WidthLemmas
 -- no words and files ask for a refusal for want of memory
 pub mod NoMemory
+-- the pages of a source, in the form in which they are put out
+mod FormLemmas
+-- steps that set a source, and those that make a product of it
+mod MadeLemmas

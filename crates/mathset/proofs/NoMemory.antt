@@ -25,7 +25,7 @@ use Rattle.mt_words.specs.RequestValues.{DviValue, SampleValue, SourceValue}
 use Rattle.mathset.specs.Samples.{sample_files, sample_words, summed}
 use Rattle.mathset.specs.Steps.{gen_steps, places_steps, read_steps, request_steps, set_steps, source_step, typeset_steps}
 use Rattle.mt_pages.specs.Typeset.{TypesetValue, typeset_of}
-use Rattle.mathset.specs.declared.product.Product.TheVariants.{File, Text}
+use Rattle.mathset.specs.Product.{File, Text}
 use Rattle.mt_words.specs.declared.request.Request.{Request}
 use Rattle.mt_words.specs.declared.request.Request.TheVariants.{Set, Places, Read, Gen}
 use Rattle.mt_status.specs.declared.status.Status.{Status}

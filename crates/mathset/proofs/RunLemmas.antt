@@ -23,9 +23,8 @@ use Rattle.mathset.specs.Steps.{read_steps, typeset_steps}
 use Rattle.mt_pages.specs.Typeset.{TypesetValue}
 use Rattle.mathset.specs.Ends.{EndsAs, GotLean, GotPart, GotWhole, IsQuiet, IsToldRefusal, ListsPages, SetsAs, WritesLean, WritesWhole}
 use Rattle.mathset.specs.inner.Runs.{EndLeaves, IsRun, LeavesOutput, WritesWholeLean}
-use Rattle.mathset.specs.inner.Steps.{IsStep}
-use Rattle.mathset.specs.declared.product.Product.{Product}
-use Rattle.mathset.specs.declared.product.Product.TheVariants.{File, Text}
+use Rattle.mathset.specs.inner.Steps.{IsMade, IsStep}
+use Rattle.mathset.specs.Product.{Product, File, Text}
 use Rattle.mt_words.specs.declared.request.Request.{Request}
 use Rattle.mt_words.specs.declared.request.Request.TheVariants.{Read, Set}
 use Rattle.mt_status.specs.declared.status.Status.{Status}
@@ -144,22 +143,22 @@ err_run holds reads last written writes steps cabinet cabinet' out out' status s
   kept = step.kept;
 }
 
--- steps, and the end that their answer comes to
+-- steps, and the end that what they make comes to
 pub is_run : {C K : Type 0} (holds : C → Option (List Held)) (reads : C → ℕ) (last : C → Option (List ℕ)) (written : K → Option (List ℕ)) (writes : K → ℕ) (steps : List Held → Outcome Product)
-    (cabinet cabinet' : C) (out out' : K) (made : Result Product Status) (status : Status) → IsStep holds reads last cabinet cabinet' steps made
+    (cabinet cabinet' : C) (out out' : K) (made : Result (List ℕ) Status) (status : Status) → IsMade holds reads last cabinet cabinet' steps made
     → EndLeaves written writes made out out' status → IsRun holds reads last written writes steps cabinet cabinet' out out' status
-is_run holds reads last written writes steps cabinet cabinet' out out' (Ok product) status step end =
-    ok_run holds reads last written writes steps cabinet cabinet' out out' product status step end
+is_run holds reads last written writes steps cabinet cabinet' out out' (Ok bytes) status made end =
+    ok_run holds reads last written writes steps cabinet cabinet' out out' made.product status made.step (end made.product made.made made.lean)
 is_run holds reads last written writes steps cabinet cabinet' out out' (Err refusal) status step end =
     subst (λ (s : Status). IsRun holds reads last written writes steps cabinet cabinet' out out' s) (sym end.0)
     (err_run holds reads last written writes steps cabinet cabinet' out out' refusal step end.1)
 
 -- steps refuse no words
 pub not_words : {C K : Type 0} (holds : C → Option (List Held)) (reads : C → ℕ) (last : C → Option (List ℕ)) (written : K → Option (List ℕ)) (writes : K → ℕ) (steps : List Held → Outcome Product)
-    (cabinet cabinet' : C) (out out' : K) (made : Result Product Status) (status : Status) → IsStep holds reads last cabinet cabinet' steps made
+    (cabinet cabinet' : C) (out out' : K) (made : Result (List ℕ) Status) (status : Status) → IsMade holds reads last cabinet cabinet' steps made
     → EndLeaves written writes made out out' status → status ≡ BadWords → ⊥
-not_words holds reads last written writes steps cabinet cabinet' out out' (Ok product) status step end is =
-    subst (λ (s : Status). LeavesOutput written writes product out out' s) is end
+not_words holds reads last written writes steps cabinet cabinet' out out' (Ok bytes) status made end is =
+    subst (λ (s : Status). LeavesOutput written writes made.product out out' s) is (end made.product made.made made.lean)
 not_words holds reads last written writes steps cabinet cabinet' out out' (Err refusal) status step end is =
     (subst (λ (s : Status). IsStep {T = Product} holds reads last cabinet cabinet' steps (Err s)) (sym end.0 ∙ is) step).origin
 

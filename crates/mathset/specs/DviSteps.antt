@@ -9,8 +9,7 @@ use Rattle.mathset.specs.Limits.{max_dvi}
 use Rattle.mt_pages.specs.Listing.{listing}
 use Rattle.mathset.specs.Outcome.{Outcome, plain, ◌>>=◌}
 use Rattle.mathset.specs.Reads.{file_of}
-use Rattle.mathset.specs.declared.product.Product.{Product}
-use Rattle.mathset.specs.declared.product.Product.TheVariants.{Text}
+use Rattle.mathset.specs.Product.{Product, Text}
 use Rattle.mt_status.specs.declared.status.Status.{Status}
 use Rattle.mt_status.specs.declared.status.Status.TheVariants.{BadDvi}
 

@@ -1,9 +1,15 @@
 -- What a run is to write (`Makes`): a DVI file of pages, or a text; and which files are lean (`IsLean`).
 use Rattle.std.specs.Prelude.{◌≡◌, ℕ, List, ⊤}
+use Rattle.mt_pages.specs.Typeset.{TypesetValue}
 use Rattle.mt_dvi.specs.Lean.{Lean}
 use Rattle.mt_dvi.specs.Written.{Written}
-use Rattle.mathset.specs.declared.product.Product.{Product}
-use Rattle.mathset.specs.declared.product.Product.TheVariants.{File, Text}
+
+-- what a run is to write
+pub data Product : Type 0 where
+  -- one DVI file of these pages
+  File : (typeset : TypesetValue) → Product
+  -- these bytes
+  Text : (text : List ℕ) → Product
 
 -- the bytes are the product: one DVI file of these pages in these fonts, or exactly this text
 abbrev pub Makes : Product → List ℕ → Type 0

@@ -9,8 +9,7 @@ use Rattle.mt_pages.specs.Listing.{summary}
 use Rattle.mt_words.specs.Limits.{default_line}
 use Rattle.mt_words.specs.RequestValues.{SourceValue}
 use Rattle.mt_pages.specs.Typeset.{TypesetValue}
-use Rattle.mathset.specs.declared.product.Product.{Product}
-use Rattle.mathset.specs.declared.product.Product.TheVariants.{Text}
+use Rattle.mathset.specs.Product.{Product, Text}
 use Rattle.mt_status.specs.declared.status.Status.{Status}
 
 -- the toy font list and the generated source, on lines of the width that words give by default

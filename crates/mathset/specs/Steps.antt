@@ -11,8 +11,7 @@ use Rattle.mathset.specs.Reads.{file_of}
 use Rattle.mt_words.specs.RequestValues.{SourceValue, DviValue, SampleValue}
 use Rattle.mathset.specs.Samples.{sample_files, sample_words, summed}
 use Rattle.mt_pages.specs.Typeset.{TypesetValue, typeset_of}
-use Rattle.mathset.specs.declared.product.Product.{Product}
-use Rattle.mathset.specs.declared.product.Product.TheVariants.{File, Text}
+use Rattle.mathset.specs.Product.{Product, File, Text}
 use Rattle.mt_words.specs.declared.request.Request.{Request}
 use Rattle.mt_words.specs.declared.request.Request.TheVariants.{Set, Places, Read, Gen}
 

@@ -1,34 +1,30 @@
 //! The commands, from their files to what is to be written.
-ghost use Rattle.mathset.specs.inner.Steps.{IsStep};
+ghost use Rattle.mathset.specs.inner.Steps.{IsMade};
 ghost use Rattle.mathset.specs.Steps.{places_steps, request_steps, set_steps};
 
 use crate::dvi::read;
-use crate::product::Product;
 use crate::sample::generated_summary;
-use crate::typesetting::typeset;
+use crate::typesetting::{Form, typeset};
 use mt_outside::Cabinet;
-use mt_pages::listing;
+use mt_scaled::Bytes;
 use mt_status::Status;
 use mt_words::{Request, Source};
 use std::alloc::Global;
 
 // `set`: the DVI file of the source's pages.
-fn set<C: Cabinet>(alloc: Global, words: &Source<'_>, cabinet: &mut C) -> Result<Product, Status>
-    ensures is { IsStep C.holds C.faults C.lost cabinet.old cabinet.new
+fn set<C: Cabinet>(alloc: Global, words: &Source<'_>, cabinet: &mut C) -> Result<Bytes, Status>
+    ensures is { IsMade C.holds C.faults C.lost cabinet.old cabinet.new
         (set_steps words.now) result }
 {
-    let typeset = typeset(alloc, words, cabinet)?;
-    Ok(Product::File(typeset))
+    typeset(alloc, words, Form::File, cabinet)
 }
 
 // `places`: the listing of the same pages.
-fn places<C: Cabinet>(alloc: Global, words: &Source<'_>, cabinet: &mut C) -> Result<Product, Status>
-    ensures is { IsStep C.holds C.faults C.lost cabinet.old cabinet.new
+fn places<C: Cabinet>(alloc: Global, words: &Source<'_>, cabinet: &mut C) -> Result<Bytes, Status>
+    ensures is { IsMade C.holds C.faults C.lost cabinet.old cabinet.new
         (places_steps words.now) result }
 {
-    let typeset = typeset(alloc, words, cabinet)?;
-    let text = listing(alloc, &typeset.pages)?;
-    Ok(Product::Text(text))
+    typeset(alloc, words, Form::Listing, cabinet)
 }
 
 /// Does what a command line asks for, up to what is to be written.
@@ -40,8 +36,8 @@ pub fn perform<C: Cabinet>(
     alloc: Global,
     request: &Request<'_>,
     cabinet: &mut C,
-) -> Result<Product, Status>
-    ensures is { IsStep C.holds C.faults C.lost cabinet.old cabinet.new
+) -> Result<Bytes, Status>
+    ensures is { IsMade C.holds C.faults C.lost cabinet.old cabinet.new
         (request_steps request.now) result }
 {
     match request {

@@ -4,16 +4,16 @@ ghost use Rattle.mt_dvi.specs.File.{Fault};
 ghost use Rattle.mt_dviread.specs.Faults.{fault_of};
 ghost use Rattle.mathset.specs.DviSteps.{dvi_listing, dvi_refusal, dvi_step};
 ghost use Rattle.mt_status.specs.Origins.{IsPure};
-ghost use Rattle.mathset.specs.inner.Steps.{IsStep};
+ghost use Rattle.mathset.specs.inner.Steps.{IsMade, IsStep, text_of};
 ghost use Rattle.mathset.specs.Steps.{read_steps};
 
 use crate::fetch::fetch_file;
 use crate::fonts::read_font_set;
-use crate::product::Product;
 use mt_dviread::{DviError, MAX_DVI, read_dvi};
 use mt_family::FontSet;
 use mt_outside::Cabinet;
 use mt_pages::listing;
+use mt_scaled::Bytes;
 use mt_status::Status;
 use mt_words::DviSource;
 use std::alloc::Global;
@@ -33,11 +33,11 @@ fn dvi_refusal(error: DviError) -> Status
 }
 
 // The listing of a DVI file's pages.
-fn dvi_listing(alloc: Global, fonts: &FontSet, bytes: &[u8]) -> Result<Product, Status>
-    ensures is { IsPure (dvi_listing fonts.now bytes.now) result }
+fn dvi_listing(alloc: Global, fonts: &FontSet, bytes: &[u8]) -> Result<Bytes, Status>
+    ensures is { IsPure (dvi_listing fonts.now bytes.now) (text_of result) }
 {
     match read_dvi(alloc, fonts, bytes) {
-        Ok(pages) => Ok(Product::Text(listing(alloc, &pages)?)),
+        Ok(pages) => Ok(listing(alloc, &pages)?),
         Err(error) => Err(dvi_refusal(error)),
     }
 }
@@ -47,15 +47,15 @@ fn read_file<C: Cabinet>(
     name: &str,
     fonts: &FontSet,
     cabinet: &mut C,
-) -> Result<Product, Status>
+) -> Result<Bytes, Status>
     ensures is { IsStep C.holds C.faults C.lost cabinet.old cabinet.new
-        (dvi_step name.now fonts.now) result }
+        (dvi_step name.now fonts.now) (text_of result) }
 {
     let bytes = fetch_file(alloc, cabinet, name, MAX_DVI)?;
     dvi_listing(alloc, fonts, bytes.as_slice())
 }
 
-/// Reads the font list, its fonts and the DVI file: the product is the listing of the file's pages.
+/// Reads the font list, its fonts and the DVI file: what is made is the listing of the file's pages.
 ///
 /// # Errors
 ///
@@ -66,8 +66,8 @@ pub fn read<C: Cabinet>(
     alloc: Global,
     words: &DviSource<'_>,
     cabinet: &mut C,
-) -> Result<Product, Status>
-    ensures is { IsStep C.holds C.faults C.lost cabinet.old cabinet.new
+) -> Result<Bytes, Status>
+    ensures is { IsMade C.holds C.faults C.lost cabinet.old cabinet.new
         (read_steps words.now) result }
 {
     let fonts = read_font_set(alloc, words.fonts, cabinet)?;

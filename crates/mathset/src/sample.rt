@@ -4,11 +4,10 @@ ghost use Rattle.mt_outside.specs.declared.files.Held.{Held as HeldFields};
 ghost use Rattle.mathset.specs.Samples.{sample_files, sample_words, summed};
 ghost use Rattle.mathset.specs.Steps.{typeset_steps};
 ghost use Rattle.mt_status.specs.Origins.{IsPure};
+ghost use Rattle.mathset.specs.inner.Steps.{text_of};
 
-use crate::product::Product;
-use crate::typesetting::typeset;
+use crate::typesetting::{Form, typeset};
 use mt_outside::{FileList, Held, SteadyCabinet};
-use mt_pages::{Typeset, summary};
 use mt_samples::{Toy, generate, toy_list, toy_tfm};
 use mt_scaled::{Bytes, Name};
 use mt_status::Status;
@@ -39,9 +38,14 @@ fn sample_files(alloc: Global, sample: &Sample) -> Result<FileList, AllocError>
     Ok(FileList::from_vec(files))
 }
 
-fn typeset_sample(alloc: Global, sample: &Sample) -> Result<Typeset, Status>
-    ensures is { IsPure (typeset_steps sample_words
-        (sample_files sample.now.seed sample.now.count)).result result }
+/// Sets generated formulas with the toy fonts: what is made is the summary of their pages.
+///
+/// # Errors
+///
+/// Those of a source that is set; `OutOfMemory` where memory ran out.
+pub fn generated_summary(alloc: Global, sample: &Sample) -> Result<Bytes, Status>
+    ensures is { IsPure (summed sample.now.count (typeset_steps sample_words
+        (sample_files sample.now.seed sample.now.count)).result) (text_of result) }
 {
     let mut cabinet = SteadyCabinet::new(sample_files(alloc, sample)?);
     let words = Source {
@@ -49,19 +53,5 @@ fn typeset_sample(alloc: Global, sample: &Sample) -> Result<Typeset, Status>
         source: "generated.tex",
         line: DEFAULT_LINE,
     };
-    typeset(alloc, &words, &mut cabinet)
-}
-
-/// Sets generated formulas with the toy fonts: the product is the summary of their pages.
-///
-/// # Errors
-///
-/// Those of a source that is set; `OutOfMemory` where memory ran out.
-pub fn generated_summary(alloc: Global, sample: &Sample) -> Result<Product, Status>
-    ensures is { IsPure (summed sample.now.count (typeset_steps sample_words
-        (sample_files sample.now.seed sample.now.count)).result) result }
-{
-    let typeset = typeset_sample(alloc, sample)?;
-    let text = summary(alloc, sample.count, &typeset.pages)?;
-    Ok(Product::Text(text))
+    typeset(alloc, &words, Form::Summary(sample.count), &mut cabinet)
 }

@@ -1,35 +1,64 @@
 //! A source set in the fonts of a font list.
 ghost use Rattle.std.specs.Prelude.{◌≤◌, length};
 ghost use Rattle.mt_pages.specs.LineWidth.{IsLineWidth};
-ghost use Rattle.mathset.specs.inner.Steps.{IsStep};
+ghost use Rattle.mt_pages.specs.Typeset.{typeset_of};
+ghost use Rattle.mathset.specs.inner.Forms.{IsPutOut, IsSetAs};
 ghost use Rattle.mathset.specs.Steps.{source_step, typeset_steps};
 
 use crate::fetch::fetch_file;
 use crate::fonts::read_font_set;
 use mt_family::FontSet;
 use mt_outside::Cabinet;
-use mt_pages::{Typeset, typeset_source};
+use mt_pages::{source_file, source_listing, source_summary};
+use mt_scaled::Bytes;
 use mt_status::Status;
 use mt_token::MAX_SOURCE;
 use mt_words::Source;
 use std::alloc::Global;
 
-fn read_source<C: Cabinet>(
-    alloc: Global,
-    name: &str,
-    width: i64,
-    fonts: FontSet,
-    cabinet: &mut C,
-) -> Result<Typeset, Status>
-    requires width { IsLineWidth width }
-    ensures is { IsStep C.holds C.faults C.lost cabinet.old cabinet.new
-        (source_step name.now width fonts) result }
-{
-    let source = fetch_file(alloc, cabinet, name, MAX_SOURCE as u64)?;
-    typeset_source(alloc, fonts, width, source.as_slice())
+/// In which form the pages of a source are put out.
+#[derive(Clone, Copy)]
+pub enum Form {
+    /// A DVI file.
+    File,
+    /// Their listing.
+    Listing,
+    /// Their summary, which so many formulas gave.
+    Summary(u32),
 }
 
-/// Reads the font list, its fonts and the source, and sets the source in these fonts.
+fn put_out(
+    alloc: Global,
+    form: Form,
+    fonts: &FontSet,
+    width: i64,
+    source: &[u8],
+) -> Result<Bytes, Status>
+    requires width { IsLineWidth width }
+    ensures is { IsPutOut form (typeset_of fonts.now width source.now) result }
+{
+    match form {
+        Form::File => source_file(alloc, fonts, width, source),
+        Form::Listing => source_listing(alloc, fonts, width, source),
+        Form::Summary(formulas) => source_summary(alloc, fonts, width, formulas, source),
+    }
+}
+
+fn set_source<C: Cabinet>(
+    alloc: Global,
+    words: &Source<'_>,
+    form: Form,
+    fonts: &FontSet,
+    cabinet: &mut C,
+) -> Result<Bytes, Status>
+    ensures is { IsSetAs C.holds C.faults C.lost cabinet.old cabinet.new
+        (source_step words.now.source words.now.line fonts.now) form result }
+{
+    let source = fetch_file(alloc, cabinet, words.source, MAX_SOURCE as u64)?;
+    put_out(alloc, form, fonts, words.line, source.as_slice())
+}
+
+/// Reads the font list, its fonts and the source, sets the source in these fonts and puts its pages out.
 ///
 /// # Errors
 ///
@@ -37,11 +66,12 @@ fn read_source<C: Cabinet>(
 pub fn typeset<C: Cabinet>(
     alloc: Global,
     words: &Source<'_>,
+    form: Form,
     cabinet: &mut C,
-) -> Result<Typeset, Status>
-    ensures is { IsStep C.holds C.faults C.lost cabinet.old cabinet.new
-        (typeset_steps words.now) result }
+) -> Result<Bytes, Status>
+    ensures is { IsSetAs C.holds C.faults C.lost cabinet.old cabinet.new
+        (typeset_steps words.now) form result }
 {
     let fonts = read_font_set(alloc, words.fonts, cabinet)?;
-    read_source(alloc, words.source, words.line, fonts, cabinet)
+    set_source(alloc, words, form, &fonts, cabinet)
 }

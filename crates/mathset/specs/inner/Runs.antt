@@ -4,7 +4,7 @@ use Rattle.mt_outside.specs.Counts.{Rose}
 use Rattle.mt_outside.specs.declared.files.Held.{Held}
 use Rattle.mathset.specs.Ends.{Gives, GotLean, GotPart, IsQuiet, IsReadFaultOrNoMemory, IsToldRefusal, IsWriteFault, WritesPart}
 use Rattle.mathset.specs.Outcome.{Outcome}
-use Rattle.mathset.specs.declared.product.Product.{Product}
+use Rattle.mathset.specs.Product.{IsLean, Makes, Product}
 use Rattle.mt_status.specs.declared.status.Status.{Status}
 use Rattle.mt_status.specs.declared.status.Status.TheVariants.{Done, ReadFault, WriteFault, OutOfMemory}
 
@@ -31,7 +31,7 @@ LeavesOutput written writes product out out' (WriteFault count) = Rose (writes o
 LeavesOutput written writes product out out' OutOfMemory = out' ≡ out
 LeavesOutput written writes product out out' status = ⊥
 
--- what the end of a run leaves: the product is written, or the refusal is the status
-abbrev pub EndLeaves : {K : Type 0} → (K → Option (List ℕ)) → (K → ℕ) → Result Product Status → K → K → Status → Type 0
-EndLeaves written writes (Ok product) out out' status = LeavesOutput written writes product out out' status
+-- what the end of a run leaves: what was made is written, or the refusal is the status
+abbrev pub EndLeaves : {K : Type 0} → (K → Option (List ℕ)) → (K → ℕ) → Result (List ℕ) Status → K → K → Status → Type 0
+EndLeaves written writes (Ok bytes) out out' status = (product : Product) → Makes product bytes → IsLean product bytes → LeavesOutput written writes product out out' status
 EndLeaves written writes (Err refusal) out out' status = (status ≡ refusal) × (out' ≡ out)

@@ -1,11 +1,12 @@
 -- What a step leaves of its cabinet (`IsStep`).
-use Rattle.std.specs.Prelude.{◌≡◌, ◌≤◌, ℕ, List, Option, Some, Result, Contains, ⊤}
+use Rattle.std.specs.Prelude.{◌≡◌, ◌≤◌, ℕ, List, Option, Some, Result, Ok, Err, Contains, ⊤}
 use Rattle.mt_outside.specs.Counts.{Rose}
 use Rattle.mt_outside.specs.declared.files.Held.{Held}
 use Rattle.mt_outside.specs.declared.cabinet.FetchError.{FetchError}
 use Rattle.mt_outside.specs.declared.cabinet.FetchError.TheVariants.{Failed, TooLong as FileTooLong, OutOfMemory as NoFetchMemory}
 use Rattle.mt_status.specs.Origins.{Origin, Told, Lost, Memory, Never, origin_of}
 use Rattle.mathset.specs.Outcome.{Outcome}
+use Rattle.mathset.specs.Product.{IsLean, Makes, Product, Text}
 use Rattle.mt_status.specs.declared.status.Status.{Status}
 use Rattle.mt_status.specs.declared.status.Status.TheVariants.{ReadFault, TooLong, OutOfMemory}
 
@@ -38,3 +39,24 @@ IsFetchRefusal word Failed (ReadFault name) = name ≡ word
 IsFetchRefusal word FileTooLong (TooLong name) = name ≡ word
 IsFetchRefusal word NoFetchMemory OutOfMemory = ⊤
 IsFetchRefusal word error status = ⊥
+
+-- what is made is a text
+abbrev pub text_of : Result (List ℕ) Status → Result Product Status
+text_of (Ok text) = Ok (Text text)
+text_of (Err status) = Err status
+
+-- the bytes are the product of the steps, and lean
+pub record MakesProduct (before now : CabinetValue) (steps : List Held → Outcome Product) (bytes : List ℕ) : Type 0 where
+  pub product : Product
+  pub made : Makes product bytes
+  pub lean : IsLean product bytes
+  pub step : StepLeaves before now steps (Ok product)
+
+abbrev pub StepMakes : CabinetValue → CabinetValue → (List Held → Outcome Product) → Result (List ℕ) Status → Type 0
+StepMakes before now steps (Ok bytes) = MakesProduct before now steps bytes
+StepMakes before now steps (Err status) = StepLeaves before now steps (Err status)
+
+-- the same, with the three meanings of a cabinet and its states before and after the step
+abbrev pub IsMade : {C : Type 0} → (C → Option (List Held)) → (C → ℕ) → (C → Option (List ℕ)) → C → C → (List Held → Outcome Product) → Result (List ℕ) Status → Type 0
+IsMade holds faults lost before now steps result =
+    StepMakes (record { holds = holds before; faults = faults before; lost = lost before }) (record { holds = holds now; faults = faults now; lost = lost now }) steps result

@@ -162,6 +162,35 @@ fn needs_a_font(rt: HostRuntime) {
     );
 }
 
+#[test]
+fn tells_a_fault_of_reading_before_one_of_setting(rt: HostRuntime) {
+    let alloc = rt.alloc();
+    let fonts = fonts(&rt, alloc, Some(NO_ROMAN));
+    let status = refusal(&rt, alloc, &fonts, b"$a^1$\\eject b");
+    assert!(rt; matches!(status, Status::BadFormula { n: 2, .. }));
+}
+
+#[test]
+fn tells_the_first_fault_of_setting(rt: HostRuntime) {
+    let alloc = rt.alloc();
+    let fonts = fonts(&rt, alloc, Some(NO_ROMAN));
+    let status = refusal(&rt, alloc, &fonts, b"$a$ $a^1$\\eject$a_2$");
+    assert!(rt; matches!(status, Status::MissingFamily { n: 2, .. }));
+}
+
+#[test]
+fn tells_a_fault_of_setting_before_one_of_a_place(rt: HostRuntime) {
+    let alloc = rt.alloc();
+    let fonts = fonts(&rt, alloc, Some(NO_ROMAN));
+    // Line 1,367 is more than 16384pt below the first.
+    let lines = repeated(&rt, alloc, 1_400, b"", b"$a$ ", b"");
+    let status = refusal(&rt, alloc, &fonts, &lines);
+    assert!(rt; matches!(status, Status::Overflow { .. }));
+    let source = repeated(&rt, alloc, 1_400, b"", b"$a$ ", b"\\eject$a^1$");
+    let status = refusal(&rt, alloc, &fonts, &source);
+    assert!(rt; matches!(status, Status::MissingFamily { n: 1_401, .. }));
+}
+
 /// A text that stands so many times before a letter, another one that stands as often after it,
 /// how many places that makes, and the last of them by its font, h and v.
 type Nest = (&'static [u8], &'static [u8], usize, usize, (u16, i64, i64));

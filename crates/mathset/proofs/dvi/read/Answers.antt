@@ -4,13 +4,15 @@ use Rattle.mt_outside.specs.declared.files.Held.{Held}
 use Rattle.mt_family.specs.SetValue.{SetValue}
 use Rattle.mathset.specs.DviSteps.{dvi_step}
 use Rattle.mathset.specs.FontSteps.{font_set_step}
-use Rattle.mathset.specs.declared.product.Product.{Product}
+use Rattle.mathset.specs.Product.{Product}
+use Rattle.mathset.specs.inner.Steps.{text_of}
+use Rattle.mathset.proofs.MadeLemmas.{text_made}
 use Rattle.mathset.proofs.StepLemmas.{step_then, step_err}
 use Rattle.mathset.proofs.dvi.read.Goals as goal
 
 pub returns : goal.returns
 returns g c = record {
-  is = rw (← c.words.view_is) (step_then _ _ _ (font_set_step c.words.inside.fonts.now) c.in_ok-fonts.fonts (dvi_step c.words.inside.dvi.now) c.read_file.result c.in_ok-fonts.ensures.is c.read_file.ensures.is);
+  is = rw (← c.words.view_is) (text_made _ _ _ c.read_file.result (step_then _ _ _ (font_set_step c.words.inside.fonts.now) c.in_ok-fonts.fonts (dvi_step c.words.inside.dvi.now) (text_of c.read_file.result) c.in_ok-fonts.ensures.is c.read_file.ensures.is));
 }
 
 pub returns-in_err-fonts : goal.returns-in_err-fonts

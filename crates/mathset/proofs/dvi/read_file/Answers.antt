@@ -5,7 +5,7 @@ use Rattle.mathset.specs.DviSteps.{dvi_listing}
 use Rattle.mathset.specs.Limits.{max_dvi}
 use Rattle.mathset.specs.Outcome.{plain}
 use Rattle.mathset.specs.Reads.{file_of}
-use Rattle.mathset.specs.declared.product.Product.{Product}
+use Rattle.mathset.specs.Product.{Product}
 use Rattle.mathset.proofs.StepLemmas.{step_err}
 use Rattle.mathset.proofs.dvi.read_file.Goals as goal
 

@@ -5,14 +5,15 @@ use Rattle.mt_family.specs.SetValue.{SetValue}
 use Rattle.mathset.specs.FontSteps.{font_set_step}
 use Rattle.mathset.specs.Steps.{source_step}
 use Rattle.mt_pages.specs.Typeset.{TypesetValue}
-use Rattle.mathset.proofs.WidthLemmas.{line_kept}
-use Rattle.mathset.proofs.StepLemmas.{step_then, step_err}
+use Rattle.mathset.proofs.MadeLemmas.{puts_then}
+use Rattle.mathset.proofs.StepLemmas.{step_err}
 use Rattle.mathset.proofs.typesetting.typeset.Goals as goal
 
 pub returns : goal.returns
 returns g c = record {
   is =
-      rw (← c.words.view_is) (step_then _ _ _ (font_set_step c.words.inside.fonts.now) c.in_ok-fonts.fonts (source_step c.words.inside.source.now c.words.inside.line) c.read_source.result c.in_ok-fonts.ensures.is (rw (line_kept c.words.inside.line c.words.invariant.0 c.words.invariant.1) at c.read_source.ensures.is));
+      rw (← c.words.view_is)
+      (puts_then _ _ _ (font_set_step c.words.inside.fonts.now) c.in_ok-fonts.fonts (source_step c.words.inside.source.now c.words.inside.line) c.args.form c.set_source.result c.in_ok-fonts.ensures.is (rw (← c.words.view_is) at c.set_source.ensures.is));
 }
 
 pub returns-in_err-fonts : goal.returns-in_err-fonts

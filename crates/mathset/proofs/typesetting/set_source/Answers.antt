@@ -1,0 +1,27 @@
+use Rattle.std.proofs.Common.{ℕ, List}
+use Rattle.std.proofs.lemmas.Result.{err_from_is_err_and}
+use Rattle.mt_outside.specs.declared.files.Held.{Held}
+use Rattle.mt_token.specs.Tokens.{max_source}
+use Rattle.mathset.specs.Outcome.{plain}
+use Rattle.mathset.specs.Reads.{file_of}
+use Rattle.mt_pages.specs.Typeset.{TypesetValue, typeset_of}
+use Rattle.mathset.proofs.MadeLemmas.{put_step}
+use Rattle.mathset.proofs.StepLemmas.{step_err}
+use Rattle.mathset.proofs.WidthLemmas.{line_kept}
+use Rattle.mathset.proofs.typesetting.set_source.Goals as goal
+
+pub returns : goal.returns
+returns g c = record {
+  is =
+      rw (← c.words.view_is)
+      (put_step _ _ (file_of c.words.inside.source.now max_source) _ (typeset_of c.args.fonts.now c.words.inside.line) c.args.form c.put_out.result c.in_ok-source.ensures.is
+      (rw (line_kept c.words.inside.line c.words.invariant.0 c.words.invariant.1, c.as_slice.ensures) at c.put_out.ensures.is));
+}
+
+pub returns-in_err-source : goal.returns-in_err-source
+returns-in_err-source g c = record {
+  is =
+      let p = err_from_is_err_and c.from_residual.result c.from_residual.ensures.1 in
+      rw (p.1, p.2, ← c.words.view_is)
+      (step_err {T = List ℕ} {U = TypesetValue} _ _ (file_of c.words.inside.source.now max_source) (λ (held : List Held) (source : List ℕ). plain (typeset_of c.args.fonts.now c.words.inside.line source)) c.in_err-source.field-0.0 c.in_err-source.ensures.is);
+}
