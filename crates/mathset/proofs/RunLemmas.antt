@@ -13,7 +13,7 @@ use Rattle.mt_dvi.proofs.WholeFile.{reads_back}
 use Rattle.mathset.specs.Answer.{steps, steps_by}
 use Rattle.mathset.specs.DviSteps.{dvi_by, dvi_listing, dvi_step}
 use Rattle.mathset.specs.FontSteps.{font_set_step}
-use Rattle.mathset.specs.Limits.{max_dvi}
+use Rattle.mt_dvi.specs.Limits.{max_dvi}
 use Rattle.mt_pages.specs.Listing.{listing}
 use Rattle.mathset.specs.Reads.{file_of}
 use Rattle.mathset.specs.Outcome.{Outcome, outcome_after, plain}

@@ -5,7 +5,7 @@ use Rattle.mt_family.specs.SetValue.{SetValue}
 use Rattle.mt_box.specs.declared.place.Place.{Place}
 use Rattle.mt_dvi.specs.File.{Fault, pages_of}
 use Rattle.mt_dviread.specs.Errors.{dvi_cause_number}
-use Rattle.mathset.specs.Limits.{max_dvi}
+use Rattle.mt_dvi.specs.Limits.{max_dvi}
 use Rattle.mt_pages.specs.Listing.{listing}
 use Rattle.mathset.specs.Outcome.{Outcome, plain, ◌>>=◌}
 use Rattle.mathset.specs.Reads.{file_of}

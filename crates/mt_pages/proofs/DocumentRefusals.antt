@@ -25,6 +25,7 @@ use Rattle.mt_scan.specs.declared.fault.ReadCause.{ReadCause}
 use Rattle.mt_scan.specs.declared.fault.ReadCause.TheVariants.{UnknownName, DoubleScript, TwoFractions, BadDelimiter, Unbalanced, MisplacedLimits, MissingField, BadNumber, BadDimension, MisplacedNumber, TooDeep as TooManyGroups}
 use Rattle.mt_scan.specs.Parts.{Read, ReadOr, Got, Fault, NoTurn}
 use Rattle.mt_formula.specs.Formulas.{Reading, Reads, ReadFault, NotReadInTurns, reading}
+use Rattle.mt_reader.specs.documents.Limits.{max_total_tokens}
 use Rattle.mt_reader.specs.declared.outside_cause.OutsideCause.{OutsideCause}
 use Rattle.mt_reader.specs.declared.outside_role.OutsideRole.{OutsideRole}
 use Rattle.mt_reader.specs.declared.outside_role.OutsideRole.TheVariants.{Passed, Defines, SetsMathCode, SetsDelimiterCode, BeginsFormula, EndsPage, EndsDocument, Misplaced}
@@ -172,7 +173,7 @@ reading_avoids units s display total rest (ReadFault cause place) = cause_avoids
 reading_avoids units s display total rest NotReadInTurns = λ same. cc
 reading_avoids units s display total rest (Reads body tag) = tt
 
-expanded_avoids : (units : Units) (s : DocumentState) (display : Bool) (rest list : List Token) (b : Bool) → nat_lt 1000000 (s.total + length list) ≡ b
+expanded_avoids : (units : Units) (s : DocumentState) (display : Bool) (rest list : List Token) (b : Bool) → nat_lt max_total_tokens (s.total + length list) ≡ b
     → TurnAvoids (after_expansion units s display rest (Expanded list))
 expanded_avoids units s display rest list true e = rw (e, TurnAvoids) (λ same. cc)
 expanded_avoids units s display rest list false e = rw (e, TurnAvoids) (reading_avoids units s display (s.total + length list) rest (reading s.tables units display list))

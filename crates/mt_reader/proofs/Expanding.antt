@@ -2,7 +2,7 @@
 use Rattle.std.proofs.Common.{◌≡◌, ℕ, zero, suc, ◌+◌, ◌≤◌, Bool, true, false, List, length, refl, arith, ap}
 use Rattle.std.specs.Prelude.{Option, Some, None, Result, Ok, Err, IfOk, nat_lt, if◌then◌else◌}
 use Rattle.mt_token.specs.declared.token.Token.{Token}
-use Rattle.mt_macro.specs.Limits.{max_tokens}
+use Rattle.mt_macro.specs.Limits.{max_tokens, max_steps}
 use Rattle.mt_macro.specs.Braces.{first_unmatched}
 use Rattle.mt_macro.specs.Table.{Table}
 use Rattle.mt_macro.specs.Expansion.{MacroStep, Done, Missing, Next, macro_step, Expansion, Expanded, OverBudget, ListTooLong, at_last, further, run, unless_unmatched, expansion, Expands}
@@ -41,8 +41,8 @@ given_short false answer out short e = short e
 
 pub expanded_short : (table : Table) (list out : List Token) → expansion table list ≡ Expanded out → length out ≤ max_tokens
 expanded_short table list out e =
-    given_short (nat_lt max_tokens (length list)) (unless_unmatched (first_unmatched 0 list) (run table 20000 0 list)) out
-    (matched_short (first_unmatched 0 list) (run table 20000 0 list) out (run_short table 20000 0 list out)) e
+    given_short (nat_lt max_tokens (length list)) (unless_unmatched (first_unmatched 0 list) (run table max_steps 0 list)) out
+    (matched_short (first_unmatched 0 list) (run table max_steps 0 list) out (run_short table 20000 0 list out)) e
 
 pub answer_short : (table : Table) (list : List Token) (answer : Result (List Token) ExpandError) → Expands answer (expansion table list) → IfOk answer (λ out. length out ≤ max_tokens)
 answer_short table list (Ok out) e = expanded_short table list out e

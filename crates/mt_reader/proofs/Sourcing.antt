@@ -48,7 +48,7 @@ the_result r = r
 never_long : (list : List Token) → ¬ (the_result (Ok list) ≡ Err TooLong)
 never_long list e = cc
 
-pub few_tokens : (list : List Token) (n : ℕ) → ((the_result (Ok list) ≡ Err TooLong) ↔ (max_source < n)) → SpansInOrder 0 list n → length list ≤ 4194304
+pub few_tokens : (list : List Token) (n : ℕ) → ((the_result (Ok list) ≡ Err TooLong) ↔ (max_source < n)) → SpansInOrder 0 list n → length list ≤ max_source
 few_tokens list n long ordered =
     let few : 0 + length list ≤ n = spans_few 0 n list ordered in
     let bound : n ≤ max_source = below_or_over (nat_lt max_source n) n refl (λ over. never_long list (long.1 over)) in

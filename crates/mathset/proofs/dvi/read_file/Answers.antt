@@ -2,7 +2,7 @@ use Rattle.std.proofs.Common.{ℕ, List}
 use Rattle.std.proofs.lemmas.Result.{err_from_is_err_and}
 use Rattle.mt_outside.specs.declared.files.Held.{Held}
 use Rattle.mathset.specs.DviSteps.{dvi_listing}
-use Rattle.mathset.specs.Limits.{max_dvi}
+use Rattle.mt_dvi.specs.Limits.{max_dvi}
 use Rattle.mathset.specs.Outcome.{plain}
 use Rattle.mathset.specs.Reads.{file_of}
 use Rattle.mathset.specs.Product.{Product}
