@@ -1,6 +1,8 @@
 -- Pages that are set and placed one after another, with the first fault held back.
 use Rattle.std.proofs.Common.{◌≡◌, ℕ, ◌+◌, ◌-◌, ◌≤◌, true, false, List, [], ◌∷◌, ◌++◌, length, refl, sym, ◌∙◌, ap, subst, arith}
-use Rattle.std.specs.Prelude.{ℤ, Option, Some, None, Result, Ok, Err, All, IfSome}
+use Rattle.std.specs.Prelude.{ℤ, Option, Some, None, Result, Ok, Err, All, IfOk, IfSome, IsErr, nat_lt}
+use Rattle.std.proofs.lemmas.Bool.Decides.{nat_tests}
+use Rattle.std.proofs.lemmas.List.Elements.{All-append, All-cons, All-nil}
 use Rattle.std.proofs.lemmas.List.{append-nil, append_assoc, length-append}
 use Rattle.std.proofs.lemmas.List.Sums.{count_by-le-length}
 use Rattle.mt_scaled.specs.Results.{◌>>=◌}
@@ -9,7 +11,8 @@ use Rattle.mt_family.specs.SetValue.{SetValue}
 use Rattle.mt_family.specs.Sets.{units_of}
 use Rattle.mt_box.specs.declared.place.Place.{Place}
 use Rattle.mt_dvi.specs.FileOf.{CanTake, IsFileOf}
-use Rattle.mt_dvi.specs.Limits.{max_places}
+use Rattle.mt_dvi.specs.Limits.{max_dvi_pages, max_places}
+use Rattle.mt_dvi.specs.Refusal.{refusal_of}
 use Rattle.mt_dvi.specs.Writable.{IsWritable}
 use Rattle.mt_dvi.specs.declared.file.DviFile.{DviFile}
 use Rattle.mt_dvi.specs.WrittenPlaces.{all_places}
@@ -278,3 +281,33 @@ has_room set width source pages s counts are few is = record {
   glyphs = omega (arith, is.glyphs, count_by-le-length is_glyph_place (all_places pages), are.room);
   rules = omega (arith, is.rules, count_by-le-length is_rule_place (all_places pages), are.room);
 }
+
+-- the pages that were handed out can be written, and are few
+pub record AreFit (set : SetValue) (pages : List (List Place)) : Type 0 where
+  pub writable : All (λ (page : List Place). All (IsWritable set) page) pages
+  pub few : length pages ≤ max_document_pages
+
+pub none_fit : (set : SetValue) (pages : List (List Place)) → pages ≡ [] → AreFit set pages
+none_fit set pages e = subst (AreFit set) (sym e) (record { writable = All-nil (λ (page : List Place). All (IsWritable set) page); few = omega arith })
+
+pub more_fit : (set : SetValue) (width : ℤ) (source : List ℕ) (pages more : List (List Place)) (places : List Place) (s : PageSetter)
+    → AreFit set pages → All (IsWritable set) places → ArePagesOf set width source (pages ++ places ∷ []) s → s.reader.state.ended ≤ max_document_pages
+    → more ≡ pages ++ places ∷ [] → AreFit set more
+more_fit set width source pages more places s fit writable are few e =
+    let every = λ (page : List Place). All (IsWritable set) page in
+    subst (AreFit set) (sym e) (record {
+      writable = All-append every pages (places ∷ []) fit.writable (All-cons every places [] writable (All-nil every));
+      few = few_more set width source (pages ++ places ∷ []) s are few;
+    })
+
+-- they are not refused
+pub fit_none_refused : (set : SetValue) (width : ℤ) (source : List ℕ) (pages : List (List Place)) (s : PageSetter)
+    → AreFit set pages → ArePagesOf set width source pages s → refusal_of pages ≡ None
+fit_none_refused set width source pages s fit are =
+    let pages_in : nat_lt max_dvi_pages (length pages) ≡ false = grind (arith, nat_tests, fit.few) in
+    let places_in : nat_lt max_places (length (all_places pages)) ≡ false = grind (arith, nat_tests, are.room) in
+    rw (pages_in, places_in) refl
+
+pub ok_of_err : {T E : Type 0} (r : Result T E) (P : T → Type 0) → IsErr r → IfOk r P
+ok_of_err (Ok x) P is = absurd (cc)
+ok_of_err (Err e) P is = tt

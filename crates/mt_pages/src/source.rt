@@ -1,5 +1,7 @@
 //! A source that is set: its DVI file, its pages, its listing, its summary.
-ghost use Rattle.std.specs.Prelude.{◌≡◌, ◌++◌, ◌∷◌, [], OnOk};
+ghost use Rattle.std.specs.Prelude.{◌≡◌, ◌++◌, ◌∷◌, [], All, IfOk, None, OnOk};
+ghost use Rattle.mt_dvi.specs.Refusal.{refusal_of};
+ghost use Rattle.mt_dvi.specs.Writable.{IsWritable};
 ghost use Rattle.mt_pages.specs.LineWidth.{IsLineWidth};
 ghost use Rattle.mt_status.specs.Origins.{IsPure};
 ghost use Rattle.mt_pages.specs.Output.{IsFileOfSource, listed, summed_up};
@@ -60,6 +62,8 @@ pub fn source_pages(
 ) -> Result<PageList, Status>
     requires width { IsLineWidth width }
     ensures is { IsPure (source_pages fonts.now width source.now) result }
+    ensures writable { IfOk result (λ pages. All (λ page. All (IsWritable fonts.now) page) pages) }
+    ensures few_places { IfOk result (λ pages. refusal_of pages ≡ None) }
 {
     let tokens = tokens_of(alloc, source)?;
     let mut setter = PageSetter::new(alloc, tokens.as_slice())?;
