@@ -1,9 +1,9 @@
-use Rattle.std.proofs.Common.{List, [], subst, sym, to_z-of_z}
+use Rattle.std.proofs.Common.{List, [], subst, sym, to_z-of_z, ◌∷◌, ◌++◌}
 use Rattle.std.specs.Prelude.{Ok}
 use Rattle.std.proofs.lemmas.Result.{err_from_is_err_and}
 use Rattle.mt_token.specs.declared.token.Token.{Token}
 use Rattle.mt_box.specs.declared.place.Place.{Place}
-use Rattle.mt_dvi.specs.FileOf.{CanTake}
+use Rattle.mt_dvi.specs.FileOf.{CanTake, IsFileOf}
 use Rattle.mt_pages.specs.inner.SetPages.{AreTokensOf}
 use Rattle.mt_pages.proofs.SetLemmas.{after_some, can_take, next_none, next_refused, next_some, source_err}
 use Rattle.mt_pages.proofs.source.source_file.Goals as goal
@@ -41,6 +41,19 @@ returns-in_err-places c = record {
       rw (p.1, p.2)
       (next_refused c.args.fonts.now _ c.args.width c.args.source.now c.in_err-places.field-0.0 (to_z-of_z c.ranges.width) (c.in_err-places.ensures.is c.args.source.now so.pages so.are));
 }
+
+pub loop-file-preserved : goal.loop-file-preserved
+loop-file-preserved c =
+    let so = c.loop-file.invariant.so_far in
+    let on = after_some c.args.fonts.now c.loop-file.setter c.next_page.new.self c.in_ok-places.field-0 c.in-Some.places c.in-Some.is c.in_ok-places.ensures.more in
+    record {
+      so_far = record {
+        pages = so.pages ++ c.in-Some.places ∷ [];
+        are = next_some c.args.fonts.now _ c.args.source.now so.pages c.next_page.new.self c.in_ok-places.field-0 c.in-Some.places c.in-Some.is (c.in_ok-places.ensures.is c.args.source.now so.pages so.are);
+        file_of = subst (λ (l : List Place). IsFileOf c.args.fonts.now (so.pages ++ l ∷ []) c.page.new.self) c.as_slice-in-Some.ensures (c.in_ok-page.ensures so.pages so.file_of);
+      };
+      more = on.more;
+    }
 
 pub returns : goal.returns
 returns c = record {
