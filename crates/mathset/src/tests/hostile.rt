@@ -1,4 +1,4 @@
-//! Calls that fail, sinks that take a part, files that are cut, and sources at the limits.
+//! Calls that fail, sinks that take a part, and sources at the limits.
 use crate::run::run;
 use crate::tests::memory::{SET, answer, call, end_of, files, repeated, sink, words_of};
 use mt_outside::{MemorySink, SteadyCabinet};
@@ -31,33 +31,31 @@ fn writes_ten_bytes_at_a_call(rt: HostRuntime) {
     }
 }
 
-/// The files of a run, in the order in which they are fetched, as the log tells each.
-const FETCHES: &[&[u8]] = &[
-    b"cannot read toy.fonts\n",
-    b"cannot read toyr.tfm\n",
-    b"cannot read toyr.tfm\n",
-    b"cannot read toyr.tfm\n",
-    b"cannot read toym.tfm\n",
-    b"cannot read toym.tfm\n",
-    b"cannot read toym.tfm\n",
-    b"cannot read toys.tfm\n",
-    b"cannot read toys.tfm\n",
-    b"cannot read toys.tfm\n",
-    b"cannot read toyx.tfm\n",
-    b"cannot read formula.tex\n",
+/// The number of a call of the cabinet, and the file that it asks for, as the log tells it.
+const FETCHES: &[(u64, &[u8])] = &[
+    (1, b"cannot read toy.fonts\n"),
+    (2, b"cannot read toyr.tfm\n"),
+    (3, b"cannot read toyr.tfm\n"),
+    (4, b"cannot read toyr.tfm\n"),
+    (5, b"cannot read toym.tfm\n"),
+    (6, b"cannot read toym.tfm\n"),
+    (7, b"cannot read toym.tfm\n"),
+    (8, b"cannot read toys.tfm\n"),
+    (9, b"cannot read toys.tfm\n"),
+    (10, b"cannot read toys.tfm\n"),
+    (11, b"cannot read toyx.tfm\n"),
+    (12, b"cannot read formula.tex\n"),
 ];
 
-fn fetches() -> &'static [&'static [u8]] {
+fn fetches() -> &'static [(u64, &'static [u8])] {
     FETCHES
 }
 
 #[test]
 fn tells_each_file_that_is_lost(rt: HostRuntime) {
     let alloc = rt.alloc();
-    let mut fail = 0;
-    for line in fetches() {
-        fail += 1;
-        let end = end_of(&rt, alloc, SET, None, b"$a+b$", fail);
+    for (call, line) in fetches() {
+        let end = end_of(&rt, alloc, SET, None, b"$a+b$", *call);
         assert!(&rt; end.status == 20);
         assert!(&rt; end.log.get(9..) == Some(*line));
         assert!(&rt; end.out.len() == 0);
