@@ -2,7 +2,7 @@
 use Rattle.std.specs.Prelude.{ℕ, ℤ, ◌+◌, ◌≤◌, ◌^◌, max, ⊤, Option, Some, None}
 use Rattle.mt_scaled.specs.Number.{Within, max_dimen}
 use Rattle.mt_rules.specs.declared.symbol.Glue.{Glue}
-use Rattle.mt_rules.specs.Sequence.{Sequence, Element, Part, Rows, End, More, AtomElement, FractionElement, LeftElement, RightElement, StyleElement, ChoiceElement, MuSpaceElement, SpaceElement, MuKernElement, KernElement, NonscriptElement, EmptyPart, SymbolPart, ListPart, RowsPart, NoRows, MoreRows}
+use Rattle.mt_rules.specs.Sequence.{Sequence, Element, Part, Rows, End, More, AtomElement, FractionElement, LeftElement, MiddleElement, RightElement, StyleElement, ChoiceElement, MuSpaceElement, SpaceElement, MuKernElement, KernElement, NonscriptElement, EmptyPart, SymbolPart, ListPart, RowsPart, NoRows, MoreRows}
 
 -- how many items a list has at all levels; each row of a vcenter atom counts as one more
 abbrev mutual
@@ -14,6 +14,7 @@ abbrev mutual
   element_items (AtomElement kind limits nucleus sup sub) = part_items nucleus + part_items sup + part_items sub + 1
   element_items (FractionElement thickness left right num den) = list_items num + list_items den + 1
   element_items (LeftElement delim) = 1
+  element_items (MiddleElement delim) = 1
   element_items (RightElement delim) = 1
   element_items (StyleElement style) = 1
   element_items (ChoiceElement display text script small) =
@@ -46,6 +47,7 @@ abbrev mutual
       max (part_nesting nucleus) (max (part_nesting sup) (part_nesting sub)) + 1
   element_nesting (FractionElement thickness left right num den) = max (list_nesting num) (list_nesting den) + 1
   element_nesting (LeftElement delim) = 1
+  element_nesting (MiddleElement delim) = 1
   element_nesting (RightElement delim) = 1
   element_nesting (StyleElement style) = 1
   element_nesting (ChoiceElement display text script small) =
@@ -88,6 +90,7 @@ abbrev mutual
   ElementAmounts (FractionElement thickness left right num den) =
       ThicknessAmount thickness × ListAmounts num × ListAmounts den
   ElementAmounts (LeftElement delim) = ⊤
+  ElementAmounts (MiddleElement delim) = ⊤
   ElementAmounts (RightElement delim) = ⊤
   ElementAmounts (StyleElement style) = ⊤
   ElementAmounts (ChoiceElement display text script small) =

@@ -16,6 +16,7 @@ mutual
     AtomElement : (kind : Kind) (limits : Limits) (nucleus : Part) (sup : Part) (sub : Part) → Element
     FractionElement : (thickness : Option ℤ) (left : Delim) (right : Delim) (num : Sequence) (den : Sequence) → Element
     LeftElement : (delim : Delim) → Element
+    MiddleElement : (delim : Delim) → Element
     RightElement : (delim : Delim) → Element
     StyleElement : (style : Style) → Element
     ChoiceElement : (display : Sequence) (text : Sequence) (script : Sequence) (small : Sequence) → Element
@@ -45,6 +46,7 @@ abbrev mutual
   element_size (AtomElement kind limits nucleus sup sub) = part_size nucleus + part_size sup + part_size sub + 1
   element_size (FractionElement thickness left right num den) = sequence_size num + sequence_size den + 1
   element_size (LeftElement delim) = 1
+  element_size (MiddleElement delim) = 1
   element_size (RightElement delim) = 1
   element_size (StyleElement style) = 1
   element_size (ChoiceElement display text script small) =

@@ -1,11 +1,11 @@
 -- What the types of the code are seen as: a list of items as a sequence (`sequence_of`), an item as an element (`element_of`).
 use Rattle.std.specs.Prelude.{List, [], ◌∷◌}
-use Rattle.mt_rules.specs.Sequence.{Sequence, Element, Part, End, More, AtomElement, FractionElement, LeftElement, RightElement, StyleElement, ChoiceElement, MuSpaceElement, SpaceElement, MuKernElement, KernElement, NonscriptElement, EmptyPart, SymbolPart, ListPart, RowsPart}
+use Rattle.mt_rules.specs.Sequence.{Sequence, Element, Part, End, More, AtomElement, FractionElement, LeftElement, MiddleElement, RightElement, StyleElement, ChoiceElement, MuSpaceElement, SpaceElement, MuKernElement, KernElement, NonscriptElement, EmptyPart, SymbolPart, ListPart, RowsPart}
 use Rattle.mt_rules.specs.declared.list.Atom.{Atom as AtomFields}
 use Rattle.mt_rules.specs.declared.list.Fraction.{Fraction as FractionFields}
 use Rattle.mt_rules.specs.declared.list.Choice.{Choice as ChoiceFields}
 use Rattle.mt_rules.specs.declared.list.Item.{Item}
-use Rattle.mt_rules.specs.declared.list.Item.TheVariants.{Atom, Fraction, Left, Right, Style as StyleItem, Choice, MuSpace, Space, MuKern, Kern, Nonscript}
+use Rattle.mt_rules.specs.declared.list.Item.TheVariants.{Atom, Fraction, Left, Middle, Right, Style as StyleItem, Choice, MuSpace, Space, MuKern, Kern, Nonscript}
 use Rattle.mt_rules.specs.declared.list.Field.{Field}
 use Rattle.mt_rules.specs.declared.list.Field.TheVariants.{Empty, Sym, List as OfList, Rows as OfRows}
 
@@ -28,6 +28,7 @@ abbrev pub element_of : Item → Element
 element_of (Atom b) = atom_element b.value
 element_of (Fraction b) = fraction_element b.value
 element_of (Left d) = LeftElement d
+element_of (Middle d) = MiddleElement d
 element_of (Right d) = RightElement d
 element_of (StyleItem s) = StyleElement s
 element_of (Choice b) = choice_element b.value

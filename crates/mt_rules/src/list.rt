@@ -11,8 +11,9 @@ use std::marker::Model;
 
 /// A math list: the items of a formula or of a part of one, in order (The TeXbook, Appendix G).
 ///
-/// A left boundary stands only first and a right one only last, both or neither; the four lists of a [`Choice`] have
-/// neither. The nucleus of a vcenter atom is rows, and rows stand nowhere else.
+/// A left boundary stands only first and a right one only last, both or neither, and middles stand only between the
+/// two; the four lists of a [`Choice`] have none of these. The nucleus of a vcenter atom is rows, and rows stand
+/// nowhere else.
 #[cycle(list)]
 #[derive(Drop)]
 pub struct MathList {
@@ -36,6 +37,8 @@ pub enum Item {
     Fraction(Box<Fraction>),
     /// A left boundary, as of `\left`.
     Left(Delim),
+    /// A middle, as of e-TeX's `\middle`: a delimiter between the boundaries.
+    Middle(Delim),
     /// A right boundary, as of `\right`.
     Right(Delim),
     /// The style of what follows in the list.

@@ -3,7 +3,7 @@ use Rattle.std.specs.Prelude.{◌≤◌, max, List, [], ◌∷◌}
 use Rattle.std.proofs.Common.{arith}
 use denote.Param.Weighed.{most}
 use Rattle.mt_rules.specs.declared.list.Item.{Item}
-use Rattle.mt_rules.specs.declared.list.Item.TheVariants.{Atom, Fraction, Left, Right, Style as StyleItem, Choice, MuSpace, Space, MuKern, Kern, Nonscript}
+use Rattle.mt_rules.specs.declared.list.Item.TheVariants.{Atom, Fraction, Left, Middle, Right, Style as StyleItem, Choice, MuSpace, Space, MuKern, Kern, Nonscript}
 use Rattle.mt_rules.specs.declared.list.Field.{Field}
 use Rattle.mt_rules.specs.declared.list.Field.TheVariants.{Empty, Sym, List as OfList, Rows as OfRows}
 use Rattle.mt_rules.specs.declared.list.MathList.TheDeep.{deep-Item, deep-Field}
@@ -21,6 +21,7 @@ item_falls (Atom b) = omega (arith, field_falls b.value.nucleus, field_falls b.v
 item_falls (Fraction b) = omega arith
 item_falls (Choice b) = omega arith
 item_falls (Left k) = omega arith
+item_falls (Middle k) = omega arith
 item_falls (Right k) = omega arith
 item_falls (StyleItem k) = omega arith
 item_falls (MuSpace k) = omega arith

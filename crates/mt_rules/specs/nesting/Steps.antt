@@ -7,7 +7,7 @@ use Rattle.mt_rules.specs.declared.symbol.Delim.{Delim}
 use Rattle.mt_rules.specs.declared.symbol.Glue.{Glue}
 use Rattle.mt_rules.specs.declared.kind.Limits.{Limits}
 use Rattle.mt_rules.specs.declared.kind.Kind.{Kind}
-use Rattle.mt_rules.specs.Sequence.{Sequence, Element, Part, Rows, End, More, AtomElement, FractionElement, LeftElement, RightElement, StyleElement, ChoiceElement, MuSpaceElement, SpaceElement, MuKernElement, KernElement, NonscriptElement, EmptyPart, SymbolPart, ListPart, RowsPart, NoRows, MoreRows}
+use Rattle.mt_rules.specs.Sequence.{Sequence, Element, Part, Rows, End, More, AtomElement, FractionElement, LeftElement, MiddleElement, RightElement, StyleElement, ChoiceElement, MuSpaceElement, SpaceElement, MuKernElement, KernElement, NonscriptElement, EmptyPart, SymbolPart, ListPart, RowsPart, NoRows, MoreRows}
 
 pub data BuildStep : Type 0 where
   MakeEnd : BuildStep
@@ -15,6 +15,7 @@ pub data BuildStep : Type 0 where
   MakeAtom : (kind : Kind) (limits : Limits) → BuildStep
   MakeFraction : (thickness : Option ℤ) (left : Delim) (right : Delim) → BuildStep
   MakeLeft : (delim : Delim) → BuildStep
+  MakeMiddle : (delim : Delim) → BuildStep
   MakeRight : (delim : Delim) → BuildStep
   MakeStyle : (style : Style) → BuildStep
   MakeChoice : BuildStep
@@ -46,6 +47,7 @@ abbrev mutual
   element_steps (AtomElement a b c d e) k = part_steps c (part_steps d (part_steps e (MakeAtom a b ∷ k)))
   element_steps (FractionElement a b c d e) k = sequence_steps d (sequence_steps e (MakeFraction a b c ∷ k))
   element_steps (LeftElement a) k = MakeLeft a ∷ k
+  element_steps (MiddleElement a) k = MakeMiddle a ∷ k
   element_steps (RightElement a) k = MakeRight a ∷ k
   element_steps (StyleElement a) k = MakeStyle a ∷ k
   element_steps (ChoiceElement a b c d) k = sequence_steps a (sequence_steps b (sequence_steps c (sequence_steps d (MakeChoice ∷ k))))
@@ -71,6 +73,7 @@ take_step MakeMore (SequenceCell b ∷ ElementCell a ∷ st) = SequenceCell (Mor
 take_step (MakeAtom a b) (PartCell e ∷ PartCell d ∷ PartCell c ∷ st) = ElementCell (AtomElement a b c d e) ∷ st
 take_step (MakeFraction a b c) (SequenceCell e ∷ SequenceCell d ∷ st) = ElementCell (FractionElement a b c d e) ∷ st
 take_step (MakeLeft a) st = ElementCell (LeftElement a) ∷ st
+take_step (MakeMiddle a) st = ElementCell (MiddleElement a) ∷ st
 take_step (MakeRight a) st = ElementCell (RightElement a) ∷ st
 take_step (MakeStyle a) st = ElementCell (StyleElement a) ∷ st
 take_step MakeChoice (SequenceCell d ∷ SequenceCell c ∷ SequenceCell b ∷ SequenceCell a ∷ st) = ElementCell (ChoiceElement a b c d) ∷ st
@@ -100,6 +103,7 @@ mutual
   rebuilt-element (AtomElement a b c d e) k st = rebuilt-part c (part_steps d (part_steps e (MakeAtom a b ∷ k))) st ∙ (rebuilt-part d (part_steps e (MakeAtom a b ∷ k)) (PartCell c ∷ st) ∙ rebuilt-part e (MakeAtom a b ∷ k) (PartCell d ∷ PartCell c ∷ st))
   rebuilt-element (FractionElement a b c d e) k st = rebuilt-sequence d (sequence_steps e (MakeFraction a b c ∷ k)) st ∙ rebuilt-sequence e (MakeFraction a b c ∷ k) (SequenceCell d ∷ st)
   rebuilt-element (LeftElement a) k st = refl
+  rebuilt-element (MiddleElement a) k st = refl
   rebuilt-element (RightElement a) k st = refl
   rebuilt-element (StyleElement a) k st = refl
   rebuilt-element (ChoiceElement a b c d) k st = rebuilt-sequence a (sequence_steps b (sequence_steps c (sequence_steps d (MakeChoice ∷ k)))) st ∙ (rebuilt-sequence b (sequence_steps c (sequence_steps d (MakeChoice ∷ k))) (SequenceCell a ∷ st) ∙ (rebuilt-sequence c (sequence_steps d (MakeChoice ∷ k)) (SequenceCell b ∷ SequenceCell a ∷ st) ∙ rebuilt-sequence d (MakeChoice ∷ k) (SequenceCell c ∷ SequenceCell b ∷ SequenceCell a ∷ st)))
