@@ -18,7 +18,7 @@ use Rattle.mt_convert.specs.Halfway.{half_values}
 use Rattle.mt_convert.specs.inner.Fields.{atom_content, fraction_content}
 use Rattle.mt_convert.specs.inner.Lengths.{kern_halves}
 use Rattle.mt_convert.specs.inner.Settling.{CanFollow, AllCanFollow}
-use Rattle.mt_convert.specs.inner.Turns.{PassedElement, PassedAtom, PassedFraction, PassedLeft, PassedRight, PassedStyle, PassedMuSpace, PassedSpace, PassedMuKern, PassedKern, flat_item, class_after_passed}
+use Rattle.mt_convert.specs.inner.Turns.{PassedElement, PassedAtom, PassedFraction, PassedLeft, PassedMiddle, PassedRight, PassedStyle, PassedMuSpace, PassedSpace, PassedMuKern, PassedKern, flat_item, class_after_passed}
 
 -- the class that the last atom of these items counts as, or else that of the atom before them
 abbrev pub last_right : List HalfValue → Option Class → Option Class
@@ -63,9 +63,9 @@ follows_row : (last : Option Class) (class : Class) (h : HalfValue) (s : Setting
 follows_row last class h (Ok row) f e = subst (FollowsNext last (Some class)) (ok_is (HalfAtom class row) h e) (record { follow = f; next_is = refl })
 follows_row last class h (Err fault) f e = absurd (cc)
 
-follows_boundary : (last : Option Class) (class : Class) (g h : HalfValue) → class_to_left g ≡ Some class → class_to_right g ≡ Some class → CanFollow last (Some class) → ◌≡◌ {A = Setting HalfValue} (Ok g) (Ok h) → FollowsNext last (Some class) h
-follows_boundary last class g h l r f e =
-    subst (FollowsNext last (Some class)) (ok_is g h e) (record { follow = subst (CanFollow last) (sym l) f; next_is = ap (λ c. option_or c last) (sym r) })
+follows_boundary : (last : Option Class) (left right : Class) (g h : HalfValue) → class_to_left g ≡ Some left → class_to_right g ≡ Some right → CanFollow last (Some left) → ◌≡◌ {A = Setting HalfValue} (Ok g) (Ok h) → FollowsNext last (Some right) h
+follows_boundary last left right g h l r f e =
+    subst (FollowsNext last (Some right)) (ok_is g h e) (record { follow = subst (CanFollow last) (sym l) f; next_is = ap (λ c. option_or c last) (sym r) })
 
 -- what is no atom
 follows_none : (last : Option Class) (g h : HalfValue) → class_to_left g ≡ None → class_to_right g ≡ None → ◌≡◌ {A = Setting HalfValue} (Ok g) (Ok h) → FollowsNext last last h
@@ -91,8 +91,9 @@ item_follows fonts current (PassedAtom kind limits nucleus sup sub role kern) h 
     follows_row current.last (forward_of current.last (kind_class kind)) h (atom_row fonts current.style role (atom_content fonts kind limits nucleus sup sub)) (follow_atom current.last (kind_class kind)) e
 item_follows fonts current (PassedFraction thickness left right num den) h e =
     follows_row current.last Inner h (fraction_row fonts current.style (fraction_content fonts thickness left right num den)) (follow_atom current.last Inner) e
-item_follows fonts current (PassedLeft delim) h e = follows_boundary current.last Open _ h refl refl (follow_atom current.last Open) e
-item_follows fonts current (PassedRight delim) h e = follows_boundary current.last Close _ h refl refl (follow_atom current.last Close) e
+item_follows fonts current (PassedLeft delim) h e = follows_boundary current.last Open Open _ h refl refl (follow_atom current.last Open) e
+item_follows fonts current (PassedMiddle delim) h e = follows_boundary current.last Close Open _ h refl refl (follow_atom current.last Close) e
+item_follows fonts current (PassedRight delim) h e = follows_boundary current.last Close Close _ h refl refl (follow_atom current.last Close) e
 item_follows fonts current (PassedStyle style) h e = follows_none current.last _ h refl refl e
 item_follows fonts current (PassedMuSpace glue) h e = follows_space current.last (glue_in_points fonts current.style glue) h e
 item_follows fonts current (PassedSpace glue) h e = follows_space current.last glue h e

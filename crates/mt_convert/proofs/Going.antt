@@ -8,7 +8,7 @@ use Rattle.mt_family.specs.SetValue.{SetValue}
 use Rattle.mt_rules.specs.declared.style.Style.{Style}
 use Rattle.mt_rules.specs.Facts.{IsMathList}
 use Rattle.mt_rules.specs.Modest.{IsModestList, list_items, element_items, list_nesting, element_nesting, ListAmounts}
-use Rattle.mt_rules.specs.Sequence.{Sequence, Element, End, More, AtomElement, FractionElement, LeftElement, RightElement, StyleElement, ChoiceElement, MuSpaceElement, SpaceElement, MuKernElement, KernElement, NonscriptElement, sequence_size, element_size}
+use Rattle.mt_rules.specs.Sequence.{Sequence, Element, End, More, AtomElement, FractionElement, LeftElement, MiddleElement, RightElement, StyleElement, ChoiceElement, MuSpaceElement, SpaceElement, MuKernElement, KernElement, NonscriptElement, sequence_size, element_size}
 use Rattle.mt_rules.specs.Setting.{Setting, Overflow, ◌>>=◌, test_value}
 use Rattle.mt_rules.proofs.Answering.{in_range}
 use Rattle.mt_convert.specs.declared.flat.current.Current.{Current}
@@ -53,8 +53,8 @@ pub record Going (fonts : SetValue) (first : Style) (whole : Sequence) (current 
   pub remains : Remains (half_values halves) rest
   pub modest : IsModestList whole
 
-pub going_start : (fonts : SetValue) (style : Style) (whole rest : Sequence) (halves : List Half) → IsModestList whole → IsMathList whole → rest ≡ whole → halves ≡ [] → Going fonts style whole (record { style = style; last = None }) rest halves
-going_start fonts style whole rest halves m i e f = rw (e, f) (record {
+pub going_start : (fonts : SetValue) (style : Style) (whole : Sequence) (current : Current) (rest : Sequence) (halves : List Half) → IsModestList whole → IsMathList whole → current ≡ opening style → rest ≡ whole → halves ≡ [] → Going fonts style whole current rest halves
+going_start fonts style whole current rest halves m i c e f = rw (c, e, f) (record {
   turns = sequence_size whole;
   enough = omega arith;
   whole_is = sym (appended_nil _);
@@ -84,7 +84,7 @@ turns_left fonts current f s (suc t) h = record { left = t; is = refl; first_tur
 
 -- ---- the front was rewritten
 
-going_rewritten : (fonts : SetValue) (first : Style) (whole : Sequence) (current : Current) (f : Element) (s : Sequence) (halves : List Half) (rest' : Sequence) → Going fonts first whole current (More f s) halves → turn_of fonts current f s ≡ RewritesTo rest' → (RestOfList (More f s) → RestOfList rest') → Going fonts first whole current rest' halves
+going_rewritten : (fonts : SetValue) (first : Style) (whole : Sequence) (current : Current) (f : Element) (s : Sequence) (halves : List Half) (rest' : Sequence) → Going fonts first whole current (More f s) halves → turn_of fonts current f s ≡ RewritesTo rest' → ((enclosed : Bool) → RestOfList enclosed (More f s) → RestOfList enclosed rest') → Going fonts first whole current rest' halves
 going_rewritten fonts first whole current f s halves rest' g e l =
     let k : TurnKeeps f s (RewritesTo rest') = subst (TurnKeeps f s) e (turn_keeps fonts current f s) in
     let t = turns_left fonts current f s g.turns g.enough in
@@ -105,7 +105,7 @@ going_rewritten fonts first whole current f s halves rest' g e l =
       modest = g.modest;
     }
 
-pub going_again : (fonts : SetValue) (first : Style) (whole : Sequence) (current : Current) (rest : Sequence) (halves : List Half) (f : Element) (s rest' : Sequence) → Going fonts first whole current rest halves → rest ≡ More f s → RewritesTo rest' ≡ turn_of fonts current f s → (RestOfList (More f s) → RestOfList rest') → Going fonts first whole current rest' halves
+pub going_again : (fonts : SetValue) (first : Style) (whole : Sequence) (current : Current) (rest : Sequence) (halves : List Half) (f : Element) (s rest' : Sequence) → Going fonts first whole current rest halves → rest ≡ More f s → RewritesTo rest' ≡ turn_of fonts current f s → ((enclosed : Bool) → RestOfList enclosed (More f s) → RestOfList enclosed rest') → Going fonts first whole current rest' halves
 going_again fonts first whole current rest halves f s rest' g e u l =
     going_rewritten fonts first whole current f s halves rest' (subst (λ r. Going fonts first whole current r halves) e g) (sym u) l
 
@@ -148,6 +148,7 @@ items_positive : (e : Element) → 1 ≤ element_items e
 items_positive (AtomElement kind limits nucleus sup sub) = omega arith
 items_positive (FractionElement thickness left right num den) = omega arith
 items_positive (LeftElement delim) = omega arith
+items_positive (MiddleElement delim) = omega arith
 items_positive (RightElement delim) = omega arith
 items_positive (StyleElement style) = omega arith
 items_positive (ChoiceElement display text script small) = omega arith
@@ -223,6 +224,7 @@ pushes n h (Some k) fits few reach e = record {
 half_fits_more : (m n : ℕ) (h : Half) → m ≤ n → HalfFits m h → HalfFits n h
 half_fits_more m n (half.Set class row) le k = record { measurable = k.measurable; level = omega (arith, k.level, le) }
 half_fits_more m n (half.Left delim) le k = k
+half_fits_more m n (half.Middle delim) le k = k
 half_fits_more m n (half.Right delim) le k = k
 half_fits_more m n (half.Style style) le k = k
 half_fits_more m n (half.Kern amount) le k = k
@@ -236,7 +238,7 @@ pub record WasSet (fonts : SetValue) (current : Current) (p : PassedElement) (h 
   pub few : count_of h ≤ 3
   pub reach : HalfReachInRange h
 
-going_set : (fonts : SetValue) (first : Style) (whole : Sequence) (current : Current) (f : Element) (s : Sequence) (halves : List Half) (p : PassedElement) (rest' : Sequence) (h : Half) → Going fonts first whole current (More f s) halves → PassesOne p rest' ≡ turn_of fonts current f s → (RestOfList (More f s) → RestOfList (More (element_of_passed p) rest')) → WasSet fonts current p h (kern_of p) → Going fonts first whole (current_after_passed current p) rest' (halves ++ h ∷ kern_halves (kern_of p))
+going_set : (fonts : SetValue) (first : Style) (whole : Sequence) (current : Current) (f : Element) (s : Sequence) (halves : List Half) (p : PassedElement) (rest' : Sequence) (h : Half) → Going fonts first whole current (More f s) halves → PassesOne p rest' ≡ turn_of fonts current f s → ((enclosed : Bool) → RestOfList enclosed (More f s) → RestOfList enclosed (More (element_of_passed p) rest')) → WasSet fonts current p h (kern_of p) → Going fonts first whole (current_after_passed current p) rest' (halves ++ h ∷ kern_halves (kern_of p))
 going_set fonts first whole current f s halves p rest' h g u l w =
     let k : TurnKeeps f s (PassesOne p rest') = subst (TurnKeeps f s) (sym u) (turn_keeps fonts current f s) in
     let t = turns_left fonts current f s g.turns g.enough in
@@ -266,7 +268,7 @@ going_set fonts first whole current f s halves p rest' h g u l w =
       modest = g.modest;
     }
 
-pub going_pass : (fonts : SetValue) (first : Style) (whole : Sequence) (current current' : Current) (rest : Sequence) (halves halves' : List Half) (f : Element) (s : Sequence) (p : PassedElement) (rest' : Sequence) (h : Half) (kern : Option ℤ) → Going fonts first whole current rest halves → rest ≡ More f s → PassesOne p rest' ≡ turn_of fonts current f s → (RestOfList (More f s) → RestOfList (More (element_of_passed p) rest')) → kern ≡ kern_of p → WasSet fonts current p h kern → halves' ≡ halves ++ h ∷ kern_halves kern → current' ≡ current_after_passed current p → Going fonts first whole current' rest' halves'
+pub going_pass : (fonts : SetValue) (first : Style) (whole : Sequence) (current current' : Current) (rest : Sequence) (halves halves' : List Half) (f : Element) (s : Sequence) (p : PassedElement) (rest' : Sequence) (h : Half) (kern : Option ℤ) → Going fonts first whole current rest halves → rest ≡ More f s → PassesOne p rest' ≡ turn_of fonts current f s → ((enclosed : Bool) → RestOfList enclosed (More f s) → RestOfList enclosed (More (element_of_passed p) rest')) → kern ≡ kern_of p → WasSet fonts current p h kern → halves' ≡ halves ++ h ∷ kern_halves kern → current' ≡ current_after_passed current p → Going fonts first whole current' rest' halves'
 going_pass fonts first whole current current' rest halves halves' f s p rest' h kern g is u l k w eq c =
     rw (eq, c, k) (going_set fonts first whole current f s halves p rest' h (subst (λ r. Going fonts first whole current r halves) is g) u l (subst (WasSet fonts current p h) k w))
 
@@ -329,9 +331,9 @@ pub turned_none : (o : Option CodePassed) (rest : Sequence) (t : ListTurn) → t
 turned_none None rest t e n = e
 turned_none (Some p) rest t e n = absurd (n p refl)
 
-pub leaves_some : (X : Type 0) (o : Option CodePassed) (p : CodePassed) (rest : Sequence) → (X → TurnLeaves o rest) → o ≡ Some p → X → RestOfList (More (element_of_passed (passed_value p)) rest)
-leaves_some X o p rest g e x = subst (λ v. TurnLeaves v rest) e (g x)
+pub leaves_some : (X : Bool → Type 0) (o : Option CodePassed) (p : CodePassed) (rest : Sequence) → ((enclosed : Bool) → X enclosed → TurnLeaves enclosed o rest) → o ≡ Some p → (enclosed : Bool) → X enclosed → RestOfList enclosed (More (element_of_passed (passed_value p)) rest)
+leaves_some X o p rest g e enclosed x = subst (λ v. TurnLeaves enclosed v rest) e (g enclosed x)
 
-pub leaves_none : (X : Type 0) (o : Option CodePassed) (rest : Sequence) → (X → TurnLeaves o rest) → ((p : CodePassed) → o ≡ Some p → ⊥) → X → RestOfList rest
-leaves_none X None rest g n x = g x
-leaves_none X (Some p) rest g n x = absurd (n p refl)
+pub leaves_none : (X : Bool → Type 0) (o : Option CodePassed) (rest : Sequence) → ((enclosed : Bool) → X enclosed → TurnLeaves enclosed o rest) → ((p : CodePassed) → o ≡ Some p → ⊥) → (enclosed : Bool) → X enclosed → RestOfList enclosed rest
+leaves_none X None rest g n enclosed x = g enclosed x
+leaves_none X (Some p) rest g n enclosed x = absurd (n p refl)

@@ -28,8 +28,8 @@ pub record SoFar (fonts : SetValue) (size : Size) (wanted : ℤ) (style : Style)
   pub few : length pieces + total_of rest + 2 * length rest ≤ 2 ^ 21
   pub fits : (n : ℕ) → 2 ≤ n → HalvesFit n whole → RowFits n pieces × HalvesFit n rest
 
-pub so_far_start : (fonts : SetValue) (size : Size) (wanted : ℤ) (style : Style) (whole rest : List Half) (pieces : List Piece) → AllMeet None (half_values whole) → length whole ≤ 2 ^ 19 → total_of whole ≤ 2 ^ 20 → rest ≡ whole → pieces ≡ [] → SoFar fonts size wanted style whole (record { style = style; last = None }) rest pieces
-so_far_start fonts size wanted style whole rest pieces meet few total e g = rw (e, g) (record {
+pub so_far_start : (fonts : SetValue) (size : Size) (wanted : ℤ) (style : Style) (whole : List Half) (current : Current) (rest : List Half) (pieces : List Piece) → AllMeet None (half_values whole) → length whole ≤ 2 ^ 19 → total_of whole ≤ 2 ^ 20 → current ≡ opening style → rest ≡ whole → pieces ≡ [] → SoFar fonts size wanted style whole current rest pieces
+so_far_start fonts size wanted style whole current rest pieces meet few total c e g = rw (c, e, g) (record {
   whole_is = sym (appended_nil _);
   meet = meet;
   few = omega (arith, few, total);

@@ -10,7 +10,7 @@ use Rattle.mt_rules.specs.declared.class.Class.TheVariants.{Open, Close}
 use Rattle.mt_rules.specs.Classes.{settled_of}
 use Rattle.mt_convert.specs.declared.half.Half.{Half}
 use Rattle.mt_convert.specs.declared.half.Half.TheVariants as half
-use Rattle.mt_convert.specs.Halves.{HalfValue, HalfAtom, HalfLeft, HalfRight, HalfStyle, HalfKern, HalfSpace, class_to_left, next_class, settled_half, settled_halves, greatest_height, greatest_depth, settle}
+use Rattle.mt_convert.specs.Halves.{HalfValue, HalfAtom, HalfLeft, HalfMiddle, HalfRight, HalfStyle, HalfKern, HalfSpace, class_to_left, next_class, settled_half, settled_halves, greatest_height, greatest_depth, settle}
 use Rattle.mt_convert.specs.Halfway.{half_value, half_values, halves_value, BoundariesOutside, HalvesFit, IsHalfway, AllMeet, MayMeet, HalfFits, count_of, total_of}
 use Rattle.mt_convert.specs.inner.Settling.{settled_item, settled_items, CanFollow, AllCanFollow}
 use Rattle.mt_convert.proofs.Remaining.{boundaries_settled}
@@ -69,6 +69,7 @@ settle_end hs i after whole z h = subst (λ n. settled_before after (take n hs) 
 item_settled : (h : Half) (after : Option Class) → half_value (settled_item h after) ≡ settled_half (half_value h) after
 item_settled (half.Set c r) after = refl
 item_settled (half.Left d) after = refl
+item_settled (half.Middle d) after = refl
 item_settled (half.Right d) after = refl
 item_settled (half.Style s) after = refl
 item_settled (half.Kern k) after = refl
@@ -97,6 +98,7 @@ meet_settled : (last : Option Class) (hs : List HalfValue) → AllCanFollow last
 meet_settled last [] h = tt
 meet_settled last (HalfAtom c r ∷ hs) h = (meets last c (next_class hs) h.0, meet_settled (Some c) hs h.1)
 meet_settled last (HalfLeft d ∷ hs) h = (meets last Open (next_class hs) h.0, meet_settled (Some Open) hs h.1)
+meet_settled last (HalfMiddle d ∷ hs) h = (meets last Close (next_class hs) h.0, meet_settled (Some Open) hs h.1)
 meet_settled last (HalfRight d ∷ hs) h = (meets last Close (next_class hs) h.0, meet_settled (Some Close) hs h.1)
 meet_settled last (HalfStyle s ∷ hs) h = (meets_none (last_settled last (next_class hs)), meet_settled last hs h.1)
 meet_settled last (HalfKern k ∷ hs) h = (meets_none (last_settled last (next_class hs)), meet_settled last hs h.1)
@@ -109,6 +111,7 @@ length_settled (h ∷ hs) = omega (arith, length_settled hs)
 item_count : (h : Half) (after : Option Class) → count_of (settled_item h after) ≡ count_of h
 item_count (half.Set c r) after = refl
 item_count (half.Left d) after = refl
+item_count (half.Middle d) after = refl
 item_count (half.Right d) after = refl
 item_count (half.Style s) after = refl
 item_count (half.Kern k) after = refl
@@ -121,6 +124,7 @@ total_settled (h ∷ hs) = omega (arith, item_count h (next_class (half_values h
 item_fits : (n : ℕ) (h : Half) (after : Option Class) → HalfFits n h → HalfFits n (settled_item h after)
 item_fits n (half.Set c r) after k = k
 item_fits n (half.Left d) after k = k
+item_fits n (half.Middle d) after k = k
 item_fits n (half.Right d) after k = k
 item_fits n (half.Style s) after k = k
 item_fits n (half.Kern x) after k = k

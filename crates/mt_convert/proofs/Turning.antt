@@ -14,7 +14,7 @@ use Rattle.mt_rules.specs.declared.style.Style.TheVariants.{D, Dc, T, Tc, S, Sc,
 use Rattle.mt_rules.specs.declared.symbol.Symbol.{Symbol}
 use Rattle.mt_rules.specs.Styles.{size_of, is_display_or_text}
 use Rattle.mt_rules.specs.Nuclei.{OrdinarySymbol, TextSymbol, SmartPair, is_empty}
-use Rattle.mt_rules.specs.Sequence.{Sequence, Element, Part, End, More, AtomElement, FractionElement, LeftElement, RightElement, StyleElement, ChoiceElement, MuSpaceElement, SpaceElement, MuKernElement, KernElement, NonscriptElement, EmptyPart, SymbolPart, ListPart, RowsPart, sequence_size, element_size}
+use Rattle.mt_rules.specs.Sequence.{Sequence, Element, Part, End, More, AtomElement, FractionElement, LeftElement, MiddleElement, RightElement, StyleElement, ChoiceElement, MuSpaceElement, SpaceElement, MuKernElement, KernElement, NonscriptElement, EmptyPart, SymbolPart, ListPart, RowsPart, sequence_size, element_size}
 use Rattle.mt_rules.specs.Modest.{list_items, element_items, list_nesting, element_nesting, ListAmounts, ElementAmounts, IsAmount}
 use Rattle.mt_convert.specs.declared.flat.current.Current.{Current}
 use Rattle.mt_convert.specs.declared.flat.joining.SymbolPair.{SymbolPair}
@@ -23,7 +23,7 @@ use Rattle.mt_convert.specs.Joining.{is_ord_by_now, is_any_but_inner, content_sy
 use Rattle.mt_convert.specs.ListRow.{items_of, item_of, content_of}
 use Rattle.mt_convert.specs.Flat.{Passes, Rewrites, FlatSpace, turn, atom_turn, pair_turn, as_symbol, first_as_symbol, list_for, is_space_or_kern, without_space, after_nonscript, no_glue, current_after_items}
 use Rattle.mt_convert.specs.inner.Fields.{atom_content}
-use Rattle.mt_convert.specs.inner.Turns.{PassedElement, PassedAtom, PassedFraction, PassedLeft, PassedRight, PassedStyle, PassedMuSpace, PassedSpace, PassedMuKern, PassedKern, ListTurn, PassesOne, RewritesTo, element_of_passed, append_list, part_symbol, is_empty_part, symbol_before, symbol_of_element, next_symbol_of, element_as_symbol, first_element_as, turn_by_pair, turn_of_atom, is_space_element, list_without_space, list_after_nonscript, turn_of, turn_meaning, flat_items, current_after_passed}
+use Rattle.mt_convert.specs.inner.Turns.{PassedElement, PassedAtom, PassedFraction, PassedLeft, PassedMiddle, PassedRight, PassedStyle, PassedMuSpace, PassedSpace, PassedMuKern, PassedKern, ListTurn, PassesOne, RewritesTo, element_of_passed, append_list, part_symbol, is_empty_part, symbol_before, symbol_of_element, next_symbol_of, element_as_symbol, first_element_as, turn_by_pair, turn_of_atom, is_space_element, list_without_space, list_after_nonscript, turn_of, turn_meaning, flat_items, current_after_passed}
 
 -- ---- in size, items, nesting and amounts
 
@@ -57,6 +57,7 @@ pub element_positive : (e : Element) → 1 ≤ element_size e
 element_positive (AtomElement kind limits nucleus sup sub) = omega arith
 element_positive (FractionElement thickness left right num den) = omega arith
 element_positive (LeftElement delim) = omega arith
+element_positive (MiddleElement delim) = omega arith
 element_positive (RightElement delim) = omega arith
 element_positive (StyleElement style) = omega arith
 element_positive (ChoiceElement display text script small) = omega arith
@@ -157,6 +158,7 @@ less_as_symbol : (symbol : Symbol) (e : Element) → ElementIsLess e (element_as
 less_as_symbol symbol (AtomElement kind limits nucleus sup sub) = record { size = omega arith; items = omega arith; nesting = omega arith; amounts = λ g. (tt, g.1, g.2) }
 less_as_symbol symbol (FractionElement thickness left right num den) = same_element _
 less_as_symbol symbol (LeftElement delim) = same_element _
+less_as_symbol symbol (MiddleElement delim) = same_element _
 less_as_symbol symbol (RightElement delim) = same_element _
 less_as_symbol symbol (StyleElement style) = same_element _
 less_as_symbol symbol (ChoiceElement display text script small) = same_element _
@@ -193,6 +195,7 @@ turn_keeps fonts current (AtomElement kind limits nucleus sup sub) s =
     atom_keeps fonts (size_of current.style) kind limits nucleus sup sub s (symbol_pair (symbol_before current.last kind nucleus sup sub) (next_symbol_of s))
 turn_keeps fonts current (FractionElement thickness left right num den) s = passes_as_it_is (PassedFraction thickness left right num den) s
 turn_keeps fonts current (LeftElement delim) s = passes_as_it_is (PassedLeft delim) s
+turn_keeps fonts current (MiddleElement delim) s = passes_as_it_is (PassedMiddle delim) s
 turn_keeps fonts current (RightElement delim) s = passes_as_it_is (PassedRight delim) s
 turn_keeps fonts current (StyleElement style) s = passes_as_it_is (PassedStyle style) s
 turn_keeps fonts current (ChoiceElement display text script small) s = choice_keeps current current.style display text script small s
@@ -240,6 +243,7 @@ same_symbol_of : (fonts : SetValue) (e : Element) → symbol_of_item (item_of fo
 same_symbol_of fonts (AtomElement kind limits nucleus sup sub) = ap (λ x. if is_any_but_inner kind then x else None) (same_part_symbol fonts nucleus)
 same_symbol_of fonts (FractionElement thickness left right num den) = refl
 same_symbol_of fonts (LeftElement delim) = refl
+same_symbol_of fonts (MiddleElement delim) = refl
 same_symbol_of fonts (RightElement delim) = refl
 same_symbol_of fonts (StyleElement style) = refl
 same_symbol_of fonts (ChoiceElement display text script small) = refl
@@ -257,6 +261,7 @@ same_as_symbol : (fonts : SetValue) (symbol : Symbol) (e : Element) → as_symbo
 same_as_symbol fonts symbol (AtomElement kind limits nucleus sup sub) = refl
 same_as_symbol fonts symbol (FractionElement thickness left right num den) = refl
 same_as_symbol fonts symbol (LeftElement delim) = refl
+same_as_symbol fonts symbol (MiddleElement delim) = refl
 same_as_symbol fonts symbol (RightElement delim) = refl
 same_as_symbol fonts symbol (StyleElement style) = refl
 same_as_symbol fonts symbol (ChoiceElement display text script small) = refl
@@ -292,6 +297,7 @@ same_is_space : (fonts : SetValue) (e : Element) → is_space_or_kern (item_of f
 same_is_space fonts (AtomElement kind limits nucleus sup sub) = refl
 same_is_space fonts (FractionElement thickness left right num den) = refl
 same_is_space fonts (LeftElement delim) = refl
+same_is_space fonts (MiddleElement delim) = refl
 same_is_space fonts (RightElement delim) = refl
 same_is_space fonts (StyleElement style) = refl
 same_is_space fonts (ChoiceElement display text script small) = refl
@@ -320,6 +326,7 @@ pub same_turn : (fonts : SetValue) (current : Current) (e : Element) (s : Sequen
 same_turn fonts current (AtomElement kind limits nucleus sup sub) s = same_atom fonts current kind limits nucleus sup sub s
 same_turn fonts current (FractionElement thickness left right num den) s = refl
 same_turn fonts current (LeftElement delim) s = refl
+same_turn fonts current (MiddleElement delim) s = refl
 same_turn fonts current (RightElement delim) s = refl
 same_turn fonts current (StyleElement style) s = refl
 same_turn fonts current (ChoiceElement display text script small) s =
@@ -336,6 +343,7 @@ same_current fonts current (PassedAtom kind limits nucleus sup sub role None) = 
 same_current fonts current (PassedAtom kind limits nucleus sup sub role (Some amount)) = refl
 same_current fonts current (PassedFraction thickness left right num den) = refl
 same_current fonts current (PassedLeft delim) = refl
+same_current fonts current (PassedMiddle delim) = refl
 same_current fonts current (PassedRight delim) = refl
 same_current fonts current (PassedStyle style) = refl
 same_current fonts current (PassedMuSpace glue) = refl

@@ -3,4 +3,5 @@ mod Writing
 mod ListCases
 mod JoiningCases
 mod PartCases
+mod MiddleCases
 mod FaultCases

@@ -11,6 +11,7 @@ mutual
     AtomItem : (atom : AtomContent) → ItemContent
     FractionItem : (fraction : FractionContent) → ItemContent
     LeftItem : (delim : Delim) → ItemContent
+    MiddleItem : (delim : Delim) → ItemContent
     RightItem : (delim : Delim) → ItemContent
     StyleItem : (style : Style) → ItemContent
     -- its lists are not set by themselves: the items of one of them take its place

@@ -4,4 +4,4 @@ use Rattle.mt_rules.specs.declared.style.Style.{Style}
 use Rattle.mt_convert.specs.declared.flat.current.Current.{Current}
 
 abbrev pub opening : Style → Current
-opening style = record { style = style; last = None }
+opening style = record { initial = style; style = style; last = None }

@@ -14,8 +14,8 @@ use Rattle.mt_rules.specs.AtomRow.{atom_row, fraction_row}
 use Rattle.mt_convert.specs.declared.flat.current.Current.{Current}
 use Rattle.mt_convert.specs.Current.{opening}
 use Rattle.mt_convert.specs.Contents.{ItemContents}
-use Rattle.mt_convert.specs.Flat.{FlatItem, FlatAtom, FlatFraction, FlatLeft, FlatRight, FlatStyle, FlatMuSpace, FlatSpace, FlatMuKern, FlatKern, current_after_item, flat}
-use Rattle.mt_convert.specs.Halves.{HalfValue, HalfAtom, HalfLeft, HalfRight, HalfStyle, HalfKern, HalfSpace, Halves, settle}
+use Rattle.mt_convert.specs.Flat.{FlatItem, FlatAtom, FlatFraction, FlatLeft, FlatMiddle, FlatRight, FlatStyle, FlatMuSpace, FlatSpace, FlatMuKern, FlatKern, current_after_item, flat}
+use Rattle.mt_convert.specs.Halves.{HalfValue, HalfAtom, HalfLeft, HalfMiddle, HalfRight, HalfStyle, HalfKern, HalfSpace, Halves, settle}
 
 -- ---- spaces and kerns
 
@@ -52,6 +52,7 @@ set_item fonts current (FlatFraction f) = do
   row ← fraction_row fonts current.style f
   Ok (HalfAtom Inner row)
 set_item fonts current (FlatLeft delim) = Ok (HalfLeft delim)
+set_item fonts current (FlatMiddle delim) = Ok (HalfMiddle delim)
 set_item fonts current (FlatRight delim) = Ok (HalfRight delim)
 set_item fonts current (FlatStyle style) = Ok (HalfStyle style)
 set_item fonts current (FlatMuSpace glue) = make_space (glue_in_points fonts current.style glue)

@@ -18,7 +18,7 @@ use Rattle.mt_rules.specs.Classes.{kind_class, forward_of}
 use Rattle.mt_rules.specs.Nuclei.{SymbolContent, SymbolRole, OrdinarySymbol, TextSymbol, SmartPair}
 use Rattle.mt_rules.specs.AtomRow.{AtomContent, FractionContent}
 use Rattle.mt_convert.specs.declared.flat.current.Current.{Current}
-use Rattle.mt_convert.specs.Contents.{ItemContent, AtomItem, FractionItem, LeftItem, RightItem, StyleItem, ChoiceItem, MuSpaceItem, SpaceItem, MuKernItem, KernItem, NonscriptItem, ItemContents, NoItems, MoreItems, append_items}
+use Rattle.mt_convert.specs.Contents.{ItemContent, AtomItem, FractionItem, LeftItem, MiddleItem, RightItem, StyleItem, ChoiceItem, MuSpaceItem, SpaceItem, MuKernItem, KernItem, NonscriptItem, ItemContents, NoItems, MoreItems, append_items}
 use Rattle.mt_convert.specs.declared.flat.joining.SymbolPair.{SymbolPair}
 use Rattle.mt_convert.specs.Joining.{pair_with_next, pair_of_fonts}
 
@@ -28,6 +28,7 @@ pub data FlatItem : Type 0 where
   FlatAtom : (role : SymbolRole) (atom : AtomContent) → FlatItem
   FlatFraction : (fraction : FractionContent) → FlatItem
   FlatLeft : (delim : Delim) → FlatItem
+  FlatMiddle : (delim : Delim) → FlatItem
   FlatRight : (delim : Delim) → FlatItem
   FlatStyle : (style : Style) → FlatItem
   FlatMuSpace : (glue : Glue) → FlatItem
@@ -37,21 +38,27 @@ pub data FlatItem : Type 0 where
 
 -- ---- what an item changes for those after it
 
-abbrev pub style_after_item : Style → FlatItem → Style
-style_after_item style (FlatStyle next) = next
-style_after_item style _ = style
+-- after a middle the style in which the list begins holds again
+abbrev pub style_after_item : Style → Style → FlatItem → Style
+style_after_item initial style (FlatStyle next) = next
+style_after_item initial style (FlatMiddle delim) = initial
+style_after_item initial style _ = style
 
--- an atom counts by the class that it has got from the left
+-- an atom counts by the class that it has got from the left, a middle as a left boundary
 abbrev pub class_after_item : Option Class → FlatItem → Option Class
 class_after_item last (FlatAtom role a) = Some (forward_of last (kind_class a.kind))
 class_after_item last (FlatFraction f) = Some Inner
 class_after_item last (FlatLeft delim) = Some Open
+class_after_item last (FlatMiddle delim) = Some Open
 class_after_item last (FlatRight delim) = Some Close
 class_after_item last _ = last
 
 abbrev pub current_after_item : Current → FlatItem → Current
-current_after_item current item =
-    record { style = style_after_item current.style item; last = class_after_item current.last item }
+current_after_item current item = record {
+  initial = current.initial;
+  style = style_after_item current.initial current.style item;
+  last = class_after_item current.last item;
+}
 
 -- ---- one turn, at the front of a list
 
@@ -121,6 +128,7 @@ turn fonts current (AtomItem a) rest =
     atom_turn fonts (size_of current.style) a rest (pair_with_next current.last a rest)
 turn fonts current (FractionItem f) rest = passes (FlatFraction f) rest
 turn fonts current (LeftItem delim) rest = passes (FlatLeft delim) rest
+turn fonts current (MiddleItem delim) rest = passes (FlatMiddle delim) rest
 turn fonts current (RightItem delim) rest = passes (FlatRight delim) rest
 turn fonts current (StyleItem style) rest = passes (FlatStyle style) rest
 turn fonts current (ChoiceItem display text script small) rest =

@@ -9,11 +9,12 @@ use Rattle.mt_rules.specs.declared.class.Class.{Class}
 use Rattle.mt_rules.specs.Spaces.{never_meet}
 use Rattle.mt_convert.specs.declared.half.Half.{Half}
 use Rattle.mt_convert.specs.declared.half.Half.TheVariants as half
-use Rattle.mt_convert.specs.Halves.{HalfValue, HalfAtom, HalfLeft, HalfRight, HalfStyle, HalfKern, HalfSpace, Halves, class_to_left, class_to_right}
+use Rattle.mt_convert.specs.Halves.{HalfValue, HalfAtom, HalfLeft, HalfMiddle, HalfRight, HalfStyle, HalfKern, HalfSpace, Halves, class_to_left, class_to_right}
 
 abbrev pub half_value : Half → HalfValue
 half_value (half.Set class row) = HalfAtom class (piece_values row)
 half_value (half.Left delim) = HalfLeft delim
+half_value (half.Middle delim) = HalfMiddle delim
 half_value (half.Right delim) = HalfRight delim
 half_value (half.Style style) = HalfStyle style
 half_value (half.Kern amount) = HalfKern amount
@@ -42,6 +43,7 @@ pub record RowFits (most : ℕ) (row : List Piece) : Type 0 where
 abbrev pub HalfFits : ℕ → Half → Type 0
 HalfFits most (half.Set class row) = RowFits most row
 HalfFits most (half.Left delim) = ⊤
+HalfFits most (half.Middle delim) = ⊤
 HalfFits most (half.Right delim) = ⊤
 HalfFits most (half.Style style) = ⊤
 HalfFits most (half.Kern amount) = Within (2 ^ 40) amount
@@ -55,6 +57,7 @@ HalvesFit most (h ∷ hs) = HalfFits most h × HalvesFit most hs
 abbrev pub count_of : Half → ℕ
 count_of (half.Set class row) = length row
 count_of (half.Left delim) = 0
+count_of (half.Middle delim) = 0
 count_of (half.Right delim) = 0
 count_of (half.Style style) = 0
 count_of (half.Kern amount) = 0
@@ -77,18 +80,34 @@ abbrev pub AllMeet : Option Class → List HalfValue → Type 0
 AllMeet last [] = ⊤
 AllMeet last (h ∷ hs) = MayMeet last (class_to_left h) × AllMeet (option_or (class_to_right h) last) hs
 
--- ---- boundaries
+-- ---- boundaries and middles
 
--- a right boundary stands only last, and a left one nowhere
+-- a right boundary stands only last, a left one and a middle nowhere
 abbrev pub MayEnd : List HalfValue → Type 0
 MayEnd [] = ⊤
 MayEnd (HalfRight delim ∷ hs) = hs ≡ []
 MayEnd (HalfLeft delim ∷ hs) = ⊥
+MayEnd (HalfMiddle delim ∷ hs) = ⊥
 MayEnd (h ∷ hs) = MayEnd hs
 
--- a left boundary stands only first
+-- after a middle: there is a right boundary, which stands last, and a left one nowhere
+abbrev pub MustEnd : List HalfValue → Type 0
+MustEnd [] = ⊥
+MustEnd (HalfRight delim ∷ hs) = hs ≡ []
+MustEnd (HalfLeft delim ∷ hs) = ⊥
+MustEnd (h ∷ hs) = MustEnd hs
+
+-- after a left boundary: a right one stands only last, a left one nowhere, and middles only before a right one
+abbrev pub EndsAfterLeft : List HalfValue → Type 0
+EndsAfterLeft [] = ⊤
+EndsAfterLeft (HalfRight delim ∷ hs) = hs ≡ []
+EndsAfterLeft (HalfLeft delim ∷ hs) = ⊥
+EndsAfterLeft (HalfMiddle delim ∷ hs) = MustEnd hs
+EndsAfterLeft (h ∷ hs) = EndsAfterLeft hs
+
+-- a left boundary stands only first, a right one only last, and middles only between these two
 abbrev pub BoundariesOutside : List HalfValue → Type 0
-BoundariesOutside (HalfLeft delim ∷ hs) = MayEnd hs
+BoundariesOutside (HalfLeft delim ∷ hs) = EndsAfterLeft hs
 BoundariesOutside hs = MayEnd hs
 
 pub record IsHalfway (h : HalfwayValue) : Type 0 where

@@ -15,16 +15,18 @@ pub data HalfValue : Type 0 where
   -- an atom or a fraction
   HalfAtom : (class : Class) (row : List PieceValue) → HalfValue
   HalfLeft : (delim : Delim) → HalfValue
+  HalfMiddle : (delim : Delim) → HalfValue
   HalfRight : (delim : Delim) → HalfValue
   HalfStyle : (style : Style) → HalfValue
   HalfKern : (amount : ℤ) → HalfValue
   HalfSpace : (glue : Glue) → HalfValue
 
 -- The class that an item counts as for the atom at its left, and for the one at its right, where it is spaced as an
--- atom.
+-- atom. A middle is a right boundary to its left, and a left one to its right.
 abbrev pub class_to_left : HalfValue → Option Class
 class_to_left (HalfAtom class row) = Some class
 class_to_left (HalfLeft delim) = Some Open
+class_to_left (HalfMiddle delim) = Some Close
 class_to_left (HalfRight delim) = Some Close
 class_to_left (HalfStyle style) = None
 class_to_left (HalfKern amount) = None
@@ -33,6 +35,7 @@ class_to_left (HalfSpace glue) = None
 abbrev pub class_to_right : HalfValue → Option Class
 class_to_right (HalfAtom class row) = Some class
 class_to_right (HalfLeft delim) = Some Open
+class_to_right (HalfMiddle delim) = Some Open
 class_to_right (HalfRight delim) = Some Close
 class_to_right (HalfStyle style) = None
 class_to_right (HalfKern amount) = None
@@ -77,7 +80,7 @@ greatest_depth (half ∷ halves) = int_max (half_depth half) (greatest_depth hal
 
 pub record Halves : Type 0 where
   pub items : List HalfValue
-  -- the greatest height and depth of the atoms, by which boundaries have their size
+  -- the greatest height and depth of the atoms, by which boundaries and middles have their size
   pub height : ℤ
   pub depth : ℤ
 

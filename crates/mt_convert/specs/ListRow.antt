@@ -5,9 +5,9 @@ use Rattle.mt_family.specs.SetValue.{SetValue}
 use Rattle.mt_box.specs.Rows.{PieceValue}
 use Rattle.mt_rules.specs.declared.style.Style.{Style}
 use Rattle.mt_rules.specs.Setting.{Setting, ◌>>=◌}
-use Rattle.mt_rules.specs.Sequence.{Sequence, Element, Part, Rows, End, More, AtomElement, FractionElement, LeftElement, RightElement, StyleElement, ChoiceElement, MuSpaceElement, SpaceElement, MuKernElement, KernElement, NonscriptElement, EmptyPart, SymbolPart, ListPart, RowsPart, NoRows, MoreRows, sequence_size}
+use Rattle.mt_rules.specs.Sequence.{Sequence, Element, Part, Rows, End, More, AtomElement, FractionElement, LeftElement, MiddleElement, RightElement, StyleElement, ChoiceElement, MuSpaceElement, SpaceElement, MuKernElement, KernElement, NonscriptElement, EmptyPart, SymbolPart, ListPart, RowsPart, NoRows, MoreRows, sequence_size}
 use Rattle.mt_rules.specs.Nuclei.{RowByStyle, Content, NoContent, SymbolContent, ListContent, RowsContent}
-use Rattle.mt_convert.specs.Contents.{ItemContent, AtomItem, FractionItem, LeftItem, RightItem, StyleItem, ChoiceItem, MuSpaceItem, SpaceItem, MuKernItem, KernItem, NonscriptItem, ItemContents, NoItems, MoreItems}
+use Rattle.mt_convert.specs.Contents.{ItemContent, AtomItem, FractionItem, LeftItem, MiddleItem, RightItem, StyleItem, ChoiceItem, MuSpaceItem, SpaceItem, MuKernItem, KernItem, NonscriptItem, ItemContents, NoItems, MoreItems}
 use Rattle.mt_convert.specs.Halves.{Halves}
 use Rattle.mt_convert.specs.FirstPass.{first_pass_of}
 use Rattle.mt_convert.specs.SecondPass.{second_pass_of}
@@ -42,6 +42,7 @@ module _ (fonts : SetValue) where
           den = row_of_items fonts (sequence_size den) (items_of den);
         })
     item_of (LeftElement delim) = LeftItem delim
+    item_of (MiddleElement delim) = MiddleItem delim
     item_of (RightElement delim) = RightItem delim
     item_of (StyleElement style) = StyleItem style
     item_of (ChoiceElement display text script small) =

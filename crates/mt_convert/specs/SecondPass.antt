@@ -1,5 +1,6 @@
--- The second pass (`second_pass_of`): the rows of the items side by side, with the spaces between atoms and the
--- boundaries at the two ends (The TeXbook, Appendix G, rules 19 and 20; chapter 18; tex.web, sections 760 to 767).
+-- The second pass (`second_pass_of`): the rows of the items side by side, with the spaces between atoms, the boundaries
+-- at the two ends and the middles between them (The TeXbook, Appendix G, rules 19 and 20; chapter 18; tex.web, sections
+-- 760 to 767; middles as in e-TeX).
 use Rattle.std.specs.Prelude.{ℤ, List, [], ◌∷◌, ◌++◌, Option, Some, None, Ok}
 use Rattle.std.specs.Option.{option_or}
 use Rattle.mt_family.specs.declared.size.Size.{Size}
@@ -16,7 +17,7 @@ use Rattle.mt_rules.specs.Setting.{Setting, ◌>>=◌, make_row}
 use Rattle.mt_rules.specs.Delimiters.{delimiter, piece_on_axis, boundary_size}
 use Rattle.mt_convert.specs.declared.flat.current.Current.{Current}
 use Rattle.mt_convert.specs.Current.{opening}
-use Rattle.mt_convert.specs.Halves.{HalfValue, HalfAtom, HalfLeft, HalfRight, HalfStyle, HalfKern, HalfSpace, Halves, class_to_right}
+use Rattle.mt_convert.specs.Halves.{HalfValue, HalfAtom, HalfLeft, HalfMiddle, HalfRight, HalfStyle, HalfKern, HalfSpace, Halves, class_to_right}
 use Rattle.mt_convert.specs.FirstPass.{math_unit}
 
 -- ---- the space before an atom
@@ -42,13 +43,18 @@ space_before fonts current right = pieces_between fonts current.style current.la
 
 -- ---- the pieces of an item
 
-abbrev pub style_after_half : Style → HalfValue → Style
-style_after_half style (HalfStyle next) = next
-style_after_half style _ = style
+-- after a middle the style in which the list begins holds again
+abbrev pub style_after_half : Style → Style → HalfValue → Style
+style_after_half initial style (HalfStyle next) = next
+style_after_half initial style (HalfMiddle delim) = initial
+style_after_half initial style _ = style
 
 abbrev pub current_after_half : Current → HalfValue → Current
-current_after_half current half =
-    record { style = style_after_half current.style half; last = option_or (class_to_right half) current.last }
+current_after_half current half = record {
+  initial = current.initial;
+  style = style_after_half current.initial current.style half;
+  last = option_or (class_to_right half) current.last;
+}
 
 -- a delimiter of the wanted size at this size, in the middle of the axis
 abbrev pub boundary_piece : SetValue → Size → ℤ → Delim → Setting PieceValue
@@ -64,6 +70,7 @@ boundary_pieces fonts size wanted current class delim = do
 abbrev pub half_pieces : SetValue → Size → ℤ → Current → HalfValue → Setting (List PieceValue)
 half_pieces fonts size wanted current (HalfAtom class row) = Ok (space_before fonts current class ++ row)
 half_pieces fonts size wanted current (HalfLeft delim) = boundary_pieces fonts size wanted current Open delim
+half_pieces fonts size wanted current (HalfMiddle delim) = boundary_pieces fonts size wanted current Close delim
 half_pieces fonts size wanted current (HalfRight delim) = boundary_pieces fonts size wanted current Close delim
 half_pieces fonts size wanted current (HalfStyle style) = Ok []
 half_pieces fonts size wanted current (HalfKern amount) = Ok (PieceKern amount ∷ [])
@@ -84,8 +91,8 @@ row_of_halves fonts size wanted style halves = do
   pieces ← all_pieces fonts size wanted (opening style) halves
   make_row pieces
 
--- Boundaries have their size at that of the style in which the list begins. They stand at the ends alone, so nothing
--- else is made between the left one and the right one.
+-- Boundaries and middles have one wanted size, at the size of the style in which the list begins. All else is made
+-- before, so they are made in the order of the list.
 unfoldable pub second_pass_of : SetValue → Style → Halves → Setting (List PieceValue)
 second_pass_of fonts style halves =
     let size = size_of style in

@@ -19,6 +19,8 @@ pub enum Half {
     },
     /// A left boundary.
     Left(Delim),
+    /// A middle: a right boundary to its left, and a left one to its right.
+    Middle(Delim),
     /// A right boundary.
     Right(Delim),
     /// The style of what follows.
@@ -40,7 +42,7 @@ impl Half {
         match self {
             Half::Set { class, .. } => Some(*class),
             Half::Left(_) => Some(Class::Open),
-            Half::Right(_) => Some(Class::Close),
+            Half::Middle(_) | Half::Right(_) => Some(Class::Close),
             _ => None,
         }
     }
@@ -51,7 +53,7 @@ impl Half {
     {
         match self {
             Half::Set { class, .. } => Some(*class),
-            Half::Left(_) => Some(Class::Open),
+            Half::Left(_) | Half::Middle(_) => Some(Class::Open),
             Half::Right(_) => Some(Class::Close),
             _ => None,
         }

@@ -112,8 +112,8 @@ fn look_at_fonts(fonts: &FontSet)
 ///
 /// # Errors
 ///
-/// The first fault of an item, with the causes of [`set_list`]. Boundaries and the row as a whole
-/// are not tested yet.
+/// The first fault of an item, with the causes of [`set_list`]. Boundaries, middles and the row as a
+/// whole are not tested yet.
 #[cycle(setting)]
 pub fn first_pass(
     alloc: Global,
@@ -127,7 +127,7 @@ pub fn first_pass(
 {
     let mut rest = Worklist::of(list);
     let mut halves = Vec::with_capacity(alloc, rest.len())?;
-    let mut current = Current { style, last: None };
+    let mut current = Current::opening(style);
     while let Some(front) = rest.pop() {
         if let Some(passed) = turn(fonts, current, front, &mut rest)? {
             let next = current.after_passed(&passed);
@@ -169,6 +169,7 @@ fn set_item(
             })
         }
         Passed::Left(delim) => Ok(Half::Left(delim)),
+        Passed::Middle(delim) => Ok(Half::Middle(delim)),
         Passed::Right(delim) => Ok(Half::Right(delim)),
         Passed::Style(style) => Ok(Half::Style(style)),
         Passed::MuSpace(glue) => make_space(glue_in_points(fonts, current.style, glue)),

@@ -17,11 +17,11 @@ use Rattle.mt_rules.specs.Setting.{◌>>=◌, ◌>>◌, test_value}
 use Rattle.mt_rules.specs.AtomRow.{AtomContent, atom_row, fraction_row}
 use Rattle.mt_convert.specs.declared.flat.current.Current.{Current}
 use Rattle.mt_convert.specs.Current.{opening}
-use Rattle.mt_convert.specs.Contents.{ItemContent, AtomItem, FractionItem, LeftItem, RightItem, StyleItem, ChoiceItem, MuSpaceItem, SpaceItem, MuKernItem, KernItem, NonscriptItem, ItemContents, NoItems, MoreItems, append_items}
+use Rattle.mt_convert.specs.Contents.{ItemContent, AtomItem, FractionItem, LeftItem, MiddleItem, RightItem, StyleItem, ChoiceItem, MuSpaceItem, SpaceItem, MuKernItem, KernItem, NonscriptItem, ItemContents, NoItems, MoreItems, append_items}
 use Rattle.mt_convert.specs.declared.flat.joining.SymbolPair.{SymbolPair}
 use Rattle.mt_convert.specs.Joining.{pair_with_next, pair_of_fonts}
-use Rattle.mt_convert.specs.Flat.{FlatItem, FlatAtom, FlatFraction, FlatLeft, FlatRight, FlatStyle, FlatMuSpace, FlatSpace, FlatMuKern, FlatKern, current_after_item, FrontTurn, Passes, Rewrites, as_symbol, first_as_symbol, pair_turn, atom_turn, list_for, is_space_or_kern, without_space, turn, current_after_items, flat_by, flat}
-use Rattle.mt_convert.specs.Halves.{HalfValue, HalfAtom, HalfLeft, HalfRight, HalfStyle, HalfKern, HalfSpace, Halves, next_class, settled_half, settled_halves, settle}
+use Rattle.mt_convert.specs.Flat.{FlatItem, FlatAtom, FlatFraction, FlatLeft, FlatMiddle, FlatRight, FlatStyle, FlatMuSpace, FlatSpace, FlatMuKern, FlatKern, current_after_item, FrontTurn, Passes, Rewrites, as_symbol, first_as_symbol, pair_turn, atom_turn, list_for, is_space_or_kern, without_space, turn, current_after_items, flat_by, flat}
+use Rattle.mt_convert.specs.Halves.{HalfValue, HalfAtom, HalfLeft, HalfMiddle, HalfRight, HalfStyle, HalfKern, HalfSpace, Halves, next_class, settled_half, settled_halves, settle}
 use Rattle.mt_convert.specs.FirstPass.{in_points, glue_in_points, make_space, make_kern, set_item, set_items, first_pass_of}
 use Rattle.mt_convert.specs.Holding.{RowHolds}
 use Rattle.mt_convert.proofs.holds.Steps.{step_holds, after_value}
@@ -36,6 +36,7 @@ module _ (fonts : SetValue) where
     ItemHolds (AtomItem a) = AtomHolds fonts a
     ItemHolds (FractionItem f) = FractionHolds fonts f
     ItemHolds (LeftItem delim) = ⊤
+    ItemHolds (MiddleItem delim) = ⊤
     ItemHolds (RightItem delim) = ⊤
     ItemHolds (StyleItem style) = ⊤
     ItemHolds (ChoiceItem display text script small) = ItemsHold display × ItemsHold text × ItemsHold script × ItemsHold small
@@ -59,6 +60,7 @@ module _ (fonts : SetValue) where
   FlatHolds (FlatAtom role a) = AtomHolds fonts a
   FlatHolds (FlatFraction f) = FractionHolds fonts f
   FlatHolds (FlatLeft delim) = ⊤
+  FlatHolds (FlatMiddle delim) = ⊤
   FlatHolds (FlatRight delim) = ⊤
   FlatHolds (FlatStyle style) = ⊤
   FlatHolds (FlatMuSpace glue) = ⊤
@@ -84,6 +86,7 @@ module _ (fonts : SetValue) where
   as_symbol_holds symbol (AtomItem a) h = (tt, h.1, h.2)
   as_symbol_holds symbol (FractionItem f) h = h
   as_symbol_holds symbol (LeftItem delim) h = h
+  as_symbol_holds symbol (MiddleItem delim) h = h
   as_symbol_holds symbol (RightItem delim) h = h
   as_symbol_holds symbol (StyleItem style) h = h
   as_symbol_holds symbol (ChoiceItem display text script small) h = h
@@ -134,6 +137,7 @@ module _ (fonts : SetValue) where
   turn_holds current (AtomItem a) rest h k = atom_turn_holds (size_of current.style) a rest (pair_with_next current.last a rest) h k
   turn_holds current (FractionItem f) rest h k = ((h, tt), k)
   turn_holds current (LeftItem delim) rest h k = ((tt, tt), k)
+  turn_holds current (MiddleItem delim) rest h k = ((tt, tt), k)
   turn_holds current (RightItem delim) rest h k = ((tt, tt), k)
   turn_holds current (StyleItem style) rest h k = ((tt, tt), k)
   turn_holds current (ChoiceItem display text script small) rest h k =
@@ -162,6 +166,7 @@ module _ (fonts : SetValue) where
   abbrev pub HalfHolds : HalfValue → Type 0
   HalfHolds (HalfAtom class row) = RowHolds fonts row
   HalfHolds (HalfLeft delim) = ⊤
+  HalfHolds (HalfMiddle delim) = ⊤
   HalfHolds (HalfRight delim) = ⊤
   HalfHolds (HalfStyle style) = ⊤
   HalfHolds (HalfKern amount) = ⊤
@@ -187,6 +192,7 @@ module _ (fonts : SetValue) where
       step_holds (RowHolds fonts) HalfHolds (fraction_row fonts current.style f) (λ row. Ok (HalfAtom Inner row))
       (fraction_row_holds fonts current.style f sound h) (λ row k. k)
   item_set current (FlatLeft delim) sound h = tt
+  item_set current (FlatMiddle delim) sound h = tt
   item_set current (FlatRight delim) sound h = tt
   item_set current (FlatStyle style) sound h = tt
   item_set current (FlatMuSpace glue) sound h = space_holds (glue_in_points fonts current.style glue)
@@ -206,6 +212,7 @@ module _ (fonts : SetValue) where
   settled_half_holds : (half : HalfValue) (after : Option Class) → HalfHolds half → HalfHolds (settled_half half after)
   settled_half_holds (HalfAtom class row) after h = h
   settled_half_holds (HalfLeft delim) after h = h
+  settled_half_holds (HalfMiddle delim) after h = h
   settled_half_holds (HalfRight delim) after h = h
   settled_half_holds (HalfStyle style) after h = h
   settled_half_holds (HalfKern amount) after h = h

@@ -7,7 +7,7 @@ use Rattle.mt_box.specs.declared.piece.Piece.{Piece}
 use Rattle.mt_box.specs.Rows.{PieceValue, piece_values}
 use Rattle.mt_rules.specs.declared.style.Style.{Style}
 use Rattle.mt_rules.specs.Setting.{◌>>=◌}
-use Rattle.mt_rules.specs.Sequence.{Sequence, Element, Part, Rows, End, More, AtomElement, FractionElement, LeftElement, RightElement, StyleElement, ChoiceElement, MuSpaceElement, SpaceElement, MuKernElement, KernElement, NonscriptElement, EmptyPart, SymbolPart, ListPart, RowsPart, NoRows, MoreRows, sequence_size}
+use Rattle.mt_rules.specs.Sequence.{Sequence, Element, Part, Rows, End, More, AtomElement, FractionElement, LeftElement, MiddleElement, RightElement, StyleElement, ChoiceElement, MuSpaceElement, SpaceElement, MuKernElement, KernElement, NonscriptElement, EmptyPart, SymbolPart, ListPart, RowsPart, NoRows, MoreRows, sequence_size}
 use Rattle.mt_convert.specs.declared.fault.SetFault.{SetFault}
 use Rattle.mt_convert.specs.Calls.{SetsRow}
 use Rattle.mt_convert.specs.Contents.{ItemContents}
@@ -42,6 +42,7 @@ module _ (fonts : SetValue) (sound : All IsSoundFont fonts.fonts) where
       λ style. two_passes (sequence_size den) style (items_of fonts den) (items_hold den),
     )
     item_holds (LeftElement delim) = tt
+    item_holds (MiddleElement delim) = tt
     item_holds (RightElement delim) = tt
     item_holds (StyleElement style) = tt
     item_holds (ChoiceElement display text script small) = (items_hold display, items_hold text, items_hold script, items_hold small)

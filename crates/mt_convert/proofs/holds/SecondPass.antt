@@ -13,7 +13,7 @@ use Rattle.mt_rules.specs.Setting.{◌>>=◌, make_row}
 use Rattle.mt_rules.specs.Delimiters.{delimiter, piece_on_axis, boundary_size}
 use Rattle.mt_convert.specs.declared.flat.current.Current.{Current}
 use Rattle.mt_convert.specs.Current.{opening}
-use Rattle.mt_convert.specs.Halves.{HalfValue, HalfAtom, HalfLeft, HalfRight, HalfStyle, HalfKern, HalfSpace, Halves}
+use Rattle.mt_convert.specs.Halves.{HalfValue, HalfAtom, HalfLeft, HalfMiddle, HalfRight, HalfStyle, HalfKern, HalfSpace, Halves}
 use Rattle.mt_convert.specs.FirstPass.{math_unit}
 use Rattle.mt_convert.specs.SecondPass.{spacing_pieces, pieces_between, space_before, current_after_half, boundary_piece, boundary_pieces, half_pieces, all_pieces, row_of_halves, second_pass_of}
 use Rattle.mt_convert.specs.Holding.{LayoutHolds, PieceHolds, RowHolds}
@@ -47,6 +47,7 @@ module _ (fonts : SetValue) where
   half_row : (size : Size) (wanted : ℤ) (current : Current) (half : HalfValue) → AreSound fonts → HalfHolds fonts half → IfOk (half_pieces fonts size wanted current half) (RowHolds fonts)
   half_row size wanted current (HalfAtom class row) sound h = row_holds_append fonts (space_before fonts current class) row (between_holds current.style current.last class) h
   half_row size wanted current (HalfLeft delim) sound h = boundary_row size wanted current Open delim sound
+  half_row size wanted current (HalfMiddle delim) sound h = boundary_row size wanted current Close delim sound
   half_row size wanted current (HalfRight delim) sound h = boundary_row size wanted current Close delim sound
   half_row size wanted current (HalfStyle style) sound h = tt
   half_row size wanted current (HalfKern amount) sound h = (tt, tt)

@@ -1,47 +1,46 @@
--- Where boundaries stand in what is left of a list (`Remains`), beside the items that are set so far.
-use Rattle.std.specs.Prelude.{◌≡◌, ⊤, List, [], ◌∷◌, Option, Some, None}
+-- Where boundaries and middles stand in what is left of a list (`Remains`), beside the items that are set so far.
+use Rattle.std.specs.Prelude.{◌≡◌, ⊤, Bool, true, false, List, [], ◌∷◌, Option, Some, None}
+use Rattle.mt_rules.specs.declared.symbol.Delim.{Delim}
 use Rattle.mt_rules.specs.Facts.{NoBoundary}
-use Rattle.mt_rules.specs.Sequence.{Sequence, End, More, LeftElement, RightElement, ChoiceElement}
+use Rattle.mt_rules.specs.Sequence.{Sequence, End, More, LeftElement, MiddleElement, RightElement, ChoiceElement}
 use Rattle.mt_convert.specs.declared.flat.passed.Passed.{Passed as CodePassed}
-use Rattle.mt_convert.specs.Halves.{HalfValue, HalfLeft, HalfRight}
+use Rattle.mt_convert.specs.Halves.{HalfValue, HalfLeft, HalfMiddle, HalfRight}
 use Rattle.mt_convert.specs.Halfway.{BoundariesOutside}
 use Rattle.mt_convert.specs.inner.Turns.{element_of_passed, passed_value}
 
--- a right boundary only last, a left one nowhere, and none in the lists of a choice
-abbrev pub RestOfList : Sequence → Type 0
-RestOfList End = ⊤
-RestOfList (More (LeftElement delim) s) = ⊥
-RestOfList (More (RightElement delim) s) = s ≡ End
-RestOfList (More (ChoiceElement display text script small) s) =
-    NoBoundary display × NoBoundary text × NoBoundary script × NoBoundary small × RestOfList s
-RestOfList (More _ s) = RestOfList s
-
--- the same, but a left boundary may be first
-abbrev pub StartOfList : Sequence → Type 0
-StartOfList (More (LeftElement delim) s) = RestOfList s
-StartOfList s = RestOfList s
+-- After a left boundary (`enclosed`) middles and a right boundary, which stands last; without one neither. A left one
+-- nowhere, and none of these in the lists of a choice.
+abbrev pub RestOfList : Bool → Sequence → Type 0
+RestOfList enclosed End = enclosed ≡ false
+RestOfList enclosed (More (LeftElement delim) s) = ⊥
+RestOfList enclosed (More (MiddleElement delim) s) = (enclosed ≡ true) × RestOfList enclosed s
+RestOfList enclosed (More (RightElement delim) s) = (enclosed ≡ true) × (s ≡ End)
+RestOfList enclosed (More (ChoiceElement display text script small) s) =
+    NoBoundary display × NoBoundary text × NoBoundary script × NoBoundary small × RestOfList enclosed s
+RestOfList enclosed (More _ s) = RestOfList enclosed s
 
 -- what a turn leaves
-abbrev pub TurnLeaves : Option CodePassed → Sequence → Type 0
-TurnLeaves None rest = RestOfList rest
-TurnLeaves (Some p) rest = RestOfList (More (element_of_passed (passed_value p)) rest)
+abbrev pub TurnLeaves : Bool → Option CodePassed → Sequence → Type 0
+TurnLeaves enclosed None rest = RestOfList enclosed rest
+TurnLeaves enclosed (Some p) rest = RestOfList enclosed (More (element_of_passed (passed_value p)) rest)
 
-abbrev pub NoBoundaries : List HalfValue → Type 0
-NoBoundaries [] = ⊤
-NoBoundaries (HalfLeft delim ∷ hs) = ⊥
-NoBoundaries (HalfRight delim ∷ hs) = ⊥
-NoBoundaries (h ∷ hs) = NoBoundaries hs
+-- no boundary, and middles only after a left one
+abbrev pub NoBoundaries : Bool → List HalfValue → Type 0
+NoBoundaries enclosed [] = ⊤
+NoBoundaries enclosed (HalfLeft delim ∷ hs) = ⊥
+NoBoundaries enclosed (HalfMiddle delim ∷ hs) = (enclosed ≡ true) × NoBoundaries enclosed hs
+NoBoundaries enclosed (HalfRight delim ∷ hs) = ⊥
+NoBoundaries enclosed (h ∷ hs) = NoBoundaries enclosed hs
 
--- no right boundary so far, and a left one only first
-abbrev pub IsOpen : List HalfValue → Type 0
-IsOpen (HalfLeft delim ∷ hs) = NoBoundaries hs
-IsOpen hs = NoBoundaries hs
+-- no right boundary so far, and a left one first or none
+abbrev pub IsOpen : Bool → List HalfValue → Type 0
+IsOpen true (HalfLeft delim ∷ hs) = NoBoundaries true hs
+IsOpen true hs = ⊥
+IsOpen false hs = NoBoundaries false hs
 
-abbrev pub RestAfter : List HalfValue → Sequence → Type 0
-RestAfter [] s = StartOfList s
-RestAfter (h ∷ hs) s = RestOfList s
-
--- items so far, and what is left: the list goes on, or it is at its end
+-- items so far, and what is left: the left boundary is next, or the list goes on, or it is at its end
 pub data Remains (hs : List HalfValue) (s : Sequence) : Type 0 where
-  GoesOn : IsOpen hs → RestAfter hs s → Remains hs s
+  Begins : (delim : Delim) (rest : Sequence) → hs ≡ [] → s ≡ More (LeftElement delim) rest → RestOfList true rest
+      → Remains hs s
+  GoesOn : (enclosed : Bool) → IsOpen enclosed hs → RestOfList enclosed s → Remains hs s
   IsOver : BoundariesOutside hs → s ≡ End → Remains hs s

@@ -6,6 +6,7 @@ use Rattle.mt_convert.specs.declared.half.Half.TheVariants as half
 abbrev pub is_set_atom : Half → Bool
 is_set_atom (half.Set class row) = true
 is_set_atom (half.Left delim) = false
+is_set_atom (half.Middle delim) = false
 is_set_atom (half.Right delim) = false
 is_set_atom (half.Style style) = false
 is_set_atom (half.Kern amount) = false

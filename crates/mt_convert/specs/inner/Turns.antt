@@ -19,7 +19,7 @@ use Rattle.mt_rules.specs.declared.list.Fraction.{Fraction as FractionFields}
 use Rattle.mt_rules.specs.Styles.{size_of, is_display_or_text}
 use Rattle.mt_rules.specs.Classes.{kind_class, forward_of}
 use Rattle.mt_rules.specs.Nuclei.{SymbolRole, OrdinarySymbol, TextSymbol, SmartPair}
-use Rattle.mt_rules.specs.Sequence.{Sequence, Element, Part, End, More, AtomElement, FractionElement, LeftElement, RightElement, StyleElement, ChoiceElement, MuSpaceElement, SpaceElement, MuKernElement, KernElement, NonscriptElement, EmptyPart, SymbolPart}
+use Rattle.mt_rules.specs.Sequence.{Sequence, Element, Part, End, More, AtomElement, FractionElement, LeftElement, MiddleElement, RightElement, StyleElement, ChoiceElement, MuSpaceElement, SpaceElement, MuKernElement, KernElement, NonscriptElement, EmptyPart, SymbolPart}
 use Rattle.mt_rules.specs.View.{part_of_field}
 use Rattle.mt_convert.specs.declared.flat.current.Current.{Current}
 use Rattle.mt_convert.specs.declared.flat.joining.SymbolPair.{SymbolPair}
@@ -29,7 +29,7 @@ use Rattle.mt_convert.specs.declared.flat.passed.JoiningRole.{JoiningRole}
 use Rattle.mt_convert.specs.declared.flat.passed.JoiningRole.TheVariants as role
 use Rattle.mt_convert.specs.Joining.{is_ord_by_now, is_any_but_inner, symbol_pair, pair_of_fonts}
 use Rattle.mt_convert.specs.Flat as flat
-use Rattle.mt_convert.specs.Flat.{FlatItem, FlatAtom, FlatFraction, FlatLeft, FlatRight, FlatStyle, FlatMuSpace, FlatSpace, FlatMuKern, FlatKern, list_for, no_glue}
+use Rattle.mt_convert.specs.Flat.{FlatItem, FlatAtom, FlatFraction, FlatLeft, FlatMiddle, FlatRight, FlatStyle, FlatMuSpace, FlatSpace, FlatMuKern, FlatKern, list_for, no_glue}
 use Rattle.mt_convert.specs.ListRow.{items_of}
 use Rattle.mt_convert.specs.inner.Fields.{atom_content, fraction_content}
 
@@ -42,6 +42,7 @@ pub data PassedElement : Type 0 where
       (kern : Option ℤ) → PassedElement
   PassedFraction : (thickness : Option ℤ) (left right : Delim) (num den : Sequence) → PassedElement
   PassedLeft : (delim : Delim) → PassedElement
+  PassedMiddle : (delim : Delim) → PassedElement
   PassedRight : (delim : Delim) → PassedElement
   PassedStyle : (style : Style) → PassedElement
   PassedMuSpace : (glue : Glue) → PassedElement
@@ -53,6 +54,7 @@ abbrev pub element_of_passed : PassedElement → Element
 element_of_passed (PassedAtom kind limits nucleus sup sub role kern) = AtomElement kind limits nucleus sup sub
 element_of_passed (PassedFraction thickness left right num den) = FractionElement thickness left right num den
 element_of_passed (PassedLeft delim) = LeftElement delim
+element_of_passed (PassedMiddle delim) = MiddleElement delim
 element_of_passed (PassedRight delim) = RightElement delim
 element_of_passed (PassedStyle style) = StyleElement style
 element_of_passed (PassedMuSpace glue) = MuSpaceElement glue
@@ -78,6 +80,7 @@ abbrev pub passed_value : CodePassed → PassedElement
 passed_value (passed.Atom r kern atom) = atom_passed atom.value r kern
 passed_value (passed.Fraction fraction) = fraction_passed fraction.value
 passed_value (passed.Left delim) = PassedLeft delim
+passed_value (passed.Middle delim) = PassedMiddle delim
 passed_value (passed.Right delim) = PassedRight delim
 passed_value (passed.Style style) = PassedStyle style
 passed_value (passed.MuSpace glue) = PassedMuSpace glue
@@ -102,6 +105,7 @@ flat_item fonts (PassedAtom kind limits nucleus sup sub role kern) =
 flat_item fonts (PassedFraction thickness left right num den) =
     FlatFraction (fraction_content fonts thickness left right num den)
 flat_item fonts (PassedLeft delim) = FlatLeft delim
+flat_item fonts (PassedMiddle delim) = FlatMiddle delim
 flat_item fonts (PassedRight delim) = FlatRight delim
 flat_item fonts (PassedStyle style) = FlatStyle style
 flat_item fonts (PassedMuSpace glue) = FlatMuSpace glue
@@ -113,20 +117,25 @@ abbrev pub flat_items : SetValue → PassedElement → List FlatItem
 flat_items fonts p = flat_item fonts p ∷ kern_items (kern_of p)
 
 -- what it changes for those after it
-abbrev pub style_after_passed : Style → PassedElement → Style
-style_after_passed style (PassedStyle next) = next
-style_after_passed style _ = style
+abbrev pub style_after_passed : Style → Style → PassedElement → Style
+style_after_passed initial style (PassedStyle next) = next
+style_after_passed initial style (PassedMiddle delim) = initial
+style_after_passed initial style _ = style
 
 abbrev pub class_after_passed : Option Class → PassedElement → Option Class
 class_after_passed last (PassedAtom kind limits nucleus sup sub role kern) = Some (forward_of last (kind_class kind))
 class_after_passed last (PassedFraction thickness left right num den) = Some Inner
 class_after_passed last (PassedLeft delim) = Some Open
+class_after_passed last (PassedMiddle delim) = Some Open
 class_after_passed last (PassedRight delim) = Some Close
 class_after_passed last _ = last
 
 abbrev pub current_after_passed : Current → PassedElement → Current
-current_after_passed current p =
-    record { style = style_after_passed current.style p; last = class_after_passed current.last p }
+current_after_passed current p = record {
+  initial = current.initial;
+  style = style_after_passed current.initial current.style p;
+  last = class_after_passed current.last p;
+}
 
 -- ---- one turn
 
@@ -213,6 +222,7 @@ turn_of fonts current (AtomElement kind limits nucleus sup sub) s =
 turn_of fonts current (FractionElement thickness left right num den) s =
     PassesOne (PassedFraction thickness left right num den) s
 turn_of fonts current (LeftElement delim) s = PassesOne (PassedLeft delim) s
+turn_of fonts current (MiddleElement delim) s = PassesOne (PassedMiddle delim) s
 turn_of fonts current (RightElement delim) s = PassesOne (PassedRight delim) s
 turn_of fonts current (StyleElement style) s = PassesOne (PassedStyle style) s
 turn_of fonts current (ChoiceElement display text script small) s =

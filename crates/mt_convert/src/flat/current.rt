@@ -1,6 +1,7 @@
 //! Where a list has come to.
 ghost use Rattle.std.specs.Prelude.{◌≡◌};
 ghost use Rattle.mt_rules.specs.Classes.{kind_class};
+ghost use Rattle.mt_convert.specs.Current.{opening as opening_of};
 ghost use Rattle.mt_convert.specs.inner.Turns.{class_after_passed, current_after_passed};
 ghost use Rattle.mt_convert.specs.inner.Turns.{passed_value, style_after_passed};
 
@@ -11,30 +12,46 @@ use mt_spacing::forward;
 /// Where a list has come to.
 #[derive(Clone, Copy)]
 pub struct Current {
-    /// The style there: that of the last style item before, or else the one in which the list begins.
+    /// The style in which the list begins.
+    pub initial: Style,
+    /// The style there: that of the last style item before, after the last middle, or else the one in
+    /// which the list begins.
     pub style: Style,
     /// The class that the last atom before counts as towards its right, if there is one; boundaries
-    /// are atoms here.
+    /// and middles are atoms here.
     pub last: Option<Class>,
 }
 
 impl Current {
+    // Where a list in this style begins.
+    pub(crate) fn opening(style: Style) -> Current
+        ensures { result ≡ opening_of style }
+    {
+        Current {
+            initial: style,
+            style,
+            last: None,
+        }
+    }
+
     // Where the list has come to after this item.
     pub(crate) fn after_passed(self, passed: &Passed) -> Current
         ensures { result ≡ current_after_passed self (passed_value passed.now) }
     {
         Current {
-            style: style_after_passed(self.style, passed),
+            initial: self.initial,
+            style: style_after_passed(self.initial, self.style, passed),
             last: class_after_passed(self.last, passed),
         }
     }
 }
 
-fn style_after_passed(style: Style, passed: &Passed) -> Style
-    ensures { result ≡ style_after_passed style (passed_value passed.now) }
+fn style_after_passed(initial: Style, style: Style, passed: &Passed) -> Style
+    ensures { result ≡ style_after_passed initial style (passed_value passed.now) }
 {
     match passed {
         Passed::Style(next) => *next,
+        Passed::Middle(_) => initial,
         _ => style,
     }
 }
@@ -45,7 +62,7 @@ fn class_after_passed(last: Option<Class>, passed: &Passed) -> Option<Class>
     match passed {
         Passed::Atom { atom, .. } => Some(forward(last, kind_class(atom.kind))),
         Passed::Fraction(_) => Some(Class::Inner),
-        Passed::Left(_) => Some(Class::Open),
+        Passed::Left(_) | Passed::Middle(_) => Some(Class::Open),
         Passed::Right(_) => Some(Class::Close),
         _ => last,
     }

@@ -36,6 +36,8 @@ pub(crate) enum Passed {
     Fraction(Box<Fraction>),
     /// A left boundary.
     Left(Delim),
+    /// A middle.
+    Middle(Delim),
     /// A right boundary.
     Right(Delim),
     /// The style of what follows.

@@ -1,5 +1,5 @@
 //! One turn at the front of a list (The TeXbook, Appendix G, rules 2 to 4 and 14).
-ghost use Rattle.std.specs.Prelude.{◌≡◌, IfOk, Some};
+ghost use Rattle.std.specs.Prelude.{◌≡◌, Bool, IfOk, Some};
 ghost use Rattle.mt_rules.specs.Sequence.{More};
 ghost use Rattle.mt_rules.specs.View.{atom_element, element_of};
 ghost use Rattle.mt_convert.specs.Flat.{list_for};
@@ -25,8 +25,8 @@ pub(crate) fn turn(
 ) -> Result<Option<Passed>, AllocError>
     ensures turns { IfOk result (λ passed. turned passed rest.new
         ≡ turn_of fonts.now current (element_of front) rest.old) }
-    ensures boundaries { IfOk result (λ passed.
-        RestOfList (More (element_of front) rest.old) → TurnLeaves passed rest.new) }
+    ensures boundaries { IfOk result (λ passed. (enclosed : Bool) →
+        RestOfList enclosed (More (element_of front) rest.old) → TurnLeaves enclosed passed rest.new) }
 {
     let passed = match front {
         Item::Atom(atom) => return turn_atom(fonts, current, atom, rest),
@@ -46,6 +46,7 @@ pub(crate) fn turn(
         }
         Item::Fraction(fraction) => Passed::Fraction(fraction),
         Item::Left(delim) => Passed::Left(delim),
+        Item::Middle(delim) => Passed::Middle(delim),
         Item::Right(delim) => Passed::Right(delim),
         Item::Style(style) => Passed::Style(style),
         Item::MuSpace(glue) => Passed::MuSpace(glue),
@@ -65,7 +66,8 @@ fn turn_atom(
 ) -> Result<Option<Passed>, AllocError>
     ensures turns { IfOk result (λ passed. turned passed rest.new
         ≡ turn_of fonts.now current (atom_element atom.value) rest.old) }
-    ensures boundaries { IfOk result (λ passed. RestOfList rest.old → TurnLeaves passed rest.new) }
+    ensures boundaries { IfOk result (λ passed. (enclosed : Bool) →
+        RestOfList enclosed rest.old → TurnLeaves enclosed passed rest.new) }
 {
     let first = first_symbol(current.last, &atom);
     let Some(pair) = symbol_pair(first, rest.next_symbol()) else {

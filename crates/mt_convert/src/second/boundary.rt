@@ -1,4 +1,4 @@
-//! Boundaries: their size, and their boxes.
+//! Boundaries and middles: their size, and their boxes.
 ghost use Rattle.std.specs.Prelude.{◌≡◌, ◌≤◌, ◌^◌, ◌*ℤ◌, ◌-ℤ◌, IfOk, int_div, pos};
 ghost use Rattle.std.specs.Int.{int_max};
 ghost use Rattle.mt_scaled.specs.Number.{Within};
@@ -17,7 +17,7 @@ use mt_rules::{Delim, Style};
 use mt_scaled::{Length, x_over_n};
 use std::alloc::Global;
 
-// The size of the style in which a list begins, and the wanted size of its boundaries.
+// The size of the style in which a list begins, and the wanted size of its boundaries and middles.
 #[derive(Clone, Copy)]
 pub(crate) struct BoundaryFrame {
     pub(crate) size: Size,
@@ -68,7 +68,7 @@ fn share(reach: Length) -> Length
     }
 }
 
-// A boundary in the middle of the axis.
+// A boundary or a middle, in the middle of the axis.
 pub(crate) fn boundary(
     alloc: Global,
     fonts: &FontSet,

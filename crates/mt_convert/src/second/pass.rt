@@ -1,5 +1,5 @@
-//! The second pass: the rows side by side, with spaces and boundaries (The TeXbook, Appendix G,
-//! rules 19 and 20).
+//! The second pass: the rows side by side, with spaces, boundaries and middles (The TeXbook,
+//! Appendix G, rules 19 and 20).
 ghost use Rattle.std.specs.Prelude.{◌≡◌, ◌≤◌, ◌^◌, ◌∷◌, [], ℕ, IfOk, length, None, true};
 ghost use Rattle.mt_scaled.specs.Number.{Within};
 ghost use Rattle.mt_convert.specs.SecondPass.{current_after_half, row_of_halves, second_pass_of};
@@ -24,16 +24,19 @@ use mt_scaled::Length;
 use std::alloc::Global;
 
 /// The row of a list that the first pass has set, in the style in which the list begins: the rows
-/// of its items side by side, with the spaces between atoms, and the boundaries at the two ends (The
-/// TeXbook, Appendix G, rules 19 and 20; tex.web, sections 760 to 767).
+/// of its items side by side, with the spaces between atoms, the boundaries at the two ends, and the
+/// middles between them (The TeXbook, Appendix G, rules 19 and 20; tex.web, sections 760 to 767).
+///
+/// All boundaries and middles have one wanted size, which the height and the depth of all atoms give
+/// at the size of the style.
 ///
 /// The row has at most 2^21 pieces. Each number in it is at most 2^40 in size, and its boxes have a
 /// level of at most 2^16: the greatest in the items, or 2 where that is less.
 ///
 /// # Errors
 ///
-/// `TooTall` with the repeats of a boundary, or `Overflow` with the first extent out of range of a
-/// boundary's glyphs and box, the left boundary first; then `Overflow` with the first extent out of
+/// `TooTall` with the repeats of a boundary or a middle, or `Overflow` with the first extent out of
+/// range of its glyphs and box, in the order of the list; then `Overflow` with the first extent out of
 /// range of the row. `OutOfMemory` where memory ran out.
 pub fn second_pass(
     alloc: Global,
@@ -119,7 +122,7 @@ fn join_all(
     ensures fits { IfOk result (λ row. (n : ℕ) → 2 ≤ n → HalvesFit n items → RowFits n row) }
 {
     let mut pieces = Vec::with_capacity(alloc, most_pieces(&items))?;
-    let mut current = Current { style, last: None };
+    let mut current = Current::opening(style);
     for item in items.into_vec() {
         let next = after_half(current, &item);
         push_half(alloc, fonts, frame, current, item, &mut pieces)?;
@@ -140,7 +143,7 @@ fn most_pieces(items: &HalfList) -> usize {
 fn most_of(item: &Half) -> usize {
     match item {
         Half::Set { row, .. } => row.as_slice().len().saturating_add(1),
-        Half::Left(_) | Half::Right(_) => 2,
+        Half::Left(_) | Half::Middle(_) | Half::Right(_) => 2,
         Half::Style(_) => 0,
         Half::Kern(_) | Half::Space(_) => 1,
     }
@@ -151,16 +154,18 @@ fn after_half(current: Current, half: &Half) -> Current
     ensures { result ≡ current_after_half current (half_value half.now) }
 {
     Current {
-        style: style_after_half(current.style, half),
+        initial: current.initial,
+        style: style_after_half(current.initial, current.style, half),
         last: half.class_to_right().or(current.last),
     }
 }
 
-fn style_after_half(style: Style, half: &Half) -> Style
-    ensures { result ≡ style_after_half style (half_value half.now) }
+fn style_after_half(initial: Style, style: Style, half: &Half) -> Style
+    ensures { result ≡ style_after_half initial style (half_value half.now) }
 {
     match half {
         Half::Style(next) => *next,
+        Half::Middle(_) => initial,
         _ => style,
     }
 }

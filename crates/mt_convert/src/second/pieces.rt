@@ -48,6 +48,9 @@ pub(crate) fn push_half(
             delim,
             pieces,
         ),
+        Half::Middle(delim) => {
+            push_boundary(alloc, fonts, frame, current, Class::Close, delim, pieces)
+        }
         Half::Right(delim) => {
             push_boundary(alloc, fonts, frame, current, Class::Close, delim, pieces)
         }

@@ -46,7 +46,7 @@ use Rattle.mt_convert.proofs.list.+setting.Goals as goal
 -- the two public functions: the first pass, and both
 
 pub first_pass-loop-front-init : goal.first_pass-loop-front-init
-first_pass-loop-front-init t c = going_start c.args.fonts.now c.args.style c.args.list c.of-rest.result c.in_ok-halves.halves.items c.requires.modest c.of-rest.ensures.facts c.of-rest.ensures.is c.in_ok-halves.ensures.items
+first_pass-loop-front-init t c = going_start c.args.fonts.now c.args.style c.args.list c.opening-current.result c.of-rest.result c.in_ok-halves.halves.items c.requires.modest c.of-rest.ensures.facts c.opening-current.ensures c.of-rest.ensures.is c.in_ok-halves.ensures.items
 
 pub first_pass-set_item-requires : goal.first_pass-set_item-requires
 first_pass-set_item-requires t c =

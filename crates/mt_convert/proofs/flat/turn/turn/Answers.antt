@@ -8,10 +8,10 @@ use Rattle.mt_convert.proofs.Remaining.{choice_rest}
 use Rattle.mt_convert.proofs.flat.turn.turn.Goals as goal
 
 pub returns-in-Choice-clause-boundaries : goal.returns-in-Choice-clause-boundaries
-returns-in-Choice-clause-boundaries c = λ h.
+returns-in-Choice-clause-boundaries c = λ enclosed h.
     let v = c.in-Choice.choice.value in
-    choice_rest c.args.current.style v.display v.text v.script v.small c.chosen_list.result c.args.rest.now c.push.new.self
+    choice_rest enclosed c.args.current.style v.display v.text v.script v.small c.chosen_list.result c.args.rest.now c.push.new.self
     (c.chosen_list.ensures ∙ ap (λ (w : Choice). list_for c.args.current.style w.display w.text w.script w.small) c.into_inner.ensures)
     c.push_list.ensures.facts
     (c.in_ok-push-in-Choice.ensures ∙ ap (More (StyleElement c.args.current.style)) c.in_ok-push_list-in-Choice.ensures.is)
-    (subst (λ i. RestOfList (More (element_of i) c.args.rest.now)) c.in-Choice.is h)
+    (subst (λ i. RestOfList enclosed (More (element_of i) c.args.rest.now)) c.in-Choice.is h)

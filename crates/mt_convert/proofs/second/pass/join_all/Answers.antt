@@ -10,7 +10,7 @@ use Rattle.mt_convert.proofs.SecondPass.{so_far_start, so_far_step, so_far_err, 
 use Rattle.mt_convert.proofs.second.pass.join_all.Goals as goal
 
 pub loop-item-init : goal.loop-item-init
-loop-item-init c = (tt, tt, so_far_start c.args.fonts.now c.args.frame.size c.args.frame.wanted.sp c.args.style c.args.items _ _ c.requires.meet c.requires.few c.requires.total (c.into_iter-item-iterator.ensures.into_iter_gives.0 ∙ c.into_vec-item-items.ensures) c.in_ok-pieces.ensures.items)
+loop-item-init c = (tt, tt, so_far_start c.args.fonts.now c.args.frame.size c.args.frame.wanted.sp c.args.style c.args.items c.opening-current.result _ _ c.requires.meet c.requires.few c.requires.total c.opening-current.ensures (c.into_iter-item-iterator.ensures.into_iter_gives.0 ∙ c.into_vec-item-items.ensures) c.in_ok-pieces.ensures.items)
 
 pub push_half-requires-clause-meets : goal.push_half-requires-clause-meets
 push_half-requires-clause-meets c = next_meets _ _ _ _ _ _ _ _ _ _ c.loop-item.invariant.2 c.in-Some.ensures.steps.0

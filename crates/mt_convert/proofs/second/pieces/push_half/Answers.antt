@@ -15,6 +15,9 @@ returns-in-Set-clause-fits c = on_ok c.push_row.result _ _ c.push_row.ensures.fi
 pub returns-in-Left-clause-fits : goal.returns-in-Left-clause-fits
 returns-in-Left-clause-fits c = on_ok c.push_boundary.result _ _ c.push_boundary.ensures.fits (λ k n le h. k n le)
 
+pub returns-in-Middle-clause-fits : goal.returns-in-Middle-clause-fits
+returns-in-Middle-clause-fits c = on_ok c.push_boundary-in-Middle.result _ _ c.push_boundary-in-Middle.ensures.fits (λ k n le h. k n le)
+
 pub returns-in-Right-clause-fits : goal.returns-in-Right-clause-fits
 returns-in-Right-clause-fits c = on_ok c.push_boundary-in-Right.result _ _ c.push_boundary-in-Right.ensures.fits (λ k n le h. k n le)
 
