@@ -4,6 +4,7 @@ ghost use Rattle.std.specs.Prelude.{◌≡◌, true};
 ghost use Rattle.mt_status.specs.Explanation.{IsLine, are_lines};
 
 use crate::status::MISSING_ARGUMENT;
+use mt_token::FIRST_OUTSIDE_CAUSE;
 
 /// Why a line of the font list is refused, in the order of `ListError` of mt_family.
 const LIST_CAUSES: [&str; 4] = [
@@ -54,9 +55,6 @@ const READ_CAUSES: [&str; 10] = [
 
 /// Why a macro of a formula is refused (`MISSING_ARGUMENT`).
 const NO_ARGUMENT: &str = "a macro without one of its arguments";
-
-/// The number of the first cause of `OutsideCause` of mt_reader.
-const FIRST_OUTSIDE: u8 = 31;
 
 /// Why a token outside of formulas is refused, in the order of `OutsideCause` of mt_reader.
 const OUTSIDE_CAUSES: [&str; 6] = [
@@ -132,10 +130,10 @@ pub fn token_cause(cause: u8) -> &'static str
 {
     if cause == MISSING_ARGUMENT {
         NO_ARGUMENT
-    } else if cause < FIRST_OUTSIDE {
+    } else if cause < FIRST_OUTSIDE_CAUSE {
         text_of(&READ_CAUSES, 1, cause)
     } else {
-        text_of(&OUTSIDE_CAUSES, FIRST_OUTSIDE, cause)
+        text_of(&OUTSIDE_CAUSES, FIRST_OUTSIDE_CAUSE, cause)
     }
 }
 
