@@ -360,6 +360,7 @@ fn clean_list(
 
 // The nucleus of an atom of any kind, where its scripts stand beside it.
 #[cycle(setting)]
+#[inline(never)]
 fn set_nucleus(
     alloc: Global,
     fonts: &FontSet,
@@ -382,7 +383,6 @@ fn set_nucleus(
 
 // The nucleus of an atom of any kind but the plain one.
 #[cycle(setting)]
-#[inline(never)]
 fn set_part(
     alloc: Global,
     fonts: &FontSet,
