@@ -54,7 +54,7 @@ const READ_CAUSES: [&str; 10] = [
     "a second superscript, as a prime is one, or a second subscript",
     "a second \\over, or a word like it, in one group",
     "no delimiter where one must stand",
-    "a brace, \\right, $, & or # that does not fit, or a group without its end",
+    "a brace, \\right, \\middle, $, & or # that does not fit, or a group without its end",
     "\\limits, or a word like it, without a large operator before it",
     "no field, group or row where one must stand",
     "no number where one must stand, or one out of range",
