@@ -427,7 +427,7 @@ fn refuses(rt: HostRuntime) {
 }
 
 /// The file without pages.
-const NO_PAGES: &[u8] =
+pub(crate) const NO_PAGES: &[u8] =
     b"\xf7\x02\x01\x83\x92\xc0\x1c\x3b\0\0\0\0\x03\xe8\0\xf8\xff\xff\xff\xff\x01\x83\x92\
       \xc0\x1c\x3b\0\0\0\0\x03\xe8\0\0\0\0\0\0\0\0\0\0\0\0\xf9\0\0\0\x0f\x02\xdf\xdf\xdf\
       \xdf\xdf\xdf";
