@@ -13,7 +13,7 @@ use Rattle.mt_rules.specs.declared.kind.Kind.TheVariants.{Plain}
 use Rattle.mt_rules.specs.declared.kind.Limits.{Limits as WhereLimits}
 use Rattle.mt_rules.specs.declared.symbol.Delim.{Delim}
 use Rattle.mt_rules.specs.declared.symbol.Glue.{Glue}
-use Rattle.mt_rules.specs.Sequence.{Sequence, Element, Part, Rows, End, More, AtomElement, FractionElement, LeftElement, RightElement, StyleElement, ChoiceElement, MuSpaceElement, SpaceElement, MuKernElement, KernElement, NonscriptElement, EmptyPart, SymbolPart, ListPart, RowsPart, NoRows, MoreRows}
+use Rattle.mt_rules.specs.Sequence.{Sequence, Element, Part, Rows, End, More, AtomElement, FractionElement, LeftElement, MiddleElement, RightElement, StyleElement, ChoiceElement, MuSpaceElement, SpaceElement, MuKernElement, KernElement, NonscriptElement, EmptyPart, SymbolPart, ListPart, RowsPart, NoRows, MoreRows}
 use Rattle.mt_rules.specs.Modest.{list_items, element_items, part_items, rows_items, list_nesting, element_nesting, part_nesting, rows_nesting, IsAmount, GlueAmounts, ThicknessAmount, ListAmounts, ElementAmounts, PartAmounts, RowsAmounts}
 use Rattle.mt_plain.specs.CodeTables.{CodeTables, math_code_of}
 use Rattle.mt_plain.specs.Limits.{max_math_code}
@@ -132,6 +132,7 @@ mutual
   element_counted (AtomElement kind limits nucleus sup sub) = omega (arith, part_counted nucleus, part_counted sup, part_counted sub)
   element_counted (FractionElement thickness left right num den) = omega (arith, list_counted num, list_counted den)
   element_counted (LeftElement delim) = omega arith
+  element_counted (MiddleElement delim) = omega arith
   element_counted (RightElement delim) = omega arith
   element_counted (StyleElement style) = omega arith
   element_counted (ChoiceElement display text script small) = omega (arith, list_counted display, list_counted text, list_counted script, list_counted small)

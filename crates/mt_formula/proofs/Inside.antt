@@ -4,7 +4,7 @@ use Rattle.std.specs.Prelude.{is_some}
 use Rattle.mt_rules.specs.declared.kind.Kind.{Kind}
 use Rattle.mt_rules.specs.declared.kind.Kind.TheVariants.{Plain, Radical, Accent, Over, Under, Vcenter}
 use Rattle.mt_rules.specs.declared.list.Item.{Item}
-use Rattle.mt_rules.specs.Sequence.{Sequence, Element, Part, End, More, AtomElement, FractionElement, LeftElement, RightElement, StyleElement, ChoiceElement, MuSpaceElement, SpaceElement, MuKernElement, KernElement, NonscriptElement, EmptyPart, SymbolPart, ListPart, RowsPart}
+use Rattle.mt_rules.specs.Sequence.{Sequence, Element, Part, End, More, AtomElement, FractionElement, LeftElement, MiddleElement, RightElement, StyleElement, ChoiceElement, MuSpaceElement, SpaceElement, MuKernElement, KernElement, NonscriptElement, EmptyPart, SymbolPart, ListPart, RowsPart}
 use Rattle.mt_rules.specs.Facts.{HoldsRows, HoldsNoRows, NucleusFits, NoBoundary, StandsInside, Inside, IsMathList}
 use Rattle.mt_rules.specs.View.{element_of, sequence_of}
 use Rattle.mt_formula.specs.Atoms.{append, only_atom}
@@ -16,6 +16,10 @@ use Rattle.mt_formula.specs.machine.Facts.{holds_rows, nucleus_fits, atom_fits, 
 pub sequence_push : (xs : List Item) (i : Item) → sequence_of (xs ++ i ∷ []) ≡ append (sequence_of xs) (More (element_of i) End)
 sequence_push [] i = refl
 sequence_push (x ∷ xs) i = ap (More (element_of x)) (sequence_push xs i)
+
+pub sequence_append : (xs ys : List Item) → sequence_of (xs ++ ys) ≡ append (sequence_of xs) (sequence_of ys)
+sequence_append [] ys = refl
+sequence_append (x ∷ xs) ys = ap (More (element_of x)) (sequence_append xs ys)
 
 pub append_end : (s : Sequence) → append s End ≡ s
 append_end End = refl
@@ -64,6 +68,7 @@ fits Vcenter nucleus h = some_rows nucleus h
 no_boundaries : (s : Sequence) → no_boundary s ≡ true → NoBoundary s
 no_boundaries End h = tt
 no_boundaries (More (LeftElement delim) rest) h = true≢false (sym h)
+no_boundaries (More (MiddleElement delim) rest) h = true≢false (sym h)
 no_boundaries (More (RightElement delim) rest) h = true≢false (sym h)
 no_boundaries (More (AtomElement kind limits nucleus sup sub) rest) h = no_boundaries rest h
 no_boundaries (More (FractionElement thickness left right num den) rest) h = no_boundaries rest h
@@ -80,6 +85,7 @@ stands (AtomElement kind limits nucleus sup sub) h =
     (fits kind nucleus (first_true _ _ h), no_rows sup (first_true _ _ (second_true _ _ h)), no_rows sub (second_true _ _ (second_true _ _ h)))
 stands (FractionElement thickness left right num den) h = tt
 stands (LeftElement delim) h = true≢false (sym h)
+stands (MiddleElement delim) h = true≢false (sym h)
 stands (RightElement delim) h = true≢false (sym h)
 stands (StyleElement style) h = tt
 stands (ChoiceElement display text script small) h =
@@ -103,6 +109,7 @@ inside (More first rest) h = (stands first (first_true _ _ h), inside rest (seco
 pub math_list : (s : Sequence) → is_inside s ≡ true → IsMathList s
 math_list End h = tt
 math_list (More (LeftElement delim) rest) h = absurd (true≢false (sym (first_true false (is_inside rest) h)))
+math_list (More (MiddleElement delim) rest) h = inside (More (MiddleElement delim) rest) h
 math_list (More (RightElement delim) rest) h = inside (More (RightElement delim) rest) h
 math_list (More (AtomElement kind limits nucleus sup sub) rest) h = inside (More (AtomElement kind limits nucleus sup sub) rest) h
 math_list (More (FractionElement thickness left right num den) rest) h = inside (More (FractionElement thickness left right num den) rest) h
@@ -151,6 +158,7 @@ module _ (old new : List Item) (item : Item) (is : old ≡ new ++ item ∷ []) (
 
 inside_first : (e : Element) (s : Sequence) → stands_inside e ≡ true → no_boundary s ≡ true → no_boundary (More e s) ≡ true
 inside_first (LeftElement delim) s h k = absurd (true≢false (sym h))
+inside_first (MiddleElement delim) s h k = absurd (true≢false (sym h))
 inside_first (RightElement delim) s h k = absurd (true≢false (sym h))
 inside_first _ s h k = k
 

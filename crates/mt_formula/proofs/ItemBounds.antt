@@ -8,7 +8,7 @@ use Rattle.mt_rules.specs.declared.class.Class.TheVariants.{Ord, Inner}
 use Rattle.mt_rules.specs.declared.kind.Kind.{Kind}
 use Rattle.mt_rules.specs.declared.kind.Kind.TheVariants.{Plain, Vcenter}
 use Rattle.mt_rules.specs.declared.symbol.Delim.{Delim}
-use Rattle.mt_rules.specs.Sequence.{Sequence, Element, Part, Rows, End, More, ChoiceElement, ListPart, RowsPart, SymbolPart, MoreRows, RightElement}
+use Rattle.mt_rules.specs.Sequence.{Sequence, Element, Part, Rows, End, More, ChoiceElement, ListPart, RowsPart, SymbolPart, MoreRows, LeftElement, MiddleElement, RightElement}
 use Rattle.mt_plain.specs.CodeTables.{CodeTables}
 use Rattle.mt_scan.specs.declared.fault.ReadCause.TheVariants.{Unbalanced, MissingField}
 use Rattle.mt_scan.specs.declared.role.Role.{Role}
@@ -17,14 +17,14 @@ use Rattle.mt_scan.specs.declared.role.Side.TheVariants.{Up}
 use Rattle.mt_scan.specs.declared.role.Role.TheVariants.{HboxWord, OpenBrace, CloseBrace}
 use Rattle.mt_scan.specs.declared.role.Simple.{Simple}
 use Rattle.mt_scan.specs.declared.role.Simple.TheVariants.{Style, MuSpace, Space, MuKern as SimpleMuKern, Kern as SimpleKern, Nonscript}
-use Rattle.mt_scan.specs.Role.{role_of, simple_element, nucleus_kind, is_open_brace, is_math_shift, is_close_brace, is_superscript}
+use Rattle.mt_scan.specs.Role.{role_of, simple_element, nucleus_kind, is_open_brace, is_math_shift, is_close_brace, is_middle, is_superscript}
 use Rattle.mt_scan.specs.Parts.{Read, Got, Fault, NoTurn, then_read, after_spaces, opening}
 use Rattle.mt_scan.specs.Dimensions.{glue}
 use Rattle.mt_scan.specs.Delimiters.{scan_delimiter}
 use Rattle.mt_formula.specs.Atoms.{nucleus_of, AtomValue, last_atom_items, append, plain_atom, Filling, InGroup, nucleus_atom, with_script, with_limits, prime_atom, prime_items}
 use Rattle.mt_formula.specs.declared.open.open_list.Ending.TheVariants.{AtEnd, AtBrace, AtRight, AtDollar}
 use Rattle.mt_formula.specs.Lists.{ItemRunReader, list}
-use Rattle.mt_formula.specs.Groups.{between_boundaries, brace_group}
+use Rattle.mt_formula.specs.Groups.{brace_group, SegmentsReader, after_segment, segment_end, segments_from, segments}
 use Rattle.mt_formula.specs.Primes.{followed_by, primes, after_primes, braced_argument, argument_at, argument_after, prime_script_at, prime_script_of, prime_script}
 use Rattle.mt_formula.specs.Rows.{brace_closes, row, RowsReader, next_row_at, next_row, rows_here_at, first_rows, later_rows, rows_from, rows}
 use Rattle.mt_formula.specs.declared.step.action.Action.{Action}
@@ -79,8 +79,30 @@ module _ (tables : CodeTables) where
 
   module _ (units : Units) where
     module _ (again : ItemRunReader) (bounded : IsBounded tables units again) where
-      pub between_items : (left right : Delim) (inner : Sequence) → list_items (between_boundaries left inner right) ≡ list_items inner + 2
-      between_items left right inner = omega (arith, append_items inner (More (RightElement right) End))
+      -- lists between boundaries; the right boundary is one more item
+      abbrev pub IsBoundedSegments : SegmentsReader → Type 0
+      IsBoundedSegments more = (ts : List Token) → Within list_items (4 * length ts + 1) (more ts)
+
+      pub after_segment_within : (more : SegmentsReader) (h : IsBoundedSegments more) (middle : Bool) (inner : Sequence) (d : Delim) (rest : List Token) (c : ℕ) → list_items inner + 4 * length rest + 2 ≤ c → Within list_items c (after_segment more middle inner d rest)
+      after_segment_within more h true inner d rest c e =
+          within_next list_items list_items (4 * length rest + 1) c (more rest) (λ (others : Sequence) (after : List Token). Got (append inner (More (MiddleElement d) others)) after) (h rest)
+          (λ others after w. omega (arith, w, e, append_items inner (More (MiddleElement d) others)))
+      after_segment_within more h false inner d rest c e = omega (arith, e, append_items inner (More (RightElement d) End))
+
+      pub segment_end_within : (more : SegmentsReader) (h : IsBoundedSegments more) (inner : Sequence) (end : List Token) → Within list_items (list_items inner + 4 * length end + 1) (segment_end tables more inner end)
+      segment_end_within more h inner [] =
+          within_next none list_items 0 (list_items inner + 1) (scan_delimiter tables []) (after_segment more false inner) (delimiter_short tables [])
+          (λ d rest w. omega (arith, w, append_items inner (More (RightElement d) End)))
+      segment_end_within more h inner (t ∷ word) =
+          within_next none list_items (4 * length word) (list_items inner + 4 * length (t ∷ word) + 1) (scan_delimiter tables word) (after_segment more (is_middle (role_of tables t)) inner) (delimiter_short tables word)
+          (λ d rest w. after_segment_within more h (is_middle (role_of tables t)) inner d rest (list_items inner + 4 * length (t ∷ word) + 1) (omega (arith, w)))
+
+      pub segments_from_within : (n level : ℕ) (family : Option ℕ) → IsBoundedSegments (segments_from tables units again n level family)
+      segments_from_within zero level family ts = tt
+      segments_from_within (suc n) level family ts =
+          within_next list_items list_items (4 * length ts) (4 * length ts + 1) (list tables units again AtRight level family ts) (segment_end tables (segments_from tables units again n level family))
+          (list_within tables units again bounded AtRight level family ts)
+          (λ inner word w. within_more list_items (list_items inner + 4 * length word + 1) (4 * length ts + 1) (segment_end tables (segments_from tables units again n level family) inner word) (omega (arith, w)) (segment_end_within (segments_from tables units again n level family) (segments_from_within n level family) inner word))
 
       -- primes
       pub after_primes_within : (count level : ℕ) (family : Option ℕ) (ts : List Token) → Within list_items (count + 1 + 4 * length ts) (after_primes tables units again count level family ts)
@@ -204,13 +226,10 @@ module _ (tables : CodeTables) where
           (list_within tables units again bounded AtBrace (level + 1) family after)
           (λ inner brace w. put_script_within level family last side (nucleus_of inner) (drop 1 brace) (4 + 4 * length after + last_atom_count last) (omega (arith, w, drop_short brace, filling_part_count (InGroup inner))))
       follows_within level family last (LeftRight left) after =
-          within_next list_items item_run_items (4 * length after) (4 + 4 * length after + last_atom_count last) (list tables units again AtRight (level + 1) family after)
-          (λ (inner : Sequence) (word : List Token). then_read (scan_delimiter tables (drop 1 word)) (λ (right : Delim) (rest : List Token). put_atom tables units again level family last (plain_atom (Plain Inner) (ListPart (between_boundaries left inner right))) rest))
-          (list_within tables units again bounded AtRight (level + 1) family after)
-          (λ inner word w. within_next none item_run_items (4 * length (drop 1 word)) (4 + 4 * length after + last_atom_count last) (scan_delimiter tables (drop 1 word))
-          (λ (right : Delim) (rest : List Token). put_atom tables units again level family last (plain_atom (Plain Inner) (ListPart (between_boundaries left inner right))) rest)
-          (delimiter_short tables (drop 1 word))
-          (λ right rest x. put_atom_within level family last (plain_atom (Plain Inner) (ListPart (between_boundaries left inner right))) rest (4 + 4 * length after + last_atom_count last) (omega (arith, x, w, drop_short word, between_items left right inner))))
+          within_next list_items item_run_items (4 * length after + 1) (4 + 4 * length after + last_atom_count last) (segments tables units again (level + 1) family after)
+          (λ (inner : Sequence) (rest : List Token). put_atom tables units again level family last (plain_atom (Plain Inner) (ListPart (More (LeftElement left) inner))) rest)
+          (segments_from_within (suc (length after + 1)) (level + 1) family after)
+          (λ inner rest w. put_atom_within level family last (plain_atom (Plain Inner) (ListPart (More (LeftElement left) inner))) rest (4 + 4 * length after + last_atom_count last) (omega (arith, w)))
       follows_within level family last Choice after =
           within_next list_items item_run_items (4 * length after) (4 + 4 * length after + last_atom_count last) (list tables units again AtBrace (level + 1) family after)
           (λ (display : Sequence) (brace : List Token). choice_with_none tables units again level family last display (drop 1 brace))

@@ -14,7 +14,7 @@ mod Turning
 mod Remaining
 -- actions that open a list
 mod Opening
--- what a list that is read leaves: between boundaries, of a choice, a row, and any other
+-- lists between boundaries open and end; what a list that is read leaves: of a choice, a row, and any other
 mod Boundaries
 mod Choosing
 mod Rowing
@@ -42,6 +42,7 @@ mod AtomCases
 mod GroupCases
 mod ScriptCases
 mod DelimiterCases
+mod MiddleCases
 mod SpaceCases
 -- formulas at fault
 mod NameFaults
@@ -49,3 +50,4 @@ mod ScriptFaults
 mod FieldFaults
 mod NumberFaults
 mod LevelFaults
+mod MiddleFaults

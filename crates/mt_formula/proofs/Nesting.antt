@@ -9,7 +9,7 @@ use Rattle.mt_rules.specs.declared.class.Class.TheVariants.{Inner}
 use Rattle.mt_rules.specs.declared.kind.Kind.TheVariants.{Plain, Vcenter}
 use Rattle.mt_rules.specs.declared.symbol.Delim.{Delim}
 use Rattle.mt_rules.specs.declared.document.Tag.{Tag}
-use Rattle.mt_rules.specs.Sequence.{Sequence, Element, Part, Rows, End, More, ChoiceElement, RightElement, SymbolPart, ListPart, RowsPart, MoreRows}
+use Rattle.mt_rules.specs.Sequence.{Sequence, Element, Part, Rows, End, More, ChoiceElement, LeftElement, MiddleElement, RightElement, SymbolPart, ListPart, RowsPart, MoreRows}
 use Rattle.mt_rules.specs.Modest.{list_items, IsModestList}
 use Rattle.mt_plain.specs.CodeTables.{CodeTables}
 use Rattle.mt_scan.specs.Limits.{max_groups}
@@ -29,7 +29,7 @@ use Rattle.mt_formula.specs.declared.open.open_list.Ending.{Ending}
 use Rattle.mt_formula.specs.declared.open.open_list.Ending.TheVariants.{AtEnd, AtBrace, AtRight, AtDollar}
 use Rattle.mt_formula.specs.declared.open.open_list.FractionHead.{FractionHead}
 use Rattle.mt_formula.specs.Lists.{ends_with_tokens, ends_at, misplaced_cause, fraction_list, ItemRun, items_before, ItemRunReader, fraction_head, list_end, denominator, after_item_run_at, after_item_run, list_after, list}
-use Rattle.mt_formula.specs.Groups.{between_boundaries, brace_group}
+use Rattle.mt_formula.specs.Groups.{brace_group, SegmentsReader, after_segment, ends_at_middle, segment_end, segments_from, segments}
 use Rattle.mt_formula.specs.Primes.{followed_by, primes, after_primes, braced_argument, argument_at, argument_after, prime_script_at, prime_script_of, prime_script}
 use Rattle.mt_formula.specs.Rows.{brace_closes, row, RowsReader, next_row_at, next_row, rows_here_at, first_rows, later_rows, rows_from, rows}
 use Rattle.mt_formula.specs.declared.step.action.Action.{Action}
@@ -95,11 +95,24 @@ few_items n b m (Got s rest) h f w = record { nesting = omega (arith, h, w, list
 few_items n b m (Fault cause left) h f w = tt
 few_items n b m NoTurn h f w = tt
 
-between_fit : (n : ℕ) (left right : Delim) (inner : Sequence) → 1 ≤ n → Fits n inner → Fits n (between_boundaries left inner right)
-between_fit n left right inner h f = all (append_fits n inner (More (RightElement right) End) f (record { nesting = omega (arith, h); amounts = (tt, tt) }))
-  where
-    all : Fits n (append inner (More (RightElement right) End)) → Fits n (between_boundaries left inner right)
-    all g = record { nesting = omega (arith, h, g.nesting); amounts = (tt, g.amounts) }
+before_middle_fits : (n : ℕ) (inner others : Sequence) (middle : Delim) → 1 ≤ n → Fits n inner → Fits n others → Fits n (append inner (More (MiddleElement middle) others))
+before_middle_fits n inner others middle h f g = append_fits n inner (More (MiddleElement middle) others) f (record { nesting = omega (arith, h, g.nesting); amounts = (tt, g.amounts) })
+
+before_right_fits : (n : ℕ) (inner : Sequence) (right : Delim) → 1 ≤ n → Fits n inner → Fits n (append inner (More (RightElement right) End))
+before_right_fits n inner right h f = append_fits n inner (More (RightElement right) End) f (record { nesting = omega (arith, h); amounts = (tt, tt) })
+
+after_left_fits : (n : ℕ) (left : Delim) (inner : Sequence) → 1 ≤ n → Fits n inner → Fits n (More (LeftElement left) inner)
+after_left_fits n left inner h f = record { nesting = omega (arith, h, f.nesting); amounts = (tt, f.amounts) }
+
+-- what reads lists between boundaries gives lists that fit
+abbrev SegmentsFit : ℕ → SegmentsReader → Type 0
+SegmentsFit n more = (ts : List Token) → Holds (Fits n) (more ts)
+
+after_segment_fits : (n : ℕ) (more : SegmentsReader) → 1 ≤ n → SegmentsFit n more → (ends : Bool) (inner : Sequence) (d : Delim) (rest : List Token) → Fits n inner → Holds (Fits n) (after_segment more ends inner d rest)
+after_segment_fits n more h fit true inner d rest f =
+    holds_next (Fits n) (Fits n) (more rest) (λ (others : Sequence) (after : List Token). Got (append inner (More (MiddleElement d) others)) after) (fit rest)
+    (λ others after g. before_middle_fits n inner others d h f g)
+after_segment_fits n more h fit false inner d rest f = before_right_fits n inner d h f
 
 choice_fits_of : (n : ℕ) (display text script small : Sequence) → Fits n display → Fits n text → Fits n script → Fits n small → ElementFits (n + 1) (ChoiceElement display text script small)
 choice_fits_of n display text script small a b c d = record { nesting = omega (arith, a.nesting, b.nesting, c.nesting, d.nesting); amounts = (a.amounts, b.amounts, c.amounts, d.amounts) }
@@ -297,6 +310,15 @@ module _ (tables : CodeTables) where
         inner_fits : (level : ℕ) (inner : Sequence) → level < max_groups → Fits (nesting_left (level + 1) + 1 + 1) inner → Fits (nesting_left level) inner
         inner_fits level inner c f = fits_more (nesting_left (level + 1) + 1 + 1) (nesting_left level) inner (omega (arith, nesting_left_falls level c)) f
 
+        -- lists between boundaries
+        segments_from_fit : (level : ℕ) → level < max_groups → (k : ℕ) (family : Option ℕ) → SegmentsFit (nesting_left level) (segments_from tables units again k (level + 1) family)
+        segments_from_fit level c zero family ts = tt
+        segments_from_fit level c (suc k) family ts =
+            holds_next (Fits (nesting_left (level + 1) + 1 + 1)) (Fits (nesting_left level)) (list tables units again AtRight (level + 1) family ts) (segment_end tables (segments_from tables units again k (level + 1) family))
+            (list_fits AtRight (level + 1) family ts)
+            (λ inner word f. holds_after (Fits (nesting_left level)) (scan_delimiter tables (drop 1 word)) (after_segment (segments_from tables units again k (level + 1) family) (ends_at_middle tables word) inner)
+            (λ d rest. after_segment_fits (nesting_left level) (segments_from tables units again k (level + 1) family) (omega (arith, nesting_left_least level)) (segments_from_fit level c k family) (ends_at_middle tables word) inner d rest (inner_fits level inner c f)))
+
         -- what follows an action
         follows_fits : (level : ℕ) (family : Option ℕ) (last : Option AtomValue) (a : Action) (after : List Token) → LastAtomFits (nesting_left level + 1) last → Carries level a → RunFits level (follows tables units again level family last a after)
         follows_fits level family last Nothing after h c = fitting level family last after h
@@ -322,11 +344,10 @@ module _ (tables : CodeTables) where
             (list_fits AtBrace (level + 1) family after)
             (λ inner brace f. put_script_fits level family last side (nucleus_of inner) (drop 1 brace) h (filling_fits (nesting_left level) (InGroup inner) (inner_fits level inner c f)))
         follows_fits level family last (LeftRight left) after h c =
-            holds_next (Fits (nesting_left (level + 1) + 1 + 1)) (ItemRunFits (nesting_left level + 1)) (list tables units again AtRight (level + 1) family after)
-            (λ (inner : Sequence) (word : List Token). then_read (scan_delimiter tables (drop 1 word)) (λ (right : Delim) (rest : List Token). put_atom tables units again level family last (plain_atom (Plain Inner) (ListPart (between_boundaries left inner right))) rest))
-            (list_fits AtRight (level + 1) family after)
-            (λ inner word f. holds_after (ItemRunFits (nesting_left level + 1)) (scan_delimiter tables (drop 1 word)) (λ (right : Delim) (rest : List Token). put_atom tables units again level family last (plain_atom (Plain Inner) (ListPart (between_boundaries left inner right))) rest)
-            (λ right rest. put_atom_fits level family last (plain_atom (Plain Inner) (ListPart (between_boundaries left inner right))) rest h (plain_fits (nesting_left level) (Plain Inner) (ListPart (between_boundaries left inner right)) (list_part (nesting_left level) (between_boundaries left inner right) (between_fit (nesting_left level) left right inner (omega (arith, nesting_left_least level)) (inner_fits level inner c f))))))
+            holds_next (Fits (nesting_left level)) (ItemRunFits (nesting_left level + 1)) (segments tables units again (level + 1) family after)
+            (λ (inner : Sequence) (rest : List Token). put_atom tables units again level family last (plain_atom (Plain Inner) (ListPart (More (LeftElement left) inner))) rest)
+            (segments_from_fit level c (suc (length after + 1)) family after)
+            (λ inner rest f. put_atom_fits level family last (plain_atom (Plain Inner) (ListPart (More (LeftElement left) inner))) rest h (plain_fits (nesting_left level) (Plain Inner) (ListPart (More (LeftElement left) inner)) (list_part (nesting_left level) (More (LeftElement left) inner) (after_left_fits (nesting_left level) left inner (omega (arith, nesting_left_least level)) f))))
         follows_fits level family last Choice after h c =
             holds_next (Fits (nesting_left (level + 1) + 1 + 1)) (ItemRunFits (nesting_left level + 1)) (list tables units again AtBrace (level + 1) family after)
             (λ (display : Sequence) (brace : List Token). choice_with_none tables units again level family last display (drop 1 brace))

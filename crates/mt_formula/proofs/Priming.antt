@@ -168,7 +168,7 @@ left_least : (owner : Owner) (left : ℕ) → left_after owner left ≤ left + l
 left_least (ArgumentOwner after count) left = omega arith
 left_least (Nucleus kind) left = omega arith
 left_least (Script side) left = omega arith
-left_least (LeftRight delim) left = omega arith
+left_least (LeftRight fence) left = omega arith
 left_least (Choice lists) left = omega arith
 left_least (Row rows) left = omega arith
 left_least OpenArgument left = omega arith

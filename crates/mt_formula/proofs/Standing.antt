@@ -43,7 +43,7 @@ left_lower : (owner : Owner) (left less : ℕ) → less ≤ left → left_after 
 left_lower (Argument after count) left less h = omega arith
 left_lower (Nucleus kind) left less h = h
 left_lower (Script side) left less h = h
-left_lower (LeftRight delim) left less h = h
+left_lower (LeftRight fence) left less h = h
 left_lower (Choice lists) left less h = h
 left_lower (Row rows) left less h = h
 left_lower OpenArgument left less h = h

@@ -7,7 +7,7 @@ use Rattle.mt_rules.specs.declared.kind.Kind.TheVariants.{Plain, Vcenter}
 use Rattle.mt_rules.specs.declared.kind.Limits.{Limits as WhereLimits}
 use Rattle.mt_rules.specs.declared.symbol.Delim.{Delim}
 use Rattle.mt_rules.specs.declared.symbol.Glue.{Glue}
-use Rattle.mt_rules.specs.Sequence.{Sequence, Element, Part, Rows, End, More, SymbolPart, ListPart, RowsPart, ChoiceElement}
+use Rattle.mt_rules.specs.Sequence.{Sequence, Element, Part, Rows, End, More, LeftElement, SymbolPart, ListPart, RowsPart, ChoiceElement}
 use Rattle.mt_plain.specs.CodeTables.{CodeTables}
 use Rattle.mt_scan.specs.declared.fault.ReadCause.TheVariants.{UnknownName, DoubleScript, MisplacedLimits}
 use Rattle.mt_scan.specs.declared.role.Side.{Side}
@@ -29,10 +29,10 @@ use Rattle.mt_formula.specs.declared.step.action.FieldStart.{FieldStart}
 use Rattle.mt_formula.specs.declared.step.action.FieldStart.TheVariants.{Symbol as SymbolStart, Group as GroupStart}
 use Rattle.mt_formula.specs.declared.step.action.Action.{Action}
 use Rattle.mt_formula.specs.declared.step.action.Action.TheVariants.{Nothing, Atom, Script, Item, Family, Limits, Prime, Rows as RowsAction, Group, ScriptGroup, LeftRight, Choice, Stop}
-use Rattle.mt_formula.specs.declared.open.open_list.Ending.TheVariants.{AtBrace, AtRight}
+use Rattle.mt_formula.specs.declared.open.open_list.Ending.TheVariants.{AtBrace}
 use Rattle.mt_formula.specs.Atoms.{AtomValue, InGroup, append, last_atom_items, plain_atom, is_free, is_op, with_limits, with_script, nucleus_atom, nucleus_of}
 use Rattle.mt_formula.specs.Lists.{ItemRunReader, ItemRun, items_before, list}
-use Rattle.mt_formula.specs.Groups.{between_boundaries, brace_group}
+use Rattle.mt_formula.specs.Groups.{brace_group, segments}
 use Rattle.mt_formula.specs.Fields.{field_start}
 use Rattle.mt_formula.specs.Primes.{prime_script}
 use Rattle.mt_formula.specs.Rows.{rows}
@@ -169,11 +169,10 @@ module _ (tables : CodeTables) (units : Units) where
     follows level family last (ScriptGroup side) inside =
         then_read (list tables units again AtBrace (level + 1) family inside)
         (λ (inner : Sequence) (brace : List Token). put_script level family last side (nucleus_of inner) (drop 1 brace))
-    -- a list between boundaries is an Inner atom
+    -- the lists between boundaries and the middles that part them are an Inner atom
     follows level family last (LeftRight left) inside =
-        then_read (list tables units again AtRight (level + 1) family inside)
-        (λ (inner : Sequence) (word : List Token). then_read (scan_delimiter tables (drop 1 word))
-        (λ (right : Delim) (rest : List Token). put_atom level family last (plain_atom (Plain Inner) (ListPart (between_boundaries left inner right))) rest))
+        then_read (segments tables units again (level + 1) family inside)
+        (λ (inner : Sequence) (rest : List Token). put_atom level family last (plain_atom (Plain Inner) (ListPart (More (LeftElement left) inner))) rest)
     follows level family last Choice inside =
         then_read (list tables units again AtBrace (level + 1) family inside)
         (λ (display : Sequence) (brace : List Token). choice_with_none level family last display (drop 1 brace))

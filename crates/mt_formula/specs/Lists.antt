@@ -10,7 +10,7 @@ use Rattle.mt_scan.specs.declared.fault.ReadCause.TheVariants.{TwoFractions, Unb
 use Rattle.mt_scan.specs.declared.role.Role.{Role}
 use Rattle.mt_scan.specs.declared.role.Bar.{Bar}
 use Rattle.mt_scan.specs.declared.role.Bar.TheVariants.{Own as OwnBar, None as NoBar, Given as GivenBar}
-use Rattle.mt_scan.specs.declared.role.Role.TheVariants.{CloseBrace, RightWord, Dollar, NumberWord, FractionWord}
+use Rattle.mt_scan.specs.declared.role.Role.TheVariants.{CloseBrace, MiddleWord, RightWord, Dollar, NumberWord, FractionWord}
 use Rattle.mt_formula.specs.declared.open.open_list.Ending.{Ending}
 use Rattle.mt_formula.specs.declared.open.open_list.Ending.TheVariants.{AtEnd, AtNumber, AtBrace, AtRight, AtDollar}
 use Rattle.mt_formula.specs.declared.open.open_list.FractionHead.{FractionHead}
@@ -29,6 +29,7 @@ ends_with_tokens _ = false
 abbrev pub ends_at : Ending → Role → Bool
 ends_at AtNumber (NumberWord left) = true
 ends_at AtBrace CloseBrace = true
+ends_at AtRight MiddleWord = true
 ends_at AtRight RightWord = true
 ends_at AtDollar Dollar = true
 ends_at _ _ = false

@@ -8,7 +8,7 @@ pub type NameRow = ([u8; 18], Meaning);
 
 // In the order of the names' bytes, which the search rests on.
 #[rattlefmt::skip]
-static MEANINGS: [NameRow; 213] = [
+static MEANINGS: [NameRow; 214] = [
     (*b"!                 ", Meaning::Command(Command::NegativeThin)),
     (*b",                 ", Meaning::Command(Command::Thin)),
     (*b";                 ", Meaning::Command(Command::Thick)),
@@ -128,6 +128,7 @@ static MEANINGS: [NameRow; 213] = [
     (*b"mathpunct         ", Meaning::Command(Command::MathPunct)),
     (*b"mathrel           ", Meaning::Command(Command::MathRel)),
     (*b"mid               ", Meaning::MathChar(0x326A)),
+    (*b"middle            ", Meaning::Command(Command::Middle)),
     (*b"mkern             ", Meaning::Command(Command::MKern)),
     (*b"mp                ", Meaning::MathChar(0x2207)),
     (*b"mskip             ", Meaning::Command(Command::MSkip)),

@@ -10,7 +10,7 @@ use Rattle.mt_rules.specs.declared.kind.Limits.TheVariants.{Default, Always, Nev
 use Rattle.mt_rules.specs.declared.style.Style.TheVariants.{D, T, S, Ss}
 use Rattle.mt_rules.specs.Sequence.{Element, StyleElement, MuSpaceElement, SpaceElement, MuKernElement, KernElement, NonscriptElement}
 use Rattle.mt_plain.specs.declared.meaning.Command.{Command}
-use Rattle.mt_plain.specs.declared.meaning.Command.TheVariants.{Relax, MathChar, Delimiter, MathOrd, MathOp, MathBin, MathRel, MathOpen, MathClose, MathPunct, MathInner, Overline, Underline, Radical, MathAccent, Vcenter, Hbox, Left, Right, Limits, NoLimits, DisplayLimits, Over, Atop, Above, OverWithDelims, AtopWithDelims, AboveWithDelims, DisplayStyle, TextStyle, ScriptStyle, ScriptScriptStyle, MathChoice, MSkip, MKern, HSkip, Kern as KernCommand, NonScript, Thin, Medium, Thick, NegativeThin, Fam, EqNo, LeqNo}
+use Rattle.mt_plain.specs.declared.meaning.Command.TheVariants.{Relax, MathChar, Delimiter, MathOrd, MathOp, MathBin, MathRel, MathOpen, MathClose, MathPunct, MathInner, Overline, Underline, Radical, MathAccent, Vcenter, Hbox, Left, Middle, Right, Limits, NoLimits, DisplayLimits, Over, Atop, Above, OverWithDelims, AtopWithDelims, AboveWithDelims, DisplayStyle, TextStyle, ScriptStyle, ScriptScriptStyle, MathChoice, MSkip, MKern, HSkip, Kern as KernCommand, NonScript, Thin, Medium, Thick, NegativeThin, Fam, EqNo, LeqNo}
 use Rattle.mt_plain.specs.declared.meaning.Meaning.{Meaning}
 use Rattle.mt_plain.specs.declared.meaning.Meaning.TheVariants.{MathChar as CodeMeaning, Command as CommandMeaning}
 use Rattle.mt_plain.specs.CodeTables.{CodeTables, math_code_of}
@@ -24,7 +24,7 @@ use Rattle.mt_scan.specs.declared.role.FieldKind.TheVariants.{Class, Radical as 
 use Rattle.mt_scan.specs.declared.role.Simple.{Simple}
 use Rattle.mt_scan.specs.declared.role.Simple.TheVariants.{Style, MuSpace, Space, MuKern, Kern, Nonscript}
 use Rattle.mt_scan.specs.declared.role.Role.{Role}
-use Rattle.mt_scan.specs.declared.role.Role.TheVariants.{Blank, MathCode, CharWord, DelimiterWord, Prime, Script, OpenBrace, CloseBrace, Dollar, Misplaced, Nucleus, RadicalWord, AccentWord, VcenterWord, HboxWord, LeftWord, RightWord, LimitsWord, FractionWord, ChoiceWord, AmountWord, ItemWord, FamilyWord, NumberWord, Unknown}
+use Rattle.mt_scan.specs.declared.role.Role.TheVariants.{Blank, MathCode, CharWord, DelimiterWord, Prime, Script, OpenBrace, CloseBrace, Dollar, Misplaced, Nucleus, RadicalWord, AccentWord, VcenterWord, HboxWord, LeftWord, MiddleWord, RightWord, LimitsWord, FractionWord, ChoiceWord, AmountWord, ItemWord, FamilyWord, NumberWord, Unknown}
 
 -- the item
 abbrev pub simple_element : Simple → Element
@@ -66,6 +66,7 @@ command_role MathAccent = AccentWord
 command_role Vcenter = VcenterWord
 command_role Hbox = HboxWord
 command_role Left = LeftWord
+command_role Middle = MiddleWord
 command_role Right = RightWord
 command_role Limits = LimitsWord Always
 command_role NoLimits = LimitsWord Never
@@ -141,6 +142,10 @@ is_math_shift _ = false
 abbrev pub is_left : Role → Bool
 is_left LeftWord = true
 is_left _ = false
+
+abbrev pub is_middle : Role → Bool
+is_middle MiddleWord = true
+is_middle _ = false
 
 abbrev pub is_prime : Role → Bool
 is_prime Prime = true

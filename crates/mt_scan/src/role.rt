@@ -107,6 +107,8 @@ pub enum Role {
     HboxWord,
     /// `\left`
     LeftWord,
+    /// `\middle`
+    MiddleWord,
     /// `\right`
     RightWord,
     /// A word that places the scripts of an operator.
@@ -155,6 +157,7 @@ fn command_role(command: Command) -> Role
         Command::Vcenter => Role::VcenterWord,
         Command::Hbox => Role::HboxWord,
         Command::Left => Role::LeftWord,
+        Command::Middle => Role::MiddleWord,
         Command::Right => Role::RightWord,
         Command::Limits => Role::LimitsWord(Limits::Always),
         Command::NoLimits => Role::LimitsWord(Limits::Never),

@@ -4,9 +4,9 @@ use Rattle.mt_token.specs.declared.token.Token.{Token}
 use Rattle.mt_scaled.specs.declared.unit.Units.{Units}
 use Rattle.mt_rules.specs.declared.class.Class.TheVariants.{Inner}
 use Rattle.mt_rules.specs.declared.kind.Kind.TheVariants.{Plain, Vcenter}
-use Rattle.mt_rules.specs.declared.symbol.Delim.{Delim}
 use Rattle.mt_rules.specs.Sequence.{Sequence, Rows, ListPart, RowsPart, NoRows, MoreRows}
 use Rattle.mt_rules.specs.Rows.{rows_of}
+use Rattle.mt_rules.specs.View.{sequence_of}
 use Rattle.mt_plain.specs.CodeTables.{CodeTables}
 use Rattle.mt_scan.specs.declared.fault.ReadCause.TheVariants.{Unbalanced}
 use Rattle.mt_scan.specs.declared.role.Side.TheVariants.{Up}
@@ -16,10 +16,9 @@ use Rattle.mt_formula.specs.declared.open.open_list.Owner.{Owner}
 use Rattle.mt_formula.specs.declared.open.open_list.Owner.TheVariants.{Nucleus, Script, LeftRight, Choice, Row, Argument, OpenArgument}
 use Rattle.mt_scan.specs.Role.{nucleus_kind}
 use Rattle.mt_scan.specs.Parts.{Read, Got, Fault, NoTurn, then_read}
-use Rattle.mt_scan.specs.Delimiters.{scan_delimiter}
-use Rattle.mt_formula.specs.Atoms.{AtomValue, InGroup, nucleus_of, nucleus_atom, plain_atom}
+use Rattle.mt_formula.specs.Atoms.{AtomValue, InGroup, append, nucleus_of, nucleus_atom, plain_atom}
 use Rattle.mt_formula.specs.Lists.{ItemRunReader, ItemRun}
-use Rattle.mt_formula.specs.Groups.{between_boundaries}
+use Rattle.mt_formula.specs.Groups.{SegmentsReader, segment_end, segments_from}
 use Rattle.mt_formula.specs.Rows.{brace_closes, later_rows, rows_from}
 use Rattle.mt_formula.specs.Items.{put_atom, put_script, choice_with_none, choice_with_one, choice_with_two, choice_with_three}
 use Rattle.mt_formula.specs.machine.OpenLists.{inner_sequence}
@@ -43,13 +42,19 @@ module _ (tables : CodeTables) (units : Units) (again : ItemRunReader) (level : 
       then_read (later_rows tables units again (rows_from tables units again k (level + 1)) rest)
       (λ (others : Rows) (after : List Token). put_atom tables units again level family last (plain_atom Vcenter (RowsPart (append_rows done others))) after)
 
+  -- the Inner atom of these items between boundaries and others
+  abbrev pub put_segments : Sequence → Sequence → List Token → Read ItemRun
+  put_segments done others rest = put_atom tables units again level family last (plain_atom (Plain Inner) (ListPart (append done others))) rest
+
+  -- after these items between boundaries and another list, where this reads the lists after it
+  abbrev pub segments_then : SegmentsReader → Sequence → Sequence → List Token → Read ItemRun
+  segments_then more done inner end = then_read (segment_end tables more inner end) (put_segments done)
+
   -- what follows a list that is read for this, where its last atom, its family and its number of open groups are these
   abbrev pub owned : ℕ → Owner → Sequence → List Token → Read ItemRun
   owned k (Nucleus kind) inner end = put_atom tables units again level family last (nucleus_atom (nucleus_kind kind) (InGroup inner)) (drop 1 end)
   owned k (Script side) inner end = put_script tables units again level family last side (nucleus_of inner) (drop 1 end)
-  owned k (LeftRight left) inner end =
-      then_read (scan_delimiter tables (drop 1 end))
-      (λ (right : Delim) (rest : List Token). put_atom tables units again level family last (plain_atom (Plain Inner) (ListPart (between_boundaries left inner right))) rest)
+  owned k (LeftRight fence) inner end = segments_then (segments_from tables units again k fence.level family) (sequence_of fence.items.items) inner end
   owned k (Choice lists) inner end = choice_with lists inner (drop 1 end)
   owned k (Row done) inner end =
       then_read (brace_closes tables (drop 1 end)) (λ (closed : ⊤) (rest : List Token). rows_then k (append_rows (rows_of done.items) (MoreRows inner NoRows)) rest)

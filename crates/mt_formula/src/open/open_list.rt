@@ -1,7 +1,7 @@
 //! Lists that are open, and the lists in which they stand.
 ghost use Rattle.std.specs.Prelude.{◌≡◌, true, ◌≤◌};
 ghost use Rattle.mt_rules.specs.View.{sequence_of, part_of_field};
-ghost use Rattle.mt_formula.specs.machine.Facts.{is_inside, atom_fits};
+ghost use Rattle.mt_formula.specs.machine.Facts.{is_inside, atom_fits, begins_with_left};
 ghost use Rattle.mt_formula.specs.declared.open.open_list.Stop.TheVariants.{Fault as AtFault, OutOfMemory};
 ghost use Rattle.mt_scan.specs.Limits.{max_groups};
 
@@ -19,7 +19,7 @@ pub enum Ending {
     AtNumber,
     /// At `}`.
     AtBrace,
-    /// At `\right`.
+    /// At `\middle` or `\right`.
     AtRight,
     /// At `$`.
     AtDollar,
@@ -93,6 +93,17 @@ pub enum ChoiceLists {
     Three(InnerItems, InnerItems, InnerItems),
 }
 
+/// What is read between boundaries, before a list that is open there.
+#[derive(Drop)]
+pub struct Fence {
+    /// The left boundary, and the items of each list with the middle that follows it.
+    pub items: Vec<Item>,
+    /// How many groups are open in each list, at most 150.
+    pub level: usize,
+    ghost begins: { begins_with_left (sequence_of items.items) ≡ true },
+    ghost few_groups: { level ≤ max_groups },
+}
+
 /// What a list is read for.
 #[derive(Drop)]
 pub enum Owner<'a> {
@@ -100,8 +111,8 @@ pub enum Owner<'a> {
     Nucleus(FieldKind),
     /// A script.
     Script(Side),
-    /// A list between boundaries, of which this is the left one.
-    LeftRight(Delim),
+    /// A list between boundaries, after these items.
+    LeftRight(Fence),
     /// The next list of a choice.
     Choice(ChoiceLists),
     /// A row of a vcenter atom, after these rows.

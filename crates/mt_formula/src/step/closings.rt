@@ -91,7 +91,9 @@ pub fn close_list<'a>(
     match owner {
         Owner::Nucleus(kind) => close_nucleus(alloc, list, kind, all, tokens),
         Owner::Script(side) => close_script(alloc, list, side, all, tokens),
-        Owner::LeftRight(left) => close_left_right(alloc, codes, list, left, all, tokens),
+        Owner::LeftRight(fence) => {
+            close_left_right(alloc, codes, frames, list, fence, all, tokens)
+        }
         Owner::Choice(lists) => close_choice(alloc, codes, frames, list, lists, all, tokens),
         Owner::Row(done) => close_row(alloc, codes, frames, list, done, all, tokens),
         Owner::Argument(after, _) => Ok(close_argument(alloc, list, all, after)?),

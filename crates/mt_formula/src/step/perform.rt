@@ -13,6 +13,7 @@ ghost use Rattle.mt_formula.specs.machine.Turned.{Performs};
 ghost use Rattle.mt_formula.specs.machine.Facts.{stands_inside};
 ghost use Rattle.mt_scan.specs.Limits.{max_groups};
 
+use crate::forms::left_right::open_left_right;
 use crate::forms::primes::put_primes;
 use crate::forms::rows::open_rows;
 use crate::open::last_atom::plain_last_atom;
@@ -102,7 +103,8 @@ pub fn perform<'a>(
     match action {
         Action::Prime => put_primes(alloc, codes, frames, list, tokens),
         Action::Rows => open_rows(alloc, codes, frames, list, tokens),
-        Action::Group(_) | Action::ScriptGroup(_) | Action::LeftRight(_) | Action::Choice => {
+        Action::LeftRight(left) => open_left_right(alloc, frames, list, left, tokens),
+        Action::Group(_) | Action::ScriptGroup(_) | Action::Choice => {
             open_list(alloc, frames, list, action, tokens)
         }
         Action::Nothing

@@ -32,7 +32,7 @@ fn ends_at(ending: Ending, role: Role) -> bool
         Ending::AtEnd => false,
         Ending::AtNumber => matches!(role, Role::NumberWord(_)),
         Ending::AtBrace => matches!(role, Role::CloseBrace),
-        Ending::AtRight => matches!(role, Role::RightWord),
+        Ending::AtRight => matches!(role, Role::MiddleWord | Role::RightWord),
         Ending::AtDollar => matches!(role, Role::Dollar),
     }
 }

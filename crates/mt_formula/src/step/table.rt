@@ -135,6 +135,7 @@ fn role_action<'a>(
         Role::CloseBrace
         | Role::Dollar
         | Role::Misplaced
+        | Role::MiddleWord
         | Role::RightWord
         | Role::FractionWord(_, _)
         | Role::NumberWord(_) => return Ok(None),

@@ -22,11 +22,11 @@ returns-in-Script-clause-falls c = shortens_by c.close_script.result (reverse c.
 
 pub returns-in-LeftRight-clause-is : goal.returns-in-LeftRight-clause-is
 returns-in-LeftRight-clause-is c = λ units.
-    resumes_owner c.args.codes.now units c.args.owner (LeftRight c.in-LeftRight.left) c.args.list.now (reverse c.args.frames.now.items) (inner_sequence c.args.all) c.args.tokens.now c.close_left_right.result (reverse c.args.frames.now.items) c.close_left_right.new.list c.in-LeftRight.is
-    (c.close_left_right.ensures.is units (reverse c.args.frames.now.items))
+    resumes_owner c.args.codes.now units c.args.owner (LeftRight c.in-LeftRight.fence) c.args.list.now (reverse c.args.frames.now.items) (inner_sequence c.args.all) c.args.tokens.now c.close_left_right.result (reverse c.close_left_right.new.frames.items) c.close_left_right.new.list c.in-LeftRight.is
+    (c.close_left_right.ensures.is units)
 
 pub returns-in-LeftRight-clause-falls : goal.returns-in-LeftRight-clause-falls
-returns-in-LeftRight-clause-falls c = shortens_by c.close_left_right.result (reverse c.args.frames.now.items) c.args.owner (LeftRight c.in-LeftRight.left) (length c.args.tokens.now) c.in-LeftRight.is refl c.close_left_right.ensures.falls
+returns-in-LeftRight-clause-falls c = falls_by c.close_left_right.result (reverse c.close_left_right.new.frames.items) (reverse c.args.frames.now.items) c.args.owner (LeftRight c.in-LeftRight.fence) (length c.args.tokens.now) c.in-LeftRight.is refl c.close_left_right.ensures.falls
 
 pub returns-in-Choice-clause-is : goal.returns-in-Choice-clause-is
 returns-in-Choice-clause-is c = λ units.

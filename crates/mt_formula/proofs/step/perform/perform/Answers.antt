@@ -10,3 +10,7 @@ returns-in-Prime-clause-is c = λ units.
 pub returns-in-Rows-clause-is : goal.returns-in-Rows-clause-is
 returns-in-Rows-clause-is c = λ units.
     subst (λ a. Performs c.args.codes.now units (reverse c.args.frames.now.items) c.args.list.now a c.args.tokens.now c.open_rows.result (reverse c.open_rows.new.frames.items) c.open_rows.new.list) (sym c.in-Rows.is) (c.open_rows.ensures.is units)
+
+pub returns-in-LeftRight-clause-is : goal.returns-in-LeftRight-clause-is
+returns-in-LeftRight-clause-is c = λ units.
+    subst (λ a. Performs c.args.codes.now units (reverse c.args.frames.now.items) c.args.list.now a c.args.tokens.now c.open_left_right.result (reverse c.open_left_right.new.frames.items) c.open_left_right.new.list) (sym c.in-LeftRight.is) (c.open_left_right.ensures.is c.args.codes.now units)
