@@ -19,6 +19,8 @@ mod family;
 #[cfg(test)]
 mod fonts;
 #[cfg(test)]
+mod middles;
+#[cfg(test)]
 mod pages;
 #[cfg(test)]
 mod parts;

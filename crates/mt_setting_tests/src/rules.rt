@@ -59,11 +59,12 @@ fn letter(alloc: Global, code: u8) -> Result<Item, AllocError>
     )?))
 }
 
-// A list with boundaries.
+// A list with boundaries and a middle.
 fn bounded(alloc: Global) -> Result<MathList, AllocError> {
     let items = vec![in alloc;
         Item::Left(NO_DELIMITER),
         Item::Nonscript,
+        Item::Middle(NO_DELIMITER),
         Item::Kern(5),
         Item::Right(NO_DELIMITER),
     ]?;
@@ -73,10 +74,10 @@ fn bounded(alloc: Global) -> Result<MathList, AllocError> {
 #[test]
 fn lists_hold_what_they_are_made_of(rt: HostRuntime) {
     let list = bounded(rt.alloc()).expect(&rt, "memory");
-    assert!(rt; list.len() == 4 && list.get(4).is_none());
-    assert!(rt; matches!(list.get(2), Some(Item::Kern(5))));
+    assert!(rt; list.len() == 5 && list.get(5).is_none());
+    assert!(rt; matches!(list.get(3), Some(Item::Kern(5))));
     assert!(rt; matches!(list.as_slice(), [Item::Left(_), .., Item::Right(_)]));
-    assert!(rt; list.into_vec().len() == 4);
+    assert!(rt; list.into_vec().len() == 5);
 }
 
 // A letter over a choice of styles.

@@ -1,0 +1,2 @@
+-- items between boundaries
+pub mod Between
