@@ -27,6 +27,15 @@ const FONT_CAUSES: [&str; 9] = [
     "a recipe has a piece that is no character",
 ];
 
+/// The number of the first cause of `SIZE_CAUSES`: before it stands want of memory, a status of its own.
+const FIRST_SIZE: u8 = 11;
+
+/// Why a font's size is refused: `BadSize` of mt_tfm, `SameFont` of mt_family.
+const SIZE_CAUSES: [&str; 2] = [
+    "so many thousandths of its design size are 2048pt or more",
+    "an earlier font has the same name and comes to the same size",
+];
+
 /// Why a family at a size is refused, in the order of `SetError` of mt_family.
 const FAMILY_CAUSES: [&str; 2] = [
     "formulas need a font of this family at this size",
@@ -103,11 +112,15 @@ pub fn list_cause(cause: u8) -> &'static str
     text_of(&LIST_CAUSES, 1, cause)
 }
 
-/// Of a TFM file.
+/// Of a TFM file, or of a font's size.
 pub fn font_cause(cause: u8) -> &'static str
     ensures { IsLine result.now }
 {
-    text_of(&FONT_CAUSES, 1, cause)
+    if cause < FIRST_SIZE {
+        text_of(&FONT_CAUSES, 1, cause)
+    } else {
+        text_of(&SIZE_CAUSES, FIRST_SIZE, cause)
+    }
 }
 
 /// Of a family at a size.
