@@ -2,8 +2,8 @@
  *
  * Loaded by LD_PRELOAD. REFUSE names a call (memory, open, read, write), REFUSE_AT its number from 1, and REFUSE_AS what
  * happens there: "fail" (no memory; EIO), "interrupt" (EINTR), "short" (a read or a write of one byte), "full" (ENOSPC)
- * or "closed" (EPIPE). COUNT_TO names a file to which the numbers of calls are written when the program ends.
- * Counting begins with main, so that the loader's own calls pass.
+ * or "closed" (EPIPE). AT_MOST is a number of bytes: no read and no write takes more. COUNT_TO names a file to which the
+ * numbers of calls are written when the program ends. Counting begins with main, so that the loader's own calls pass.
  */
 #define _GNU_SOURCE
 #include <dlfcn.h>
@@ -19,6 +19,7 @@ enum call { MEMORY, OPEN, READ, WRITE, CALLS };
 static const char *const names[CALLS] = { "memory", "open", "read", "write" };
 static int ready, refused = -1;
 static unsigned long counts[CALLS], at;
+static size_t most = (size_t)-1;
 static const char *as = "fail";
 
 static void *(*real_malloc)(size_t);
@@ -29,7 +30,7 @@ static ssize_t (*real_write)(int, const void *, size_t);
 
 __attribute__((constructor)) static void begin(void)
 {
-    const char *call = getenv("REFUSE"), *number = getenv("REFUSE_AT"), *way = getenv("REFUSE_AS");
+    const char *call = getenv("REFUSE"), *number = getenv("REFUSE_AT"), *way = getenv("REFUSE_AS"), *bytes = getenv("AT_MOST");
     real_malloc = dlsym(RTLD_NEXT, "malloc");
     real_realloc = dlsym(RTLD_NEXT, "realloc");
     real_open = dlsym(RTLD_NEXT, "open");
@@ -39,6 +40,7 @@ __attribute__((constructor)) static void begin(void)
         if (!strcmp(call, names[i])) refused = i;
     if (number) at = strtoul(number, NULL, 10);
     if (way) as = way;
+    if (bytes) most = strtoul(bytes, NULL, 10);
     ready = 1;
 }
 
@@ -98,18 +100,23 @@ int open(const char *path, int flags, ...)
     return real_open(path, flags, mode);
 }
 
+static size_t least(size_t count, size_t other)
+{
+    return count < other ? count : other;
+}
+
 ssize_t read(int file, void *bytes, size_t count)
 {
-    if (!is_refused(READ)) return real_read(file, bytes, count);
-    if (!strcmp(as, "short")) return real_read(file, bytes, count < 1 ? count : 1);
+    if (!is_refused(READ)) return real_read(file, bytes, ready ? least(count, most) : count);
+    if (!strcmp(as, "short")) return real_read(file, bytes, least(count, 1));
     errno = error();
     return -1;
 }
 
 ssize_t write(int file, const void *bytes, size_t count)
 {
-    if (!is_refused(WRITE)) return real_write(file, bytes, count);
-    if (!strcmp(as, "short")) return real_write(file, bytes, count < 1 ? count : 1);
+    if (!is_refused(WRITE)) return real_write(file, bytes, ready ? least(count, most) : count);
+    if (!strcmp(as, "short")) return real_write(file, bytes, least(count, 1));
     errno = error();
     return -1;
 }

@@ -15,7 +15,7 @@ use Rattle.mt_status.specs.FontRefusals.{list_by}
 use Rattle.mathset.specs.Answer.{answer, steps_by}
 use Rattle.mathset.specs.DviSteps.{dvi_by, dvi_listing, dvi_step}
 use Rattle.mathset.specs.FontSteps.{font_set_of, font_set_step, font_step, fonts_step, line_font, list_step, loaded_step, tfm_name}
-use Rattle.mt_family.specs.Limits.{max_list}
+use Rattle.mt_family.specs.Limits.{max_list_bytes}
 use Rattle.mt_dvi.specs.Limits.{max_dvi}
 use Rattle.mathset.specs.Limits.{max_tfm}
 use Rattle.mt_pages.specs.Listing.{listing}
@@ -65,7 +65,7 @@ file_short name limit files bytes h = short_by name (content files name) bytes l
 
 font_step_avoids : (n : ℕ) (line : FontLine) (files : List Held) → StepAvoids (font_step n line files)
 font_step_avoids n line files =
-    then_avoids (file_of (tfm_name line.name) max_tfm files) (λ bytes. plain (line_font n line bytes)) (file_avoids (tfm_name line.name) max_tfm files) (λ bytes is. font_avoids n bytes (metrics_of bytes line.at line.skew))
+    then_avoids (file_of (tfm_name line.name) max_tfm files) (λ bytes. plain (line_font n line bytes)) (file_avoids (tfm_name line.name) max_tfm files) (λ bytes is. font_avoids n bytes line.wanted (metrics_of bytes line.wanted line.skew))
 
 fonts_step_avoids : (fonts : List Metrics) (lines : List FontLine) (files : List Held) → StepAvoids (fonts_step fonts lines files)
 fonts_step_avoids fonts [] files = λ same. cc
@@ -73,10 +73,10 @@ fonts_step_avoids fonts (line ∷ lines) files =
     then_avoids (font_step (length fonts) line files) (λ font. fonts_step (fonts ++ font ∷ []) lines files) (font_step_avoids (length fonts) line files) (λ font is. fonts_step_avoids (fonts ++ font ∷ []) lines files)
 
 list_step_avoids : (name : List ℕ) (files : List Held) → StepAvoids (list_step name files)
-list_step_avoids name files = then_avoids (file_of name max_list files) (λ bytes. plain (list_by (font_list bytes))) (file_avoids name max_list files) (λ bytes is. list_avoids bytes)
+list_step_avoids name files = then_avoids (file_of name max_list_bytes files) (λ bytes. plain (list_by (font_list bytes))) (file_avoids name max_list_bytes files) (λ bytes is. list_avoids bytes)
 
 loaded_step_avoids : (list : ListValue) (files : List Held) → StepAvoids (loaded_step list files)
-loaded_step_avoids list files = then_avoids (fonts_step [] list.lines files) (λ fonts. plain (font_set_of list fonts)) (fonts_step_avoids [] list.lines files) (λ fonts is. set_avoids list.families fonts (record { lines = list.lines; families = list.families; fonts = fonts }))
+loaded_step_avoids list files = then_avoids (fonts_step [] list.lines files) (λ fonts. plain (font_set_of list fonts)) (fonts_step_avoids [] list.lines files) (λ fonts is. set_avoids list fonts (record { lines = list.lines; families = list.families; fonts = fonts }))
 
 font_set_step_avoids : (name : List ℕ) (files : List Held) → StepAvoids (font_set_step name files)
 font_set_step_avoids name files = then_avoids (list_step name files) (λ list. loaded_step list files) (list_step_avoids name files) (λ list is. loaded_step_avoids list files)

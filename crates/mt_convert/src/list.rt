@@ -361,6 +361,7 @@ fn clean_list(
 
 // The nucleus of an atom of any kind, where its scripts stand beside it.
 #[cycle(setting)]
+#[inline(never)]
 fn set_nucleus(
     alloc: Global,
     fonts: &FontSet,
@@ -383,7 +384,6 @@ fn set_nucleus(
 
 // The nucleus of an atom of any kind but the plain one.
 #[cycle(setting)]
-#[inline(never)]
 fn set_part(
     alloc: Global,
     fonts: &FontSet,

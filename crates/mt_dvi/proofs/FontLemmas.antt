@@ -3,7 +3,7 @@ use Rattle.std.proofs.Common.{◌≡◌, ℕ, ◌+◌, ◌<◌, ◌≤◌, List,
 use Rattle.std.specs.Prelude.{pos, nat_abs, true, false, Bool, Option, Some, None, nat_lt, slice_get, map, ◌==◌, if◌then◌else◌, All, IsTrue, ◌||◌}
 use Rattle.std.proofs.lemmas.Bool.Decides.{nat_tests}
 use Rattle.std.proofs.lemmas.Int.{ints}
-use Rattle.mt_tfm.specs.Font.{Metrics}
+use Rattle.mt_tfm.specs.Font.{Metrics, IsSoundFont}
 use Rattle.std.proofs.lemmas.List.{map-append, append-nil}
 use Rattle.mt_dvi.specs.Codes.{Define, Definition, Select}
 use Rattle.mt_dvi.specs.writer.Emits.{Emits}
@@ -70,16 +70,16 @@ step_select fonts reached c numbers n rest known place h v =
     let e : first_definition (map (definition_of fonts) numbers) n ≡ Some (definition_of fonts n) = defined_is fonts numbers n ∙ ap (λ (b : Bool). if b then Some (definition_of fonts n) else None) known in
     rw (e, place, h, v) refl
 
--- two lists with the same sizes have a font and a line at each place
-paired : (fonts : List Metrics) (lines : List FontLine) (n : ℕ) → map (λ (m : Metrics). m.at) fonts ≡ map (λ (line : FontLine). line.at) lines → n < length fonts
-    → (m : Metrics) × (slice_get fonts n ≡ Some m) × (line : FontLine) × (slice_get lines n ≡ Some line) × (m.at ≡ line.at)
+-- two lists of one length have a font and a line at each place
+paired : (fonts : List Metrics) (lines : List FontLine) (n : ℕ) → length fonts ≡ length lines → n < length fonts
+    → (m : Metrics) × (slice_get fonts n ≡ Some m) × (line : FontLine) × (slice_get lines n ≡ Some line)
 paired [] lines n same lt = absurd (omega arith)
-paired (m ∷ fonts) [] n same lt = absurd (cc)
-paired (m ∷ fonts) (line ∷ lines) zero same lt = (m, refl, line, refl, cc)
-paired (m ∷ fonts) (line ∷ lines) (suc n) same lt = paired fonts lines n (cc) (omega arith)
+paired (m ∷ fonts) [] n same lt = absurd (omega (arith, same))
+paired (m ∷ fonts) (line ∷ lines) zero same lt = (m, refl, line, refl)
+paired (m ∷ fonts) (line ∷ lines) (suc n) same lt = paired fonts lines n (omega (arith, same)) (omega arith)
 
--- what all lines keep, a line keeps
-kept : (P : FontLine → Type 0) (lines : List FontLine) (n : ℕ) (line : FontLine) → All P lines → slice_get lines n ≡ Some line → P line
+-- what all keep, each keeps
+kept : {X : Type 0} (P : X → Type 0) (lines : List X) (n : ℕ) (line : X) → All P lines → slice_get lines n ≡ Some line → P line
 kept P [] n line all is = absurd (cc)
 kept P (first ∷ lines) zero line all is = let same : first ≡ line = cc in subst P same (all 0 first (omega arith))
 kept P (first ∷ lines) (suc n) line all is = kept P lines n line (λ k d lt. all (suc k) d (omega arith)) is
@@ -101,11 +101,12 @@ same_some e = cc
 
 pub listed : (fonts : SetValue) (n : ℕ) → IsSet fonts → n < length fonts.fonts → IsListed fonts n
 listed fonts n set lt =
-    let p = paired fonts.fonts fonts.lines n set.loaded.sizes lt in
+    let p = paired fonts.fonts fonts.lines n set.loaded.count lt in
     let m = p.0 in
     let line = p.2 in
     let facts = kept IsFontLine fonts.lines n line set.list.each p.3 in
-    let size : pos (nat_abs m.at) ≡ m.at = omega (arith, ints, facts.above, p.4) in
+    let sound = kept IsSoundFont fonts.fonts n m set.sound p.1 in
+    let size : pos (nat_abs m.at) ≡ m.at = omega (arith, ints, sound.at.0) in
     let name : name_in fonts.lines n ≡ Some line.name = rw p.3 refl in
     record {
       metrics = m;

@@ -5,6 +5,7 @@ use Rattle.std.specs.Prelude.{pos, replicate, Bool, true, false, None, ◌==◌,
 use Rattle.std.specs.List.{list_all}
 use Rattle.mt_family.specs.SetValue.{SetValue}
 use Rattle.mt_tfm.specs.Font.{Metrics}
+use Rattle.mt_tfm.specs.declared.wanted.Wanted.TheVariants.{At}
 use Rattle.mt_dvi.specs.Codes.{W, X, Y, Z}
 use Rattle.mt_dvi.specs.Lean.{Lean, LeanPage, are_in_turn, are_modest, are_needed, is_allowed, is_no_zero, is_short, sets_anew}
 use Rattle.mt_dvi.specs.Trace.{Opcode, Trace, traced}
@@ -32,10 +33,10 @@ metrics_of_size size = record {
 abbrev pub fonts : SetValue
 fonts = record {
   lines =
-      record { name = 116 ∷ 111 ∷ 121 ∷ 114 ∷ []; at = pos 655360; skew = None }
-      ∷ record { name = 116 ∷ 111 ∷ 121 ∷ 114 ∷ []; at = pos 458752; skew = None }
-      ∷ record { name = 116 ∷ 111 ∷ 121 ∷ 114 ∷ []; at = pos 327680; skew = None }
-      ∷ record { name = 116 ∷ 111 ∷ 121 ∷ 109 ∷ []; at = pos 655360; skew = None }
+      record { name = 116 ∷ 111 ∷ 121 ∷ 114 ∷ []; wanted = At (pos 655360); skew = None }
+      ∷ record { name = 116 ∷ 111 ∷ 121 ∷ 114 ∷ []; wanted = At (pos 458752); skew = None }
+      ∷ record { name = 116 ∷ 111 ∷ 121 ∷ 114 ∷ []; wanted = At (pos 327680); skew = None }
+      ∷ record { name = 116 ∷ 111 ∷ 121 ∷ 109 ∷ []; wanted = At (pos 655360); skew = None }
       ∷ [];
   families = [];
   fonts = metrics_of_size 655360 ∷ metrics_of_size 458752 ∷ metrics_of_size 327680 ∷ metrics_of_size 655360 ∷ [];

@@ -26,3 +26,4 @@ abbrev pub set_error_number : SetError → ℕ
 set_error_number (sets.NoMathFamily fam size) = 1
 set_error_number (sets.FewParameters fam size) = 2
 set_error_number sets.OutOfMemory = 3
+set_error_number (sets.SameFont font) = 4

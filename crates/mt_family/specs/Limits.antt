@@ -2,8 +2,8 @@
 use Rattle.std.specs.Prelude.{ℕ}
 
 -- bytes of a font list
-abbrev pub max_list : ℕ
-max_list = 65536
+abbrev pub max_list_bytes : ℕ
+max_list_bytes = 65536
 
 -- font lines
 abbrev pub max_fonts : ℕ

@@ -1,7 +1,7 @@
 //! The most that a font list may have, and what formulas need of its fonts.
 
 /// The most bytes of a font list.
-pub const MAX_LIST: u64 = 65_536;
+pub const MAX_LIST_BYTES: u64 = 65_536;
 
 /// The most font lines of a list.
 pub const MAX_FONTS: usize = 48;

@@ -1,5 +1,5 @@
 -- Macros by their names: a finite map, as the list of its entries in the names' order.
-use Rattle.std.specs.Prelude.{ℕ, Bool, false, List, Option, Some, None, is_some, sum_by, if◌then◌else◌}
+use Rattle.std.specs.Prelude.{ℕ, Bool, false, List, Option, Some, None, sum_by, if◌then◌else◌}
 use Rattle.std.specs.Str.{bytes_eq}
 use Rattle.std.specs.Map.{lookup, values_of}
 use Rattle.std.specs.BTreeMap.{insert_entry}
@@ -25,9 +25,6 @@ macro_of_kind table Space = None
 -- the macro that a token names
 abbrev pub macro_at : Table → Token → Option Macro
 macro_at table t = macro_of_kind table t.kind
-
-abbrev pub names_macro : Table → Token → Bool
-names_macro table t = is_some (macro_at table t)
 
 -- the table with a macro under a name, in place of an older one
 abbrev pub with_macro : Table → List ℕ → Macro → Table

@@ -8,6 +8,8 @@ pub mod Bodies
 pub mod Taking
 -- what became of a macro in a step
 pub mod Replacing
+-- which tokens name macros
+pub mod Naming
 -- marks of names
 pub mod Marks
 -- what the macros keep

@@ -8,7 +8,7 @@ ghost use Rattle.mt_macro.specs.inner.Ends.{AreEnds};
 ghost use Rattle.mt_macro.specs.inner.Kept.{HasShortBody};
 ghost use Rattle.mt_macro.specs.inner.Taking.{lent_tokens};
 ghost use Rattle.mt_macro.specs.Arguments.{arguments};
-ghost use Rattle.mt_macro.specs.Table.{names_macro};
+ghost use Rattle.mt_macro.specs.inner.Naming.{names_macro};
 ghost use Rattle.mt_macro.specs.Expansion.{run, expansion, Expanded, Expands, replacement};
 ghost use Rattle.mt_macro.specs.inner.Replacing.{Replaces};
 ghost use Rattle.mt_macro.specs.declared.expansion.ExpandError.TheVariants.{OutOfMemory};

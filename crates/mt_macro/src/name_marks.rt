@@ -48,8 +48,8 @@ fn byte_at(name: &[u8], index: usize) -> usize
     }
 }
 
-// The mark of a name, by its first two bytes and its length. The factors part plain TeX's macros
-// from the other names of formulas.
+// The mark of a name, by its first two bytes and its length. With these factors most names of
+// formulas that are no macros of plain TeX have a mark that none of its macros has.
 fn mark_of(name: &[u8]) -> usize
     ensures is { result ≡ mark_of name.now }
     ensures small { result < 256 }

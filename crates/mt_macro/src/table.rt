@@ -3,8 +3,9 @@ ghost use Rattle.std.specs.Prelude.{◌≡◌, ◌≤◌, ◌^◌, ◌<◌, ◌+
 ghost use Rattle.std.specs.Prelude.{if◌then◌else◌, IfOk, IfSome, OnOk, OnErr};
 ghost use Rattle.std.specs.Option.{option_copied};
 ghost use Rattle.mt_macro.specs.Limits.{max_own_names};
-ghost use Rattle.mt_macro.specs.Table.{macro_of, macro_at, names_macro, is_own, own_count, with_macro};
+ghost use Rattle.mt_macro.specs.Table.{macro_of, macro_at, is_own, own_count, with_macro};
 ghost use Rattle.mt_macro.specs.inner.Kept.{HasShortBody};
+ghost use Rattle.mt_macro.specs.inner.Naming.{names_macro};
 
 use crate::name_marks::NameMarks;
 use mt_scaled::Name;

@@ -1,4 +1,4 @@
-use mt_tfm::{Pair, TfmError, read_tfm};
+use mt_tfm::{Pair, TfmError, read_tfm, read_tfm_scaled};
 use std::alloc::{AllocError, Global};
 use std::test::Fail;
 
@@ -112,6 +112,63 @@ fn each_check_has_its_fault(rt: HostRuntime) -> Result<(), Fail> {
         let bytes = changed(rt.alloc(), changes, words)?;
         let fault = read_tfm(rt.alloc(), &bytes, 655360, None).err();
         assert_eq!(rt; fault, Some(want));
+    }
+    Ok(())
+}
+
+#[test]
+fn a_font_is_scaled(rt: HostRuntime) -> Result<(), Fail> {
+    // Thousandths of 10pt, cut off to scaled points.
+    let sizes = [
+        (1, 655),
+        (2, 1310),
+        (500, 327680),
+        (700, 458752),
+        (1000, 655360),
+        (32768, 21474836),
+    ];
+    for (factor, size) in sizes {
+        let font = read_tfm_scaled(rt.alloc(), &FONT, factor, Some(97))?;
+        assert_eq!(rt; (font.at(), font.design()), (size, 655360));
+        assert_eq!(rt;
+            font.width(97),
+            read_tfm(rt.alloc(), &FONT, size, None)?.width(97)
+        );
+    }
+    // The greatest size, as a design size of 2^27 - 1 sp.
+    let greatest = changed(
+        rt.alloc(),
+        &[(28, 127), (29, 255), (30, 255), (31, 240)],
+        &[],
+    )?;
+    let font = read_tfm_scaled(rt.alloc(), &greatest, 1000, None)?;
+    assert_eq!(rt; font.at(), 134217727);
+    // The smallest design size.
+    let smallest = changed(rt.alloc(), &[(29, 16)], &[])?;
+    let font = read_tfm_scaled(rt.alloc(), &smallest, 1, None)?;
+    assert_eq!(rt; font.at(), 65);
+    Ok(())
+}
+
+#[test]
+fn a_size_is_tested_after_the_design_size(rt: HostRuntime) -> Result<(), Fail> {
+    let faults: [(&[(usize, u8)], u32, TfmError); 4] = [
+        (&[(28, 0x7D), (29, 0)], 32768, TfmError::BadSize(4294967296)),
+        (&[(28, 0x40), (29, 0)], 2000, TfmError::BadSize(134217728)),
+        (&[(28, 0x80), (29, 0)], 32768, TfmError::BadHeader),
+        (
+            &[(28, 0x7D), (29, 0), (33, 0x20)],
+            32768,
+            TfmError::BadSize(4294967296),
+        ),
+    ];
+    for (changes, factor, want) in faults {
+        let bytes = changed(rt.alloc(), changes, &[])?;
+        let fault = read_tfm_scaled(rt.alloc(), &bytes, factor, None).err();
+        assert_eq!(rt; fault, Some(want));
+        // At a size of its own the font has the other fault, or none.
+        let plain = read_tfm(rt.alloc(), &bytes, 655360, None).err();
+        assert!(rt; plain != Some(TfmError::BadSize(4294967296)));
     }
     Ok(())
 }

@@ -3,6 +3,7 @@
 use Rattle.std.proofs.Common.{◌≡◌, ℕ, zero, suc, List, [], ◌∷◌, false, refl, pos, codes, Some, None, Ok}
 use Rattle.mt_tfm.specs.Checks.{tfm_fault, entries_fault, zeros_fault}
 use Rattle.mt_tfm.specs.Font.{metrics_of, metrics_in}
+use Rattle.mt_tfm.specs.declared.wanted.Wanted.TheVariants.{At}
 use Rattle.mt_family.specs.Lists.{font_list}
 use Rattle.mt_samples.specs.Lists.{toy_list}
 use Rattle.mt_samples.specs.Bytes.{roman_bytes, italic_bytes, symbols_bytes, extension_bytes, toy_list_bytes}
@@ -18,8 +19,8 @@ abbrev with_byte : ℕ → ℕ → List ℕ → List ℕ
 with_byte k x bytes = with_item k x bytes
 
 record ReadsOtherwise (bytes : List ℕ) (t : ToyTable) : Type 0 where
-  passes : tfm_fault bytes ≡ None
-  says : has_table t 655360 (metrics_of bytes (pos 655360) t.skew) ≡ false
+  passes : tfm_fault bytes (At (pos 655360)) ≡ None
+  says : has_table t 655360 (metrics_of bytes (At (pos 655360)) t.skew) ≡ false
 
 -- a design size of 9pt
 design : ReadsOtherwise (with_byte 29 144 roman_bytes) roman
@@ -67,11 +68,11 @@ unfolding toy_list_bytes
 family = refl
 
 -- a font's size is one more
-size : font_list (with_byte 189 49 toy_list_bytes) ≡ Ok (record { lines = with_item 8 (record { name = codes "toys"; at = pos 327681; skew = None }) toy_list.lines; families = toy_list.families })
+size : font_list (with_byte 189 49 toy_list_bytes) ≡ Ok (record { lines = with_item 8 (record { name = codes "toys"; wanted = At (pos 327681); skew = None }) toy_list.lines; families = toy_list.families })
 unfolding toy_list_bytes
 size = refl
 
 -- a font has the skew character 126
-skewed : font_list (with_byte 113 54 toy_list_bytes) ≡ Ok (record { lines = with_item 4 (record { name = codes "toym"; at = pos 458752; skew = Some 126 }) toy_list.lines; families = toy_list.families })
+skewed : font_list (with_byte 113 54 toy_list_bytes) ≡ Ok (record { lines = with_item 4 (record { name = codes "toym"; wanted = At (pos 458752); skew = Some 126 }) toy_list.lines; families = toy_list.families })
 unfolding toy_list_bytes
 skewed = refl

@@ -17,9 +17,9 @@ toy_named name =
     else if bytes_eq name (codes "toys") then Symbols
     else Extension
 
--- what the file of a line's font says, at the line's size and with its skew character
+-- what the file of a line's font says, at the size that the line wants and with its skew character
 abbrev pub toy_font : FontLine → Metrics
-toy_font line = metrics_of (toy_bytes (toy_named line.name)) line.at line.skew
+toy_font line = metrics_of (toy_bytes (toy_named line.name)) line.wanted line.skew
 
 abbrev pub toy_set : SetValue
 toy_set = record { lines = toy_list.lines; families = toy_list.families; fonts = map toy_font toy_list.lines }

@@ -3,6 +3,9 @@ use Rattle.std.specs.Prelude.{◌≡◌, ℕ, ◌*◌, ◌/◌, List, [], ◌∷
 use Rattle.std.specs.List.{list_all, list_any, range_with_len, find}
 use Rattle.std.specs.Option.{option_map}
 use Rattle.std.specs.Ordering.{int_eq}
+use Rattle.mt_tfm.specs.declared.wanted.Wanted.{Wanted}
+use Rattle.mt_tfm.specs.declared.wanted.Wanted.TheVariants.{At}
+use Rattle.mt_tfm.specs.Sizes.{IsWanted}
 use Rattle.mt_tfm.specs.Checks.{tfm_fault}
 use Rattle.mt_tfm.specs.Font.{Metrics, metrics_of, pair_of, larger_of, recipe_of, exists, width_of, height_of, depth_of, italic_of, char_at}
 use Rattle.mt_tfm.specs.declared.recipe.Recipe.{Recipe}
@@ -100,12 +103,12 @@ has_table t size m =
     list_all (λ c. code_says t size m c) (range_with_len 0 256) && same_params size m.params t.params
     && (m.checksum == 0) && (m.design == 655360)
 
--- bytes that read as a toy font at each of the three sizes
+-- bytes that read as a toy font at each of the three sizes, and that have no fault at any other
 pub record ReadsAs (bytes : List ℕ) (t : ToyTable) : Type 0 where
-  pub passes : tfm_fault bytes ≡ None
-  pub large : has_table t 655360 (metrics_of bytes (pos 655360) t.skew) ≡ true
-  pub middle : has_table t 458752 (metrics_of bytes (pos 458752) t.skew) ≡ true
-  pub small : has_table t 327680 (metrics_of bytes (pos 327680) t.skew) ≡ true
+  pub passes : (wanted : Wanted) → IsWanted wanted → tfm_fault bytes wanted ≡ None
+  pub large : has_table t 655360 (metrics_of bytes (At (pos 655360)) t.skew) ≡ true
+  pub middle : has_table t 458752 (metrics_of bytes (At (pos 458752)) t.skew) ≡ true
+  pub small : has_table t 327680 (metrics_of bytes (At (pos 327680)) t.skew) ≡ true
 
 abbrev pub roman : ToyTable
 roman = record {

@@ -6,7 +6,7 @@ ghost use Rattle.mt_samples.specs.Lists.{toy_list as toy_list_value};
 
 use crate::{Toy, toy_list, toy_tfm};
 use mt_family::{FontLine, FontList, FontSet, Fonts, ListError, SetError, read_font_list};
-use mt_tfm::{Font, TfmError, read_tfm};
+use mt_tfm::{Font, TfmError, read_tfm_wanted};
 use std::alloc::{AllocError, Global};
 
 // The toy font of a name in the list.
@@ -37,7 +37,7 @@ fn read_font(alloc: Global, line: &FontLine) -> Result<Font, AllocError>
     ensures { IfOk result (λ font. font ≡ toy_font line.now) }
 {
     let bytes = toy_tfm(alloc, toy_named(line.name.as_slice()))?;
-    match read_tfm(alloc, bytes.as_slice(), line.at, line.skew) {
+    match read_tfm_wanted(alloc, bytes.as_slice(), line.wanted, line.skew) {
         Ok(font) => Ok(font),
         Err(TfmError::OutOfMemory) => Err(AllocError),
         Err(_) => unreachable!(),

@@ -5,7 +5,7 @@
 ghost use Rattle.std.specs.Prelude.{◌≡◌, ◌≤◌, IfOk, Ok, length};
 ghost use Rattle.mt_samples.specs.Bytes.{toy_list_bytes};
 ghost use Rattle.mt_samples.specs.Which.{toy_bytes, toy_table};
-ghost use Rattle.mt_family.specs.Limits.{max_list};
+ghost use Rattle.mt_family.specs.Limits.{max_list_bytes};
 ghost use Rattle.mt_family.specs.Lists.{font_list};
 ghost use Rattle.mt_samples.specs.Lists.{toy_list};
 ghost use Rattle.mt_samples.specs.Tables.{ReadsAs};
@@ -70,7 +70,7 @@ pub fn toy_tfm(alloc: Global, which: Toy) -> Result<Bytes, AllocError>
 }
 
 /// The list of the toy fonts: toyr, toym and toys at 10pt, 7pt and 5pt, toyx at 10pt, and families 0 to 3.
-/// It has at most `MAX_LIST` bytes, the limit of a font list.
+/// It has at most `MAX_LIST_BYTES` bytes, the limit of a font list.
 ///
 /// # Errors
 ///
@@ -78,7 +78,7 @@ pub fn toy_tfm(alloc: Global, which: Toy) -> Result<Bytes, AllocError>
 pub fn toy_list(alloc: Global) -> Result<Bytes, AllocError>
     ensures reads { IfOk result (λ bytes. font_list bytes ≡ Ok toy_list) }
     ensures is { IfOk result (λ bytes. bytes ≡ toy_list_bytes) }
-    ensures short { IfOk result (λ bytes. length bytes ≤ max_list) }
+    ensures short { IfOk result (λ bytes. length bytes ≤ max_list_bytes) }
 {
     Ok(Bytes::from_vec(Vec::from_slice(alloc, LIST.as_bytes())?))
 }

@@ -63,7 +63,7 @@ fn dimension_of<'a>(
     }
 }
 
-/// A dimension, in math units where these are asked for; some must not be negative.
+/// A dimension, in math units with `mu`. One below 0 is refused unless `negative` allows it.
 pub fn dimension_from<'a>(
     units: Units,
     mu: bool,

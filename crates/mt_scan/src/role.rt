@@ -227,7 +227,7 @@ fn character_role(codes: &Codes, c: u8) -> Role
     }
 }
 
-// A name by its meaning. It is not inlined, so that `role_of` is small enough to be.
+// A name by its meaning. A function of its own keeps `role_of` small enough to be inlined.
 #[inline(never)]
 fn name_role(codes: &Codes, name: &[u8]) -> Role
     ensures { result ≡ meaning_role (control name.now) }

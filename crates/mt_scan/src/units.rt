@@ -176,7 +176,7 @@ fn font_length(whole: u64, part: u64, x: i64) -> i64
     )
 }
 
-// So many points, or so many units of which a number of points make a number.
+// So many of a unit with a factor (tex.web, section 458), or so many points where it has none.
 #[tactic(auto, using(crate::proofs::Factors::has_small_factor))]
 fn by_factor(unit: Unit, whole: u64, part: u64) -> i64
     requires whole { whole ≤ max_dimen }

@@ -4,7 +4,7 @@ ghost use Rattle.mt_family.specs.ListFacts.{IsFontLine};
 ghost use Rattle.mt_family.specs.SetValue.{AreLoaded};
 
 use mt_family::{FontLine, FontSet, Fonts, read_font_list};
-use mt_tfm::read_tfm;
+use mt_tfm::read_tfm_wanted;
 use std::alloc::{AllocError, Global};
 use std::process::Abort;
 
@@ -46,7 +46,7 @@ pub fn load(
     let mut fonts = Vec::new(alloc);
     for line in lines {
         let file = file_of(line, skewed, plain);
-        let font = read_tfm(alloc, file, line.at, line.skew).expect(rt, "a font");
+        let font = read_tfm_wanted(alloc, file, line.wanted, line.skew).expect(rt, "a font");
         fonts.push(font)?;
     }
     Ok(Fonts::from_vec(fonts))

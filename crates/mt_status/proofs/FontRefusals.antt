@@ -1,15 +1,14 @@
 -- No definition refuses a font for want of memory (`list_avoids`, `font_avoids`, `set_avoids`).
-use Rattle.std.proofs.Common.{◌≡◌, ◌+◌, ◌*◌, ◌&&◌, ℕ, length, Bool, true, false, List, [], ◌∷◌, refl, ap}
-use Rattle.std.specs.Prelude.{Option, Some, None, Result, Ok, Err, nat_le, ◌==◌, codes}
-use Rattle.std.specs.Str.{bytes_eq}
-use Rattle.mt_tfm.specs.Checks.{are_small, agree, header_fits, chars_fault, cycle_fault, entries_fault, fault_unless, fix_fault, head_fault, index_fault, chars_of, program_fault, program_of, recipe_fault, recipes_of, table_fault, tfm_fault, use_fault, zero_fault, zeros_fault}
+use Rattle.std.proofs.Common.{◌≡◌, ◌+◌, ◌*◌, ◌^◌, ◌&&◌, ℕ, length, Bool, true, false, List, [], ◌∷◌, refl, ap}
+use Rattle.std.specs.Prelude.{Option, Some, None, Result, Ok, Err, nat_le, nat_lt, ◌==◌}
+use Rattle.mt_tfm.specs.Checks.{are_small, agree, header_fits, chars_fault, cycle_fault, entries_fault, fault_unless, fix_fault, head_fault, index_fault, chars_of, program_fault, program_of, recipe_fault, recipes_of, size_fault as wanted_fault, table_fault, tfm_fault, use_fault, zero_fault, zeros_fault}
 use Rattle.mt_tfm.specs.Font.{Metrics}
 use Rattle.mt_tfm.specs.Tables.{counts_of}
-use Rattle.mt_tfm.specs.Words.{words_of, word_at}
+use Rattle.mt_tfm.specs.Words.{words_of, word_at, design_of}
 use Rattle.mt_tfm.specs.declared.chars.CharWord.{CharWord}
 use Rattle.mt_tfm.specs.declared.counts.Counts.{Counts}
 use Rattle.mt_tfm.specs.declared.error.TfmError.{TfmError}
-use Rattle.mt_tfm.specs.declared.error.TfmError.TheVariants.{Truncated, BadCounts, BadHeader, BadIndex, ChainCycle, BadFix, BadZero, BadProgram, BadRecipe, OutOfMemory as NoFontMemory}
+use Rattle.mt_tfm.specs.declared.error.TfmError.TheVariants.{Truncated, BadCounts, BadHeader, BadIndex, ChainCycle, BadFix, BadZero, BadProgram, BadRecipe, BadSize, OutOfMemory as NoFontMemory}
 use Rattle.mt_tfm.specs.declared.measures.Measure.{Measure}
 use Rattle.mt_tfm.specs.declared.measures.Measure.TheVariants.{Width, Height, Depth, Italic, Kern, Param}
 use Rattle.mt_tfm.specs.declared.words.Word.{Word}
@@ -18,20 +17,24 @@ use Rattle.mt_tfm.specs.declared.recipe.Recipe.{Recipe}
 use Rattle.mt_family.specs.declared.error.ListError.{ListError}
 use Rattle.mt_family.specs.declared.error.ListError.TheVariants.{BadLine, Repeated, UnknownFont, TooMany, OutOfMemory as NoListMemory}
 use Rattle.mt_family.specs.declared.error.SetError.{SetError}
-use Rattle.mt_family.specs.declared.error.SetError.TheVariants.{NoMathFamily, FewParameters, OutOfMemory as NoSetMemory}
+use Rattle.mt_family.specs.declared.error.SetError.TheVariants.{NoMathFamily, FewParameters, SameFont, OutOfMemory as NoSetMemory}
 use Rattle.mt_family.specs.declared.line.FamilyFields.{FamilyFields}
 use Rattle.mt_family.specs.declared.line.ListLine.{ListLine}
-use Rattle.mt_family.specs.declared.line.ListLine.TheVariants.{Nothing, Font, Family}
+use Rattle.mt_family.specs.declared.line.ListLine.TheVariants.{Nothing, Font, Family, Skew}
+use Rattle.mt_family.specs.declared.line.Version.{Version}
+use Rattle.mt_tfm.specs.declared.wanted.Wanted.{Wanted}
+use Rattle.mt_tfm.specs.declared.wanted.Wanted.TheVariants.{At, Scaled}
+use Rattle.mt_tfm.specs.Sizes.{scaled_size}
 use Rattle.mt_family.specs.declared.list.FamilyLine.{FamilyLine}
 use Rattle.mt_family.specs.declared.list.FontLine.{FontLine}
 use Rattle.mt_family.specs.declared.size.Size.{Size}
 use Rattle.mt_family.specs.declared.size.Size.TheVariants.{Text, Script, Scriptscript}
 use Rattle.mt_family.specs.Limits.{max_fonts}
-use Rattle.mt_family.specs.Lines.{line_of}
+use Rattle.mt_family.specs.Lines.{line_of, version_of}
 use Rattle.mt_family.specs.ListFacts.{ListValue}
-use Rattle.mt_family.specs.Lists.{font_list, has_family, has_font, is_known, lines_of, nothing, with_family, with_font, with_form, with_line, with_lines}
+use Rattle.mt_family.specs.Lists.{SoFar, font_list, has_family, has_font, is_known, lines_of, listing, nothing, with_family, with_font, with_form, with_line, with_lines, with_version}
 use Rattle.mt_family.specs.SetValue.{SetValue, font_of}
-use Rattle.mt_family.specs.Sets.{family_fault, font_fault, set_fault, size_fault}
+use Rattle.mt_family.specs.Sets.{families_fault, family_fault, font_fault, same_fault, set_fault, size_fault}
 use Rattle.mt_status.specs.FontRefusals.{font_by, font_refusal, font_set_by, font_set_refusal, list_by, list_refusal}
 use Rattle.mt_status.specs.declared.status.Status.TheVariants.{OutOfMemory}
 use Rattle.mt_status.proofs.Avoiding.{Avoids, Lacks, avoids_err, avoids_if, avoids_then, lacks_if, lacks_map, lacks_or}
@@ -47,20 +50,26 @@ family_line_avoids n list f =
     avoids_if NoListMemory (has_family list.families f.fam) _ _ (λ same. cc)
     (avoids_if NoListMemory (is_known (length list.lines) f.text && is_known (length list.lines) f.script && is_known (length list.lines) f.scriptscript) _ _ (λ same. cc) (λ same. cc))
 
-form_avoids : (n : ℕ) (list : ListValue) (form : Option ListLine) → Avoids NoListMemory (with_form n list form)
-form_avoids n list None = λ same. cc
-form_avoids n list (Some Nothing) = λ same. cc
-form_avoids n list (Some (Font f)) = font_line_avoids n list f
-form_avoids n list (Some (Family f)) = family_line_avoids n list f
+form_avoids : (n : ℕ) (so_far : SoFar) (form : Option ListLine) → Avoids NoListMemory (with_form n so_far form)
+form_avoids n so_far None = λ same. cc
+form_avoids n so_far (Some Nothing) = λ same. cc
+form_avoids n so_far (Some (Font f)) = avoids_then NoListMemory (with_font n so_far.list f) (λ list. Ok (listing so_far list)) (font_line_avoids n so_far.list f) (λ list is same. cc)
+form_avoids n so_far (Some (Family f)) =
+    avoids_then NoListMemory (with_family n so_far.list f) (λ list. Ok (listing so_far list)) (family_line_avoids n so_far.list f) (λ list is same. cc)
+form_avoids n so_far (Some (Skew skew)) = λ same. cc
 
-line_avoids : (n : ℕ) (list : ListValue) (line : List ℕ) → Avoids NoListMemory (with_line n list line)
-line_avoids n list line =
-    avoids_if NoListMemory (n == 1) _ _ (avoids_if NoListMemory (bytes_eq line (codes "mathset fonts 1")) _ _ (λ same. cc) (λ same. cc)) (form_avoids n list (line_of line))
+version_avoids : (so_far : SoFar) (version : Option Version) → Avoids NoListMemory (with_version so_far version)
+version_avoids so_far None = λ same. cc
+version_avoids so_far (Some version) = λ same. cc
 
-lines_avoid : (n : ℕ) (list : ListValue) (lines : List (List ℕ)) → Avoids NoListMemory (with_lines n list lines)
-lines_avoid n list [] = λ same. cc
-lines_avoid n list (line ∷ lines) =
-    avoids_then NoListMemory (with_line n list line) (λ next. with_lines (n + 1) next lines) (line_avoids n list line) (λ next same. lines_avoid (n + 1) next lines)
+line_avoids : (n : ℕ) (so_far : SoFar) (line : List ℕ) → Avoids NoListMemory (with_line n so_far line)
+line_avoids n so_far line =
+    avoids_if NoListMemory (n == 1) _ _ (version_avoids so_far (version_of line)) (form_avoids n so_far (line_of so_far.version so_far.skew line))
+
+lines_avoid : (n : ℕ) (so_far : SoFar) (lines : List (List ℕ)) → Avoids NoListMemory (with_lines n so_far lines)
+lines_avoid n so_far [] = λ same. cc
+lines_avoid n so_far (line ∷ lines) =
+    avoids_then NoListMemory (with_line n so_far line) (λ next. with_lines (n + 1) next lines) (line_avoids n so_far line) (λ next same. lines_avoid (n + 1) next lines)
 
 list_error_avoids : (e : ListError) → (e ≡ NoListMemory → ⊥) → list_refusal e ≡ OutOfMemory → ⊥
 list_error_avoids (BadLine line) other same = cc
@@ -125,11 +134,16 @@ table_lacks c words =
     (lacks_or NoFontMemory (zeros_fault c words) (use_fault c (chars_of c words) (program_of c words) (recipes_of c words)) (zeros_lack c words)
     (use_lacks c (chars_of c words) (program_of c words) (recipes_of c words))))
 
-tfm_lacks : (bytes : List ℕ) → Lacks NoFontMemory (tfm_fault bytes)
+size_lacks : (wanted : Wanted) (design : ℕ) → Lacks NoFontMemory (wanted_fault wanted design)
+size_lacks (At at) design = λ same. cc
+size_lacks (Scaled factor) design = unless_lacks (nat_le 1 (scaled_size factor design) && nat_lt (scaled_size factor design) (2 ^ 27)) _ (λ same. cc)
+
+tfm_lacks : (bytes : List ℕ) (wanted : Wanted) → Lacks NoFontMemory (tfm_fault bytes wanted)
 unfolding tfm_fault
-tfm_lacks bytes =
+tfm_lacks bytes wanted =
     let words = words_of bytes in
-    lacks_or NoFontMemory (head_fault (counts_of words) bytes words) (table_fault (counts_of words) words) (head_lacks (counts_of words) bytes words) (table_lacks (counts_of words) words)
+    lacks_or NoFontMemory (head_fault (counts_of words) bytes words) _ (head_lacks (counts_of words) bytes words)
+    (lacks_or NoFontMemory (wanted_fault wanted (design_of words)) (table_fault (counts_of words) words) (size_lacks wanted (design_of words)) (table_lacks (counts_of words) words))
 
 font_error_avoids : (n : ℕ) (fault : TfmError) → (fault ≡ NoFontMemory → ⊥) → font_refusal n fault ≡ OutOfMemory → ⊥
 font_error_avoids n Truncated other same = cc
@@ -141,14 +155,15 @@ font_error_avoids n (BadFix table entry) other same = cc
 font_error_avoids n (BadZero table) other same = cc
 font_error_avoids n (BadProgram word) other same = cc
 font_error_avoids n (BadRecipe recipe) other same = cc
+font_error_avoids n (BadSize size) other same = cc
 font_error_avoids n NoFontMemory other same = other refl
 
 font_by_avoids : (n : ℕ) (fault : Option TfmError) (metrics : Metrics) → Lacks NoFontMemory fault → Avoids OutOfMemory (font_by n fault metrics)
 font_by_avoids n None metrics lacks = λ same. cc
 font_by_avoids n (Some fault) metrics lacks = avoids_err OutOfMemory (font_refusal n fault) (font_error_avoids n fault (λ same. lacks (ap Some same)))
 
-pub font_avoids : (n : ℕ) (bytes : List ℕ) (metrics : Metrics) → Avoids OutOfMemory (font_by n (tfm_fault bytes) metrics)
-font_avoids n bytes metrics = font_by_avoids n (tfm_fault bytes) metrics (tfm_lacks bytes)
+pub font_avoids : (n : ℕ) (bytes : List ℕ) (wanted : Wanted) (metrics : Metrics) → Avoids OutOfMemory (font_by n (tfm_fault bytes wanted) metrics)
+font_avoids n bytes wanted metrics = font_by_avoids n (tfm_fault bytes wanted) metrics (tfm_lacks bytes wanted)
 
 -- ---- the set
 
@@ -162,17 +177,20 @@ family_lacks families fonts fam least =
     (lacks_or NoSetMemory (size_fault families fonts fam Script least) (size_fault families fonts fam Scriptscript least) (family_font_lacks fam Script least (font_of families fonts fam Script))
     (family_font_lacks fam Scriptscript least (font_of families fonts fam Scriptscript)))
 
-set_lacks : (families : List FamilyLine) (fonts : List Metrics) → Lacks NoSetMemory (set_fault families fonts)
-set_lacks families fonts = lacks_or NoSetMemory (family_fault families fonts 2 22) (family_fault families fonts 3 13) (family_lacks families fonts 2 22) (family_lacks families fonts 3 13)
+set_lacks : (list : ListValue) (fonts : List Metrics) → Lacks NoSetMemory (set_fault list fonts)
+set_lacks list fonts =
+    lacks_or NoSetMemory (same_fault list.lines fonts) (families_fault list.families fonts) (lacks_map NoSetMemory (λ n. SameFont n) _ (λ n same. cc))
+    (lacks_or NoSetMemory (family_fault list.families fonts 2 22) (family_fault list.families fonts 3 13) (family_lacks list.families fonts 2 22) (family_lacks list.families fonts 3 13))
 
 set_error_avoids : (e : SetError) → (e ≡ NoSetMemory → ⊥) → font_set_refusal e ≡ OutOfMemory → ⊥
 set_error_avoids (NoMathFamily fam size) other same = cc
 set_error_avoids (FewParameters fam size) other same = cc
+set_error_avoids (SameFont font) other same = cc
 set_error_avoids NoSetMemory other same = other refl
 
 set_by_avoids : (fault : Option SetError) (set : SetValue) → Lacks NoSetMemory fault → Avoids OutOfMemory (font_set_by fault set)
 set_by_avoids None set lacks = λ same. cc
 set_by_avoids (Some e) set lacks = avoids_err OutOfMemory (font_set_refusal e) (set_error_avoids e (λ same. lacks (ap Some same)))
 
-pub set_avoids : (families : List FamilyLine) (fonts : List Metrics) (set : SetValue) → Avoids OutOfMemory (font_set_by (set_fault families fonts) set)
-set_avoids families fonts set = set_by_avoids (set_fault families fonts) set (set_lacks families fonts)
+pub set_avoids : (list : ListValue) (fonts : List Metrics) (set : SetValue) → Avoids OutOfMemory (font_set_by (set_fault list fonts) set)
+set_avoids list fonts set = set_by_avoids (set_fault list fonts) set (set_lacks list fonts)

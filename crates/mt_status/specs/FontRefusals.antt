@@ -6,7 +6,7 @@ use Rattle.mt_tfm.specs.declared.error.TfmError.{TfmError}
 use Rattle.mt_tfm.specs.declared.error.TfmError.TheVariants.{OutOfMemory as NoFontMemory}
 use Rattle.mt_family.specs.declared.error.ListError.{ListError}
 use Rattle.mt_family.specs.declared.error.SetError.{SetError}
-use Rattle.mt_family.specs.declared.error.SetError.TheVariants.{NoMathFamily, FewParameters, OutOfMemory as NoSetMemory}
+use Rattle.mt_family.specs.declared.error.SetError.TheVariants.{NoMathFamily, FewParameters, SameFont, OutOfMemory as NoSetMemory}
 use Rattle.mt_family.specs.Errors.{list_error_number, list_error_place, set_error_number}
 use Rattle.mt_family.specs.ListFacts.{ListValue}
 use Rattle.mt_family.specs.SetValue.{SetValue}
@@ -35,10 +35,15 @@ abbrev pub font_by : ℕ → Option TfmError → Metrics → Result Metrics Stat
 font_by n None metrics = Ok metrics
 font_by n (Some fault) metrics = Err (font_refusal n fault)
 
--- a set that is refused: the family, the size, and the number of the cause
+-- the cause of a font with the name and the size of an earlier one: one more than the causes of a TFM file
+abbrev pub same_font : ℕ
+same_font = 12
+
+-- a set that is refused: the font, or the family and the size, and the number of the cause
 abbrev pub font_set_refusal : SetError → Status
 font_set_refusal (NoMathFamily fam size) = BadFamily fam size (set_error_number (NoMathFamily fam size))
 font_set_refusal (FewParameters fam size) = BadFamily fam size (set_error_number (FewParameters fam size))
+font_set_refusal (SameFont font) = BadTfm font same_font
 font_set_refusal NoSetMemory = OutOfMemory
 
 abbrev pub font_set_by : Option SetError → SetValue → Result SetValue Status

@@ -4,6 +4,7 @@ ghost use Rattle.std.specs.Prelude.{◌≡◌, true};
 ghost use Rattle.mt_status.specs.Explanation.{IsLine, are_lines};
 
 use crate::status::MISSING_ARGUMENT;
+use mt_token::FIRST_OUTSIDE_CAUSE;
 
 /// Why a line of the font list is refused, in the order of `ListError` of mt_family.
 const LIST_CAUSES: [&str; 4] = [
@@ -24,6 +25,15 @@ const FONT_CAUSES: [&str; 9] = [
     "the first entry of a table of dimensions is not 0",
     "a step of the ligatures and kerns leads past a table, or to no character",
     "a recipe has a piece that is no character",
+];
+
+/// The number of the first cause of `SIZE_CAUSES`: before it stands want of memory, a status of its own.
+const FIRST_SIZE: u8 = 11;
+
+/// Why a font's size is refused: `BadSize` of mt_tfm, `SameFont` of mt_family.
+const SIZE_CAUSES: [&str; 2] = [
+    "so many thousandths of its design size are 2048pt or more",
+    "an earlier font has the same name and comes to the same size",
 ];
 
 /// Why a family at a size is refused, in the order of `SetError` of mt_family.
@@ -54,9 +64,6 @@ const READ_CAUSES: [&str; 10] = [
 
 /// Why a macro of a formula is refused (`MISSING_ARGUMENT`).
 const NO_ARGUMENT: &str = "a macro without one of its arguments";
-
-/// The number of the first cause of `OutsideCause` of mt_reader.
-const FIRST_OUTSIDE: u8 = 31;
 
 /// Why a token outside of formulas is refused, in the order of `OutsideCause` of mt_reader.
 const OUTSIDE_CAUSES: [&str; 6] = [
@@ -105,11 +112,15 @@ pub fn list_cause(cause: u8) -> &'static str
     text_of(&LIST_CAUSES, 1, cause)
 }
 
-/// Of a TFM file.
+/// Of a TFM file, or of a font's size.
 pub fn font_cause(cause: u8) -> &'static str
     ensures { IsLine result.now }
 {
-    text_of(&FONT_CAUSES, 1, cause)
+    if cause < FIRST_SIZE {
+        text_of(&FONT_CAUSES, 1, cause)
+    } else {
+        text_of(&SIZE_CAUSES, FIRST_SIZE, cause)
+    }
 }
 
 /// Of a family at a size.
@@ -132,10 +143,10 @@ pub fn token_cause(cause: u8) -> &'static str
 {
     if cause == MISSING_ARGUMENT {
         NO_ARGUMENT
-    } else if cause < FIRST_OUTSIDE {
+    } else if cause < FIRST_OUTSIDE_CAUSE {
         text_of(&READ_CAUSES, 1, cause)
     } else {
-        text_of(&OUTSIDE_CAUSES, FIRST_OUTSIDE, cause)
+        text_of(&OUTSIDE_CAUSES, FIRST_OUTSIDE_CAUSE, cause)
     }
 }
 

@@ -6,6 +6,10 @@ use crate::status::Status;
 use mt_family::{ListError, SetError};
 use mt_tfm::TfmError;
 
+/// The cause of a font with the name and the size of an earlier one: one more than the causes of a
+/// [`TfmError`].
+const SAME_FONT: u8 = 12;
+
 impl From<ListError> for Status {
     ghost from_gives = { λ error status. status ≡ list_refusal error };
 
@@ -35,7 +39,8 @@ pub fn font_refusal(font: u32, error: TfmError) -> Status
         | TfmError::BadFix { .. }
         | TfmError::BadZero(_)
         | TfmError::BadProgram(_)
-        | TfmError::BadRecipe(_) => Status::BadTfm { font, cause },
+        | TfmError::BadRecipe(_)
+        | TfmError::BadSize(_) => Status::BadTfm { font, cause },
     }
 }
 
@@ -48,6 +53,10 @@ impl From<SetError> for Status {
             SetError::NoMathFamily { fam, size } | SetError::FewParameters { fam, size } => {
                 Status::BadFamily { fam, size, cause }
             }
+            SetError::SameFont(font) => Status::BadTfm {
+                font: u32::from(font),
+                cause: SAME_FONT,
+            },
             SetError::OutOfMemory => Status::OutOfMemory,
         }
     }

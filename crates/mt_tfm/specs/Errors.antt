@@ -1,7 +1,7 @@
 -- The numbers of errors.
 use Rattle.std.specs.Prelude.{ℕ}
 use Rattle.mt_tfm.specs.declared.error.TfmError.{TfmError}
-use Rattle.mt_tfm.specs.declared.error.TfmError.TheVariants.{Truncated, BadCounts, BadHeader, BadIndex, ChainCycle, BadFix, BadZero, BadProgram, BadRecipe, OutOfMemory}
+use Rattle.mt_tfm.specs.declared.error.TfmError.TheVariants.{Truncated, BadCounts, BadHeader, BadIndex, ChainCycle, BadFix, BadZero, BadProgram, BadRecipe, OutOfMemory, BadSize}
 
 -- the number of an error, in the order of the variants
 abbrev pub tfm_error_number : TfmError → ℕ
@@ -15,3 +15,4 @@ tfm_error_number (BadZero table) = 7
 tfm_error_number (BadProgram word) = 8
 tfm_error_number (BadRecipe recipe) = 9
 tfm_error_number OutOfMemory = 10
+tfm_error_number (BadSize size) = 11

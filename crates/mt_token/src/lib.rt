@@ -4,11 +4,13 @@
 //! TeX's category codes. What this crate refuses is listed in docs/RULES.md.
 #![tactic(auto)]
 
+mod cause;
 mod character;
 mod lexeme;
 mod lexer;
 mod token;
 
+pub use cause::FIRST_OUTSIDE_CAUSE;
 pub use character::{character_code, is_space};
 pub use lexer::{MAX_SOURCE, tokens};
 pub use token::{Token, TokenError, TokenKind, TokenList};

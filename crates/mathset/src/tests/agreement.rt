@@ -1,5 +1,6 @@
-//! The same pages by three commands: `places` writes what `read` finds in the file that `set` writes.
-use crate::tests::memory::{PLACES, READ, SET, end_of};
+//! The same pages by three commands: `places` writes what `read` finds in the file that `set` writes. The same pages
+//! also where the list says the fonts by thousandths of their design size.
+use crate::tests::memory::{PLACES, READ, SCALED, SET, end_of};
 
 // The last one has characters of most of the fonts, rules, and moves in each direction.
 const SOURCES: &[&str] = &[
@@ -25,5 +26,16 @@ fn reads_what_it_writes(rt: HostRuntime) {
         let places = end_of(&rt, alloc, PLACES, None, source.as_bytes(), 0);
         assert!(&rt; read.status == 0, "{source}");
         assert!(&rt; read.out.as_slice() == places.out.as_slice(), "{source}");
+    }
+}
+
+#[test]
+fn sets_alike_with_scaled_fonts(rt: HostRuntime) {
+    let alloc = rt.alloc();
+    for source in sources() {
+        let plain = end_of(&rt, alloc, SET, None, source.as_bytes(), 0);
+        let scaled = end_of(&rt, alloc, SET, Some(SCALED), source.as_bytes(), 0);
+        assert!(&rt; scaled.status == 0, "{source}");
+        assert!(&rt; scaled.out.as_slice() == plain.out.as_slice(), "{source}");
     }
 }

@@ -1,16 +1,14 @@
 //! Calls that fail, sinks that take a part, and sources at the limits.
 use crate::run::run;
 use crate::tests::memory::{SET, answer, call, end_of, files, repeated, sink, words_of};
+use crate::tests::runs::NO_PAGES;
 use mt_outside::{MemorySink, SteadyCabinet};
 use mt_token::MAX_SOURCE;
-
-/// The length of the file without pages.
-const NO_PAGES: usize = 56;
 
 /// Which call of the sink fails, or none; the number of the status, the line in the log, and how many bytes the sink took.
 const PIECES: &[(u64, u8, &[u8], usize)] = &[
     (4, 22, b"mathset: cannot write after 30 bytes\n", 30),
-    (0, 0, b"", NO_PAGES),
+    (0, 0, b"", 56),
 ];
 
 fn pieces() -> &'static [(u64, u8, &'static [u8], usize)] {
@@ -23,11 +21,11 @@ fn writes_ten_bytes_at_a_call(rt: HostRuntime) {
     for (fail, status, line, length) in pieces() {
         let mut cabinet = SteadyCabinet::new(files(&rt, alloc, None, b""));
         let fail = call(&rt, alloc, *fail);
-        let mut out = MemorySink::taking(alloc, NO_PAGES, 10, fail).expect(&rt, "memory");
+        let mut out = MemorySink::taking(alloc, 56, 10, fail).expect(&rt, "memory");
         let (ended, log) = answer(&rt, alloc, SET, &mut cabinet, &mut out);
         assert!(&rt; ended == *status);
         assert!(&rt; log.as_slice() == *line);
-        assert!(&rt; out.bytes().len() == *length);
+        assert!(&rt; NO_PAGES.get(..*length) == Some(out.bytes()));
     }
 }
 
@@ -88,7 +86,7 @@ fn sets_blanks(rt: HostRuntime) {
     let source = vec![in alloc; b' '; MAX_SOURCE].expect(&rt, "memory");
     let end = end_of(&rt, alloc, SET, None, &source, 0);
     assert!(rt; end.status == 0);
-    assert!(rt; end.out.len() == NO_PAGES);
+    assert!(rt; end.out.as_slice() == NO_PAGES);
 }
 
 #[test]

@@ -27,6 +27,32 @@ pub const LARGE: &[u8] =
     b"mathset fonts 1\nfont toyr 655360 -\nfont toym 134217727 127\nfont toys 655360 -\n\
       font toyx 655360 -\nfamily 0 0 0 0\nfamily 1 1 1 1\nfamily 2 2 2 2\nfamily 3 3 3 3\n";
 
+/// A list of version 2 that says the toy fonts by thousandths of their design size.
+pub const SCALED: &[u8] = b"mathset fonts 2
+font toyr scaled 1000
+font toyr scaled 700
+font toyr scaled 500
+skew 127
+font toym scaled 1000
+font toym scaled 700
+font toym scaled 500
+skew -
+font toys scaled 1000
+font toys scaled 700
+font toys scaled 500
+font toyx scaled 1000
+family 0 0 1 2
+family 1 3 4 5
+family 2 6 7 8
+family 3 9 9 9
+";
+
+/// A font of one character with a design size of 2000pt.
+const HUGE: [u8; 60] = [
+    0, 15, 0, 2, 0, 97, 0, 97, 0, 2, 0, 2, 0, 1, 0, 1, 0, 0, 0, 0, 0, 0, 0, 0, 0, 0, 0, 0, 0x7D, 0,
+    0, 0, 1, 16, 0, 0, 0, 0, 0, 0, 0, 8, 0, 0, 0, 0, 0, 0, 0, 8, 0, 0, 0, 0, 0, 0, 0, 0, 0, 0,
+];
+
 fn copy(rt: &impl Abort, alloc: Global, bytes: &[u8]) -> Vec<u8> {
     bytes.to_vec(alloc).expect(rt, "memory")
 }
@@ -81,7 +107,7 @@ pub fn repeated(
 }
 
 /// A list of fonts, or that of the toy fonts, under the name `toy.fonts`; the toy fonts; `cut.tfm`,
-/// which is none; and a source, or a DVI file, under the name `formula.tex`.
+/// which is none; `huge.tfm`, whose design size is 2000pt; and a source, or a DVI file, under the name `formula.tex`.
 pub fn files(rt: &impl Abort, alloc: Global, list: Option<&[u8]>, source: &[u8]) -> FileList {
     let mut files = Vec::new(alloc);
     add(rt, &mut files, font_list(rt, alloc, list));
@@ -90,6 +116,7 @@ pub fn files(rt: &impl Abort, alloc: Global, list: Option<&[u8]>, source: &[u8])
     add(rt, &mut files, toy(rt, alloc, b"toys.tfm", Toy::Symbols));
     add(rt, &mut files, toy(rt, alloc, b"toyx.tfm", Toy::Extension));
     add(rt, &mut files, text(rt, alloc, b"cut.tfm", b"\0\x0f"));
+    add(rt, &mut files, text(rt, alloc, b"huge.tfm", &HUGE));
     add(rt, &mut files, text(rt, alloc, b"formula.tex", source));
     FileList::from_vec(files)
 }

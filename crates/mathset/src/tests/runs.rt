@@ -213,6 +213,81 @@ const REFUSALS: &[Case] = &[
         31,
         b"font 1 cause 1\n",
     ),
+    // Lines of version 2 are none of version 1.
+    (
+        Some(b"mathset fonts 1\nfont toyr 655360 -\nfont toyr scaled 1000 -\n"),
+        b"$ab$",
+        0,
+        30,
+        b"font list line 3 cause 1\n",
+    ),
+    (
+        Some(b"mathset fonts 1\nskew -\n"),
+        b"$ab$",
+        0,
+        30,
+        b"font list line 2 cause 1\n",
+    ),
+    (
+        Some(b"mathset fonts 2\nfont toyr scaled 0\n"),
+        b"$ab$",
+        0,
+        30,
+        b"font list line 2 cause 1\n",
+    ),
+    (
+        Some(b"mathset fonts 2\nfont toyr scaled 32769 -\n"),
+        b"$ab$",
+        0,
+        30,
+        b"font list line 2 cause 1\n",
+    ),
+    (
+        Some(b"mathset fonts 2\nfont toyr scaled 9\nfont toyr scaled 09 5\n"),
+        b"$ab$",
+        0,
+        30,
+        b"font list line 3 cause 2\n",
+    ),
+    (
+        Some(b"mathset fonts 2\nfont huge scaled 32768\n"),
+        b"$ab$",
+        0,
+        31,
+        b"font 0 cause 11\n",
+    ),
+    // A font is read before a later one is, and its size is tested before its characters are.
+    (
+        Some(b"mathset fonts 2\nfont toyr 9\nfont huge scaled 2000\nfont cut 9\n"),
+        b"$ab$",
+        0,
+        31,
+        b"font 1 cause 11\n",
+    ),
+    // Fonts of one name and one size: after all files, before the families.
+    (
+        Some(b"mathset fonts 2\nfont toyr scaled 1000\nfont toyr 655360 -\n"),
+        b"$ab$",
+        0,
+        31,
+        b"font 1 cause 12\n",
+    ),
+    (
+        Some(
+            b"mathset fonts 2\nfont toyr 655360\nfont toym 9\nfont toyr scaled 1000 4\nfont cut 9\n",
+        ),
+        b"$ab$",
+        0,
+        31,
+        b"font 3 cause 1\n",
+    ),
+    (
+        Some(b"mathset fonts 2\nfont toyr 655360\nfont toym 9\nfont toyr scaled 1000 4\n"),
+        b"$ab$",
+        0,
+        31,
+        b"font 2 cause 12\n",
+    ),
     (
         Some(b"mathset fonts 1\nfont toys 655360 -\nfamily 2 0 0 0\n"),
         b"$ab$",
@@ -352,7 +427,7 @@ fn refuses(rt: HostRuntime) {
 }
 
 /// The file without pages.
-const NO_PAGES: &[u8] =
+pub(crate) const NO_PAGES: &[u8] =
     b"\xf7\x02\x01\x83\x92\xc0\x1c\x3b\0\0\0\0\x03\xe8\0\xf8\xff\xff\xff\xff\x01\x83\x92\
       \xc0\x1c\x3b\0\0\0\0\x03\xe8\0\0\0\0\0\0\0\0\0\0\0\0\xf9\0\0\0\x0f\x02\xdf\xdf\xdf\
       \xdf\xdf\xdf";

@@ -45,6 +45,7 @@ pub(crate) fn packed(alloc: Global, row: Row) -> Result<Packed, SetFault>
 }
 
 // A row as a clean box: where it is a box alone, that box.
+#[inline(never)]
 pub(crate) fn cleaned(alloc: Global, row: Row) -> Result<Packed, SetFault>
     requires few { length row ≤ 2 ^ 21 }
     requires fits { RowFits 4000 row }

@@ -31,6 +31,7 @@ use mt_rules::{Delim, Field, PackedList, Style, Symbol};
 use mt_scaled::Length;
 use std::alloc::Global;
 
+#[inline(never)]
 pub(crate) fn radical(
     alloc: Global,
     fonts: &FontSet,
@@ -45,6 +46,7 @@ pub(crate) fn radical(
     Ok(radical_box(alloc, fonts, style, sign, body)?)
 }
 
+#[inline(never)]
 pub(crate) fn overline(
     alloc: Global,
     fonts: &FontSet,
@@ -58,6 +60,7 @@ pub(crate) fn overline(
     Ok(overline_box(alloc, fonts, size, body)?)
 }
 
+#[inline(never)]
 pub(crate) fn underline(
     alloc: Global,
     fonts: &FontSet,
@@ -71,6 +74,7 @@ pub(crate) fn underline(
     Ok(underline_box(alloc, fonts, size, body)?)
 }
 
+#[inline(never)]
 pub(crate) fn vcenter(
     alloc: Global,
     fonts: &FontSet,
@@ -86,6 +90,7 @@ pub(crate) fn vcenter(
 }
 
 // The accent over a body. The accent's symbol was found in the font of this number.
+#[inline(never)]
 pub(crate) fn accent(
     alloc: Global,
     fonts: &FontSet,
@@ -131,6 +136,7 @@ pub(crate) fn field_skew(fonts: &FontSet, size: Size, field: &Field) -> Length
 }
 
 // The row of a fraction. Without a thickness of its own its rule has that of the font.
+#[inline(never)]
 pub(crate) fn fraction(
     alloc: Global,
     fonts: &FontSet,

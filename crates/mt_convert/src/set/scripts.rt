@@ -27,6 +27,7 @@ use mt_scripts::{attach_scripts, limits_box};
 use std::alloc::Global;
 
 // The row of a nucleus with its scripts beside it.
+#[inline(never)]
 pub(crate) fn with_scripts(
     alloc: Global,
     fonts: &FontSet,
@@ -85,6 +86,7 @@ fn attached(
 }
 
 // The row of an operator with its scripts above and below it.
+#[inline(never)]
 pub(crate) fn with_limits(
     alloc: Global,
     fonts: &FontSet,

@@ -7,13 +7,13 @@ use Rattle.mt_token.specs.Character.{character_code}
 use Rattle.mt_macro.specs.Parameters.{is_hash}
 use Rattle.mt_macro.specs.Arguments.{fill}
 
-abbrev pub is_empty : List Token → Bool
-is_empty [] = true
-is_empty (t ∷ ts) = false
+abbrev pub has_no_token : List Token → Bool
+has_no_token [] = true
+has_no_token (t ∷ ts) = false
 
 -- a # before another token
 abbrev pub begins_parameter : Token → List Token → Bool
-begins_parameter t rest = is_hash t && not (is_empty rest)
+begins_parameter t rest = is_hash t && not (has_no_token rest)
 
 -- the index of the first such #
 abbrev pub next_parameter : List Token → Option ℕ

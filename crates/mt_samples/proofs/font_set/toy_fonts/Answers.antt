@@ -14,5 +14,5 @@ pub unreachable-requires : goal.unreachable-requires
 unreachable-requires c =
     let lines : c.list.inside.lines ≡ toy_set.lines = search rules in
     let fonts : c.in_ok-fonts.fonts ≡ toy_set.fonts = c.in_ok-fonts.ensures ∙ ap (map toy_font) (c.as_slice.ensures ∙ lines) in
-    let passes : set_fault c.in_ok-list.list.families c.in_ok-fonts.fonts ≡ None = rw (fonts, c.in_ok-list.ensures) toy_set_passes in
+    let passes : set_fault c.in_ok-list.list c.in_ok-fonts.fonts ≡ None = rw (fonts, c.in_ok-list.ensures) toy_set_passes in
     search (rules, passes)
