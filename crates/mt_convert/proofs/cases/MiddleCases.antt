@@ -3,7 +3,7 @@ use Rattle.std.proofs.Common.{◌≡◌, refl, Ok, Err, Some, None, pos, List, [
 use Rattle.mt_family.specs.declared.size.Size.TheVariants.{Text}
 use Rattle.mt_box.specs.declared.place.Place.TheVariants.{Glyph, Rule}
 use Rattle.mt_rules.specs.declared.style.Style.TheVariants.{D, Dc, T, S, Ss}
-use Rattle.mt_rules.specs.declared.class.Class.TheVariants.{Ord, Op, Bin, Rel, Punct, Inner}
+use Rattle.mt_rules.specs.declared.class.Class.TheVariants.{Ord, Op, Bin, Punct, Inner}
 use Rattle.mt_rules.specs.declared.kind.Kind.TheVariants.{Plain}
 use Rattle.mt_rules.specs.declared.symbol.Glue.{Glue}
 use Rattle.mt_rules.specs.Sequence.{Element, End, FractionElement, LeftElement, MiddleElement, RightElement, StyleElement, ChoiceElement, MuSpaceElement, KernElement, NonscriptElement, EmptyPart, ListPart}
