@@ -381,9 +381,9 @@ fn sets_null_delimiters(rt: HostRuntime) -> Result<(), Fail> {
     Ok(())
 }
 
-// A missing family after the middle is found before the boundary that is too tall would be made.
+// What stands after a middle is set too, and its fault is told.
 #[test]
-fn sets_all_items_before_middles(rt: HostRuntime) -> Result<(), Fail> {
+fn refuses_a_missing_family_after_a_middle(rt: HostRuntime) -> Result<(), Fail> {
     let alloc = rt.alloc();
     let fonts = toy_fonts(alloc)?;
     let inside = [

@@ -171,10 +171,15 @@ row_too_wide : from_top (list_row toy T (list (enclosed (left ∷ KernElement (p
 unfolding evaluated
 row_too_wide = refl
 
--- the middle before the right one
-middle_before_the_right_one : from_top (list_row toy T (list (enclosed (LeftElement no_delim ∷ group (FractionElement (Some (pos 262144000)) no_delim no_delim (list (letter 97 ∷ [])) (list (letter 98 ∷ [])) ∷ []) ∷ brace ∷ right ∷ []) ∷ []))) ≡ Err (TooTall 4797)
+-- a middle that is too tall
+middle_too_tall : from_top (list_row toy T (list (enclosed (LeftElement no_delim ∷ group (FractionElement (Some (pos 262144000)) no_delim no_delim (list (letter 97 ∷ [])) (list (letter 98 ∷ [])) ∷ []) ∷ brace ∷ RightElement no_delim ∷ []) ∷ []))) ≡ Err (TooTall 4797)
 unfolding evaluated
-middle_before_the_right_one = refl
+middle_too_tall = refl
+
+-- a middle before the whole row
+middle_before_the_row : from_top (list_row toy T (list (enclosed (LeftElement no_delim ∷ group (FractionElement (Some (pos 262144000)) no_delim no_delim (list (letter 97 ∷ [])) (list (letter 98 ∷ [])) ∷ []) ∷ KernElement (pos 1073676288) ∷ KernElement (pos 1073676288) ∷ brace ∷ RightElement no_delim ∷ []) ∷ []))) ≡ Err (TooTall 4797)
+unfolding evaluated
+middle_before_the_row = refl
 
 -- a fault of an item before the boundaries
 items_before_all : from_top (list_row toy T (list (enclosed (left ∷ letter 97 ∷ slash ∷ plain Ord 9 98 ∷ right ∷ []) ∷ []))) ≡ Err (MissingFamily 9 Text)
@@ -186,7 +191,7 @@ items_before_the_left_one : from_top (list_row toy T (list (enclosed (LeftElemen
 unfolding evaluated
 items_before_the_left_one = refl
 
--- a, and a middle: the space is one in the style directly before the middle
+-- a comma, and a middle: the space is one in the style directly before the middle
 space_in_the_style_there : from_top (list_row toy T (list (enclosed (left ∷ letter 97 ∷ plain Punct 1 59 ∷ StyleElement S ∷ slash ∷ letter 98 ∷ right ∷ []) ∷ []))) ≡ Ok (Glyph 0 40 (pos 0) (pos 327680) ∷ Glyph 3 97 (pos 327680) (pos 327680) ∷ Glyph 3 59 (pos 655360) (pos 327680) ∷ Glyph 0 47 (pos 983040) (pos 327680) ∷ Glyph 3 98 (pos 1310720) (pos 327680) ∷ Glyph 0 41 (pos 1638400) (pos 327680) ∷ [])
 unfolding evaluated
 space_in_the_style_there = refl
