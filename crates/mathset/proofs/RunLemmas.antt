@@ -85,17 +85,6 @@ ok_run holds reads last written writes steps cabinet cabinet' out out' product (
   quiet = λ no. absurd no;
   kept = step.kept;
 }
-ok_run holds reads last written writes steps cabinet cabinet' out out' product OutOfMemory step end = record {
-  refused = λ files told no. absurd no;
-  done = λ is. absurd (cc);
-  cut = λ count is. absurd (cc);
-  lost = λ name is. absurd (cc);
-  asked = λ name files is told. absurd (cc);
-  reads_counted = λ grew. tt;
-  writes_counted = λ grew. absurd (not_below (writes out) (writes out') (ap writes end) grew);
-  quiet = λ quiet. end;
-  kept = step.kept;
-}
 ok_run holds reads last written writes steps cabinet cabinet' out out' product status step end = absurd end
 
 -- the refusal is the status

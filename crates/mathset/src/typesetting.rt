@@ -2,7 +2,7 @@
 ghost use Rattle.std.specs.Prelude.{◌≤◌, length};
 ghost use Rattle.mt_pages.specs.LineWidth.{IsLineWidth};
 ghost use Rattle.mt_pages.specs.Typeset.{typeset_of};
-ghost use Rattle.mathset.specs.inner.Forms.{IsPutOut, IsSetAs};
+ghost use Rattle.mathset.specs.inner.Forms.{IsPutOut, IsTypesetStep};
 ghost use Rattle.mathset.specs.Steps.{source_step, typeset_steps};
 
 use crate::fetch::fetch_file;
@@ -16,7 +16,7 @@ use mt_token::MAX_SOURCE;
 use mt_words::Source;
 use std::alloc::Global;
 
-/// In which form the pages of a source are put out.
+/// What is made of the pages of a source.
 #[derive(Clone, Copy)]
 pub enum Form {
     /// A DVI file.
@@ -27,7 +27,8 @@ pub enum Form {
     Summary(u32),
 }
 
-fn put_out(
+// A source that is set in these fonts, in one of its forms.
+fn source_in_form(
     alloc: Global,
     form: Form,
     fonts: &FontSet,
@@ -51,14 +52,14 @@ fn set_source<C: Cabinet>(
     fonts: &FontSet,
     cabinet: &mut C,
 ) -> Result<Bytes, Status>
-    ensures is { IsSetAs C.holds C.faults C.lost cabinet.old cabinet.new
+    ensures is { IsTypesetStep C.holds C.faults C.lost cabinet.old cabinet.new
         (source_step words.now.source words.now.line fonts.now) form result }
 {
     let source = fetch_file(alloc, cabinet, words.source, MAX_SOURCE as u64)?;
-    put_out(alloc, form, fonts, words.line, source.as_slice())
+    source_in_form(alloc, form, fonts, words.line, source.as_slice())
 }
 
-/// Reads the font list, its fonts and the source, sets the source in these fonts and puts its pages out.
+/// Reads the font list, its fonts and the source, sets the source in these fonts and makes its pages in this form.
 ///
 /// # Errors
 ///
@@ -69,7 +70,7 @@ pub fn typeset<C: Cabinet>(
     form: Form,
     cabinet: &mut C,
 ) -> Result<Bytes, Status>
-    ensures is { IsSetAs C.holds C.faults C.lost cabinet.old cabinet.new
+    ensures is { IsTypesetStep C.holds C.faults C.lost cabinet.old cabinet.new
         (typeset_steps words.now) form result }
 {
     let fonts = read_font_set(alloc, words.fonts, cabinet)?;

@@ -96,8 +96,9 @@ pub struct DviFile {
     greatest: GreatestEdges,
     // The offset of the last page, or -1.
     last: i64,
-    // How many pages and places there are.
+    // How many pages there are.
     pages: u16,
+    // How many places there are. No call reads it; the contracts count by it (`IsFileOf`).
     places: usize,
 }
 
@@ -121,11 +122,12 @@ impl DviFile {
 
     /// Adds a page.
     ///
-    /// There are at most 65,535 pages and at most [`MAX_PLACES`](crate::MAX_PLACES) places with it. The
+    /// There are at most [`MAX_DVI_PAGES`](crate::MAX_DVI_PAGES) pages and at most
+    /// [`MAX_PLACES`](crate::MAX_PLACES) places with it. The
     /// coordinates of its places, the widths and depths of their glyphs and the heights and widths of
     /// their rules are dimensions (at most 2^30 - 1 scaled points in size), each glyph exists in its
     /// font, and each rule has a positive height and a positive width.
-    pub fn page(&mut self, fonts: &FontSet, places: &[Place]) -> Result<(), AllocError>
+    pub fn add_page(&mut self, fonts: &FontSet, places: &[Place]) -> Result<(), AllocError>
         requires { CanTake fonts.now self.old places.now }
         ensures { (pages : List (List Place)) → IsFileOf fonts.now pages self.old
             → OnOk result (IsFileOf fonts.now (pages ++ places.now ∷ []) self.new) }

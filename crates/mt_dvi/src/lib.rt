@@ -15,4 +15,4 @@ mod write;
 pub use error::DviWriteError;
 pub use file::{DviBytes, DviFile};
 pub use moves::{MAX_COORDINATE, MoveForm, move_code};
-pub use write::{MAX_PLACES, write_dvi};
+pub use write::{MAX_DVI_PAGES, MAX_PLACES, write_dvi};

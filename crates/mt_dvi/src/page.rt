@@ -3,6 +3,7 @@ ghost use Rattle.std.specs.Prelude.{◌≡◌, ◌<◌, ◌≤◌, ◌*◌, ◌-
 ghost use Rattle.mt_box.specs.Places.{h_of, v_of};
 ghost use Rattle.mt_family.specs.SetValue.{IsSet, SetValue};
 ghost use Rattle.mt_dvi.specs.Fonts.{metrics_at};
+ghost use Rattle.mt_dvi.specs.Limits.{max_edge};
 ghost use Rattle.mt_dvi.specs.Machine.{is_far};
 ghost use Rattle.mt_dvi.specs.Moves.{move_form};
 ghost use Rattle.mt_dvi.specs.writer.Emits.{FitsFourBytes, register_value};
@@ -173,7 +174,7 @@ fn select(
 
 // Whether a place with this right edge goes by put, and not by set: the next one is too far away.
 fn must_put(edge: i64, later: &[Place]) -> bool
-    requires edge { nat_abs edge ≤ 2147483646 }
+    requires edge { nat_abs edge ≤ max_edge }
     requires next { All (λ place. InRange (h_of place)) later.now }
     ensures { result ≡ is_beyond edge (first_of later.now) }
 {
@@ -185,7 +186,7 @@ fn must_put(edge: i64, later: &[Place]) -> bool
 
 fn is_apart(h: i64, edge: i64) -> bool
     requires h { InRange h }
-    requires edge { nat_abs edge ≤ 2147483646 }
+    requires edge { nat_abs edge ≤ max_edge }
     ensures { result ≡ is_far (h -ℤ edge) }
 {
     is_far(h - edge)

@@ -13,8 +13,8 @@ use mt_box::{PageList, PlaceList};
 use mt_family::FontSet;
 use std::alloc::Global;
 
-// A file states the number of its pages in two bytes.
-const MAX_DVI_PAGES: usize = 65_535;
+/// The most pages of a DVI file, which states their number in two bytes.
+pub const MAX_DVI_PAGES: usize = 65_535;
 
 /// The most places on all pages of a DVI file together.
 pub const MAX_PLACES: u64 = 2_000_000;
@@ -39,8 +39,8 @@ fn count_places(pages: &[PlaceList]) -> usize
 ///
 /// # Errors
 ///
-/// The first of these: `TooManyPages` above 65,535 pages, `TooManyPlaces` above `MAX_PLACES` places on
-/// all pages together, with their number, which is given as 2^64 - 1 where it is greater. `OutOfMemory`
+/// The first of these: `TooManyPages` above [`MAX_DVI_PAGES`] pages, `TooManyPlaces` above [`MAX_PLACES`]
+/// places on all pages together, with their number, which is given as 2^64 - 1 where it is greater. `OutOfMemory`
 /// where memory ran out.
 pub fn write_dvi(
     alloc: Global,
@@ -63,7 +63,7 @@ pub fn write_dvi(
     }
     let mut file = DviFile::new(alloc, fonts)?;
     for page in pages {
-        file.page(fonts, page.as_slice())?;
+        file.add_page(fonts, page.as_slice())?;
     }
     let bytes = file.finish(fonts)?;
     Ok(bytes)

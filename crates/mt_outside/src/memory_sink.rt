@@ -1,5 +1,5 @@
 //! A sink in memory that fails where it is told to.
-ghost use Rattle.std.specs.Prelude.{◌≡◌, ◌+◌, ◌++◌, ◌≤◌, ◌<◌, [], IfOk, OnOk, OnErr, length, Some, None};
+ghost use Rattle.std.specs.Prelude.{◌≡◌, ◌+◌, ◌++◌, ◌≤◌, ◌<◌, [], IfOk, IfSome, OnOk, OnErr, length, Some, None};
 ghost use Rattle.mt_outside.specs.Counts.{WriteLeaves, next_count};
 ghost use Rattle.mt_outside.specs.Memory.{PutFails, taken_of};
 
@@ -57,14 +57,7 @@ impl MemorySink {
           faults = 0;
         }) }
     {
-        Ok(MemorySink {
-            bytes: Vec::with_capacity(alloc, room)?,
-            capacity: room,
-            most: None,
-            fail,
-            calls: 0,
-            faults: 0,
-        })
+        MemorySink::empty(alloc, room, None, fail)
     }
 
     /// A sink like that of [`MemorySink::new`], but each put takes the first `most` bytes of a longer
@@ -89,10 +82,30 @@ impl MemorySink {
           faults = 0;
         }) }
     {
+        MemorySink::empty(alloc, room, Some(most), fail)
+    }
+
+    // An empty sink, whose puts take at most `most` bytes, where it is told.
+    fn empty(
+        alloc: Global,
+        room: usize,
+        most: Option<usize>,
+        fail: CallList,
+    ) -> Result<Self, AllocError>
+        requires { IfSome most (λ most. 1 ≤ most) }
+        ensures { IfOk result (λ sink. sink ≡ record {
+          bytes = [];
+          room = room;
+          most = most;
+          fail = fail;
+          calls = 0;
+          faults = 0;
+        }) }
+    {
         Ok(MemorySink {
             bytes: Vec::with_capacity(alloc, room)?,
             capacity: room,
-            most: Some(most),
+            most,
             fail,
             calls: 0,
             faults: 0,

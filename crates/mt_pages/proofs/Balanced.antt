@@ -5,7 +5,7 @@ use Rattle.std.proofs.lemmas.Bool.Decides.{nat_tests}
 use Rattle.mt_token.specs.declared.token.Token.{Token}
 use Rattle.mt_macro.specs.Braces.{Taken, onto, group, level_after, is_open, is_close, first_unmatched}
 use Rattle.mt_macro.proofs.Unmatched.{group_on}
-use Rattle.mt_reader.specs.documents.Dollars.{up_to_end, ends_formula, after_end}
+use Rattle.mt_reader.specs.Dollars.{up_to_end, ends_formula, after_end}
 
 not_both : (t : Token) → is_open t ≡ true → is_close t ≡ false
 not_both t o = grind (arith, nat_tests, o)

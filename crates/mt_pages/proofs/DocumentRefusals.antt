@@ -25,15 +25,15 @@ use Rattle.mt_scan.specs.declared.fault.ReadCause.{ReadCause}
 use Rattle.mt_scan.specs.declared.fault.ReadCause.TheVariants.{UnknownName, DoubleScript, TwoFractions, BadDelimiter, Unbalanced, MisplacedLimits, MissingField, BadNumber, BadDimension, MisplacedNumber, TooDeep as TooManyGroups}
 use Rattle.mt_scan.specs.Parts.{Read, ReadOr, Got, Fault, NoTurn}
 use Rattle.mt_formula.specs.Formulas.{Reading, Reads, ReadFault, NotReadInTurns, reading}
-use Rattle.mt_reader.specs.documents.Limits.{max_total_tokens}
+use Rattle.mt_reader.specs.Limits.{max_total_tokens}
 use Rattle.mt_reader.specs.declared.outside_cause.OutsideCause.{OutsideCause}
 use Rattle.mt_reader.specs.declared.outside_role.OutsideRole.{OutsideRole}
 use Rattle.mt_reader.specs.declared.outside_role.OutsideRole.TheVariants.{Passed, Defines, SetsMathCode, SetsDelimiterCode, BeginsFormula, EndsPage, EndsDocument, Misplaced}
-use Rattle.mt_reader.specs.documents.Assignments.{math_code_assignment, delcode_assignment}
-use Rattle.mt_reader.specs.documents.Definitions.{MacroDefinition, macro_definition}
-use Rattle.mt_reader.specs.documents.Documents.{DocumentState, DocumentAnswer, DocumentTurn, Goes, Ends, Stops, StopsOutside, after_assignment, after_definition, after_expansion, after_reading, formula_in, formula_turn, is_page_limit, outside_role, pages_from, start_state, turn_answer, turn_by, with_table}
-use Rattle.mt_reader.specs.documents.Dollars.{begins_display, between_dollars, up_to_end}
-use Rattle.mt_reader.specs.documents.Sources.{document_by}
+use Rattle.mt_reader.specs.Assignments.{math_code_assignment, delcode_assignment}
+use Rattle.mt_reader.specs.Definitions.{MacroDefinition, macro_definition}
+use Rattle.mt_reader.specs.Documents.{DocumentState, DocumentAnswer, DocumentTurn, Goes, Ends, Stops, StopsOutside, after_assignment, after_definition, after_expansion, after_reading, formula_in, formula_turn, is_page_limit, outside_role, pages_from, start_state, turn_answer, turn_by, with_table}
+use Rattle.mt_reader.specs.Dollars.{begins_display, between_dollars, up_to_end}
+use Rattle.mt_reader.specs.Sources.{document_by}
 use Rattle.mt_pages.specs.Documents.{document_from, document_of, document_refusal, reading_refusal, token_refusal}
 use Rattle.mt_status.specs.declared.status.Status.TheVariants.{OutOfMemory}
 use Rattle.mt_status.proofs.Avoiding.{Avoids, avoids_err}

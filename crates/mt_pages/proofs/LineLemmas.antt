@@ -9,7 +9,7 @@ use Rattle.mt_family.specs.SetValue.{SetValue}
 use Rattle.mt_box.specs.declared.piece.Piece.{Piece}
 use Rattle.mt_box.specs.declared.piece.Piece.TheVariants.{Glyph, Boxed, Kern, Space}
 use Rattle.mt_box.specs.Rows.{AllMeasurable, AllModest, IsMeasurable, IsModest, level_of_piece, piece_values, row_level}
-use Rattle.mt_reader.specs.documents.Weights.{formula_weight, page_weight}
+use Rattle.mt_reader.specs.Weights.{formula_weight, page_weight}
 use Rattle.mt_rules.specs.declared.document.Formula.{Formula}
 use Rattle.mt_rules.specs.Modest.{IsModestList, list_nesting}
 use Rattle.mt_rules.specs.Sequence.{Sequence}

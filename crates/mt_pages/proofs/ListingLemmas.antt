@@ -1,8 +1,8 @@
 -- Lines of the listing, one after another.
-use Rattle.std.proofs.Common.{◌≡◌, ◌∙◌, ℕ, suc, ◌+◌, ◌<◌, Bool, List, [], ◌∷◌, ◌++◌, length, get_or, drop, sym, ap, append_assoc, arith}
+use Rattle.std.proofs.Common.{◌≡◌, ◌∙◌, ℕ, suc, ◌+◌, ◌<◌, ◌≤◌, Bool, List, [], ◌∷◌, ◌++◌, length, get_or, take, sym, ap, subst, append_assoc, arith}
 use Rattle.std.specs.Prelude.{Result, Ok, Err, OnOk, codes, cond, count_by}
 use Rattle.std.proofs.lemmas.List.Sums.{sum_by-append}
-use Rattle.std.proofs.lemmas.List.{append-nil, at_drop_more, length-append}
+use Rattle.std.proofs.lemmas.List.{append-nil, length-append, take_all, take_more}
 use Rattle.mt_box.specs.declared.place.Place.{Place}
 use Rattle.mt_dvi.specs.WrittenPlaces.{all_places}
 use Rattle.mt_pages.specs.Listing.{is_glyph_place, is_rule_place, listing, number_line, page_text, pages_text}
@@ -11,14 +11,13 @@ use Rattle.mt_pages.specs.declared.listings.ListingText.{ListingText}
 use Rattle.mt_pages.specs.declared.summaries.Counts.{Counts}
 use Rattle.mt_pages.proofs.PageLemmas.{all_places_append}
 
--- the text of one more page, before that of the pages after it
-pub page_pushed : (was now all : List ℕ) (page : List Place) (pages : List (List Place)) (i n : ℕ) (d : List Place) → i < length pages → page ≡ get_or pages i d
-    → now ≡ was ++ page_text n page → was ++ pages_text n (drop i pages) ≡ all → now ++ pages_text (n + 1) (drop (i + 1) pages) ≡ all
-page_pushed was now all page pages i n d lt is pushed so_far =
-    ap (λ (l : List ℕ). l ++ pages_text (n + 1) (drop (i + 1) pages)) (pushed ∙ ap (λ (l : List Place). was ++ page_text n l) is)
-    ∙ append_assoc was (page_text n (get_or pages i d)) (pages_text (n + 1) (drop (i + 1) pages))
-    ∙ ap (λ (l : List ℕ). was ++ l) (sym (at_drop_more (pages_text n) pages i d lt))
-    ∙ so_far
+-- the page at i is among those up to it
+pub taken : (P : List (List Place) → Type 0) (all : List (List Place)) (i : ℕ) (d page : List Place) → i < length all → page ≡ get_or all i d → P (take i all ++ page ∷ []) → P (take (i + 1) all)
+taken P all i d page lt is so_far = subst P (ap (λ (p : List Place). take i all ++ p ∷ []) is ∙ sym (take_more all i d lt)) so_far
+
+-- no page is left
+pub all_taken : (P : List (List Place) → Type 0) (all : List (List Place)) (i : ℕ) → length all ≤ i → P (take i all) → P all
+all_taken P all i le so_far = subst P (take_all i all le) so_far
 
 -- a line of four numbers
 pub line_pushed : (start first second third fourth end out a b c d e line : List ℕ)

@@ -19,9 +19,9 @@ use Rattle.mt_dvi.specs.WrittenPlaces.{all_places}
 use Rattle.mt_plain.specs.CodeTables.{plain_codes}
 use Rattle.mt_plain.specs.PlainMacros.{plain_table}
 use Rattle.mt_rules.specs.declared.document.Formula.{Formula}
-use Rattle.mt_reader.specs.documents.Documents.{document}
-use Rattle.mt_reader.specs.documents.Limits.{max_document_pages}
-use Rattle.mt_reader.specs.documents.PageReading.{CanGoOn, GoesOn, IsBounded, IsNextPage, IsReadOf, left_to_read}
+use Rattle.mt_reader.specs.Documents.{document}
+use Rattle.mt_reader.specs.Limits.{max_document_pages}
+use Rattle.mt_reader.specs.PageReading.{CanGoOn, GoesOn, IsBounded, IsNextPage, IsReadOf, left_to_read}
 use Rattle.mt_scaled.specs.declared.unit.Units.{Units}
 use Rattle.mt_reader.specs.declared.page_reader.PageReader.{PageReader}
 use Rattle.mt_pages.specs.Documents.{document_from, document_of}
@@ -30,9 +30,9 @@ use Rattle.mt_pages.specs.Listing.{is_glyph_place, is_rule_place}
 use Rattle.mt_pages.specs.inner.Texts.{AreCountsOf, HasRoom, IsListingOf}
 use Rattle.mt_pages.specs.declared.listings.ListingText.{ListingText}
 use Rattle.mt_pages.specs.declared.summaries.Counts.{Counts}
-use Rattle.mt_pages.specs.inner.SetPages.{AreFormulasOf, ArePagesOf, AreTokensOf, GoesOnAfter, IsNextOf, IsSet, IsTold, KeepsPlaces, count_places, end_of, is_nothing, is_setting, rest_after, rest_pages, with_places}
-use Rattle.mt_pages.specs.declared.pages.Held.{Held}
-use Rattle.mt_pages.specs.declared.pages.Held.TheVariants.{Nothing, Place as HeldPlace, Setting as HeldSetting}
+use Rattle.mt_pages.specs.inner.SetPages.{AreFormulasOf, ArePagesOf, AreTokensOf, GoesOnAfter, IsNextOf, SetsPage, IsTold, KeepsPlaces, count_places, end_of, is_nothing, is_setting, rest_after, rest_pages, append_page}
+use Rattle.mt_pages.specs.declared.pages.FirstFault.{FirstFault}
+use Rattle.mt_pages.specs.declared.pages.FirstFault.TheVariants.{Nothing, Place as HeldPlace, Setting as HeldSetting}
 use Rattle.mt_pages.specs.declared.pages.PageSetter.{PageSetter}
 use Rattle.mt_pages.proofs.DocumentLemmas.{pages_err, pages_next, pages_start}
 use Rattle.mt_pages.proofs.PageLemmas.{all_places_append}
@@ -43,37 +43,37 @@ use Rattle.mt_status.proofs.PureLemmas.{pure_err}
 -- ---- one page
 
 module _ (set : SetValue) (width : ℤ) (page : List Formula) where
-  held_on : (lines : PageLinesValue) (room : ℕ) (held : Held) (pages : List (List Place)) (rest : List (List Formula)) → page_lines set width no_lines page ≡ Ok lines → is_nothing held ≡ false
+  held_on : (lines : PageLinesValue) (room : ℕ) (held : FirstFault) (pages : List (List Place)) (rest : List (List Formula)) → page_lines set width no_lines page ≡ Ok lines → is_nothing held ≡ false
       → rest_after set width pages room held (page ∷ rest) ≡ rest_after set width pages room held rest
   held_on lines room Nothing pages rest lined some = absurd (cc)
   held_on lines room (HeldPlace status) pages rest lined some = pages_next set width (Err status) page rest lines lined
   held_on lines room (HeldSetting status) pages rest lined some = refl
 
   -- no place is found after a fault
-  pub held_placed : (lines : PageLinesValue) (s : PageSetter) → page_lines set width no_lines page ≡ Ok lines → is_nothing s.held ≡ false → IsSet set width page s s None
+  pub held_placed : (lines : PageLinesValue) (s : PageSetter) → page_lines set width no_lines page ≡ Ok lines → is_nothing s.held ≡ false → SetsPage set width page s s None
   held_placed lines s lined some = record { is = λ pages rest. held_on lines s.room s.held pages rest lined some; told = λ told. told; room = omega arith }
 
-  nothing_held : (held : Held) → is_nothing held ≡ true → held ≡ Nothing
+  nothing_held : (held : FirstFault) → is_nothing held ≡ true → held ≡ Nothing
   nothing_held Nothing none = refl
   nothing_held (HeldPlace status) none = absurd (cc)
   nothing_held (HeldSetting status) none = absurd (cc)
 
-  add_placed : (lines : PageLinesValue) (room : ℕ) (held : Held) (pages : List (List Place)) (rest : List (List Formula)) (r : Result (List Place) Status) → page_lines set width no_lines page ≡ Ok lines → held ≡ Nothing
+  add_placed : (lines : PageLinesValue) (room : ℕ) (held : FirstFault) (pages : List (List Place)) (rest : List (List Formula)) (r : Result (List Place) Status) → page_lines set width no_lines page ≡ Ok lines → held ≡ Nothing
       → page_places room lines ≡ r → rest_after set width pages room held (page ∷ rest) ≡ rest_pages set width (r >>= (λ places. Ok (record { pages = pages ++ places ∷ []; room = room - length places }))) rest
   add_placed lines room held pages rest r lined none are =
-      ap (λ (h : Held). rest_after set width pages room h (page ∷ rest)) none
+      ap (λ (h : FirstFault). rest_after set width pages room h (page ∷ rest)) none
       ∙ (pages_next set width (Ok (record { pages = pages; room = room })) page rest lines lined
       ∙ ap (λ (x : Result (List Place) Status). rest_pages set width (x >>= (λ places. Ok (record { pages = pages ++ places ∷ []; room = room - length places }))) rest) are)
 
   -- the places of a page
   pub placed : (lines : PageLinesValue) (old new : PageSetter) (places : List Place) → page_lines set width no_lines page ≡ Ok lines → is_nothing old.held ≡ true → new.held ≡ old.held
-      → page_places old.room lines ≡ Ok places → new.room ≡ old.room - length places → length places ≤ old.room → IsSet set width page old new (Some places)
+      → page_places old.room lines ≡ Ok places → new.room ≡ old.room - length places → length places ≤ old.room → SetsPage set width page old new (Some places)
   placed lines old new places lined none same are room few =
       let nothing : old.held ≡ Nothing = nothing_held old.held none in
       record {
         is = λ pages rest.
             add_placed lines old.room old.held pages rest (Ok places) lined nothing are
-            ∙ sym (ap (λ (h : Held). rest_after set width (pages ++ places ∷ []) new.room h rest) (same ∙ nothing)
+            ∙ sym (ap (λ (h : FirstFault). rest_after set width (pages ++ places ∷ []) new.room h rest) (same ∙ nothing)
             ∙ ap (λ (n : ℕ). rest_pages set width (Ok (record { pages = pages ++ places ∷ []; room = n })) rest) room);
         told = λ told. subst IsTold (sym same) told;
         room = omega (arith, room, few);
@@ -81,25 +81,25 @@ module _ (set : SetValue) (width : ℤ) (page : List Formula) where
 
   -- a place is at fault
   pub place_refused : (lines : PageLinesValue) (old new : PageSetter) (status : Status) → page_lines set width no_lines page ≡ Ok lines → is_nothing old.held ≡ true → page_places old.room lines ≡ Err status
-      → refusal_origin status ≡ Told → new.held ≡ HeldPlace status → new.room ≡ old.room → IsSet set width page old new None
+      → refusal_origin status ≡ Told → new.held ≡ HeldPlace status → new.room ≡ old.room → SetsPage set width page old new None
   place_refused lines old new status lined none are told held room = record {
     is = λ pages rest.
         add_placed lines old.room old.held pages rest (Err status) lined (nothing_held old.held none) are
-        ∙ sym (ap (λ (h : Held). rest_after set width pages new.room h rest) held);
+        ∙ sym (ap (λ (h : FirstFault). rest_after set width pages new.room h rest) held);
     told = λ before. subst IsTold (sym held) told;
     room = omega (arith, room);
   }
 
-  setting_on : (room : ℕ) (held : Held) (pages : List (List Place)) (rest : List (List Formula)) → is_setting held ≡ true → rest_after set width pages room held (page ∷ rest) ≡ rest_after set width pages room held rest
+  setting_on : (room : ℕ) (held : FirstFault) (pages : List (List Place)) (rest : List (List Formula)) → is_setting held ≡ true → rest_after set width pages room held (page ∷ rest) ≡ rest_after set width pages room held rest
   setting_on room Nothing pages rest some = absurd (cc)
   setting_on room (HeldPlace status) pages rest some = absurd (cc)
   setting_on room (HeldSetting status) pages rest some = refl
 
   -- no formula is set after one that was not
-  pub held_set : (s : PageSetter) → is_setting s.held ≡ true → IsSet set width page s s None
+  pub held_set : (s : PageSetter) → is_setting s.held ≡ true → SetsPage set width page s s None
   held_set s some = record { is = λ pages rest. setting_on s.room s.held pages rest some; told = λ told. told; room = omega arith }
 
-  refused_on : (room : ℕ) (held : Held) (pages : List (List Place)) (rest : List (List Formula)) (status : Status) → page_lines set width no_lines page ≡ Err status → is_setting held ≡ false
+  refused_on : (room : ℕ) (held : FirstFault) (pages : List (List Place)) (rest : List (List Formula)) (status : Status) → page_lines set width no_lines page ≡ Err status → is_setting held ≡ false
       → rest_after set width pages room held (page ∷ rest) ≡ Err status
   refused_on room Nothing pages rest status refused some = pages_err set width (Ok (record { pages = pages; room = room })) page rest status refused
   refused_on room (HeldPlace first) pages rest status refused some = pages_err set width (Err first) page rest status refused
@@ -107,9 +107,9 @@ module _ (set : SetValue) (width : ℤ) (page : List Formula) where
 
   -- a formula is not set
   pub set_refused : (old new : PageSetter) (status : Status) → page_lines set width no_lines page ≡ Err status → is_setting old.held ≡ false → refusal_origin status ≡ Told → new.held ≡ HeldSetting status → new.room ≡ old.room
-      → IsSet set width page old new None
+      → SetsPage set width page old new None
   set_refused old new status refused some told held room = record {
-    is = λ pages rest. refused_on old.room old.held pages rest status refused some ∙ sym (ap (λ (h : Held). rest_after set width pages new.room h rest) held);
+    is = λ pages rest. refused_on old.room old.held pages rest status refused some ∙ sym (ap (λ (h : FirstFault). rest_after set width pages new.room h rest) held);
     told = λ before. subst IsTold (sym held) told;
     room = omega (arith, room);
   }
@@ -126,25 +126,25 @@ module _ (set : SetValue) (width : ℤ) (source : List ℕ) where
     reader = reader;
     is = λ rest.
         pages_start set width rest
-        ∙ sym (ap (λ (h : Held). rest_after set width [] s.room h rest) held ∙ ap (λ (n : ℕ). rest_pages set width (Ok (record { pages = []; room = n })) rest) room);
+        ∙ sym (ap (λ (h : FirstFault). rest_after set width [] s.room h rest) held ∙ ap (λ (n : ℕ). rest_pages set width (Ok (record { pages = []; room = n })) rest) room);
     told = subst IsTold (sym held) tt;
     few = omega arith;
     room = omega (arith, room);
   }
 
-  with_none : (pages : List (List Place)) (places : Option (List Place)) (n : ℕ) → length pages ≤ n → length (with_places pages places) ≤ n + 1
+  with_none : (pages : List (List Place)) (places : Option (List Place)) (n : ℕ) → length pages ≤ n → length (append_page pages places) ≤ n + 1
   with_none pages None n few = omega (arith, few)
   with_none pages (Some places) n few = omega (arith, few, length-append pages (places ∷ []))
 
-  with_room : (pages : List (List Place)) (places : Option (List Place)) (room new : ℕ) → length (all_places pages) + room ≡ max_places → count_places places + new ≡ room → length (all_places (with_places pages places)) + new ≡ max_places
+  with_room : (pages : List (List Place)) (places : Option (List Place)) (room new : ℕ) → length (all_places pages) + room ≡ max_places → count_places places + new ≡ room → length (all_places (append_page pages places)) + new ≡ max_places
   with_room pages None room new full less = omega (arith, full, less)
   with_room pages (Some places) room new full less = omega (arith, full, less, ap length (all_places_append pages places), length-append (all_places pages) places)
 
   -- one page more
   pub are_more : (tokens : List Token) (pages : List (List Place)) (read : List (List Formula)) (page : List Formula) (old mid new : PageSetter) (places : Option (List Place)) → AreTokensOf set source (Ok tokens)
       → ((rest : List (List Formula)) → document_pages set width (read ++ rest) ≡ rest_after set width pages old.room old.held rest) → IsTold old.held → length pages ≤ old.reader.state.ended → length (all_places pages) + old.room ≡ max_places
-      → IsReadOf (units_of set) tokens (read ++ page ∷ []) mid.reader → mid.reader.state.ended ≡ old.reader.state.ended + 1 → KeepsPlaces old mid → IsSet set width page mid new places → new.reader ≡ mid.reader
-      → ArePagesOf set width source (with_places pages places) new
+      → IsReadOf (units_of set) tokens (read ++ page ∷ []) mid.reader → mid.reader.state.ended ≡ old.reader.state.ended + 1 → KeepsPlaces old mid → SetsPage set width page mid new places → new.reader ≡ mid.reader
+      → ArePagesOf set width source (append_page pages places) new
   are_more tokens pages read page old mid new places same is told few room reader ended keeps done kept = record {
     tokens = tokens;
     same = same;
@@ -153,7 +153,7 @@ module _ (set : SetValue) (width : ℤ) (source : List ℕ) where
     is = λ rest.
         ap (document_pages set width) (append_assoc read (page ∷ []) rest)
         ∙ (is (page ∷ rest)
-        ∙ (sym (ap (λ (n : ℕ). rest_after set width pages n mid.held (page ∷ rest)) keeps.room ∙ ap (λ (h : Held). rest_after set width pages old.room h (page ∷ rest)) keeps.held)
+        ∙ (sym (ap (λ (n : ℕ). rest_after set width pages n mid.held (page ∷ rest)) keeps.room ∙ ap (λ (h : FirstFault). rest_after set width pages old.room h (page ∷ rest)) keeps.held)
         ∙ done.is pages rest));
     told = done.told (subst IsTold (sym keeps.held) told);
     few = omega (arith, with_none pages places old.reader.state.ended few, ended, ap (λ r. r.state.ended) kept);
@@ -168,7 +168,7 @@ module _ (set : SetValue) (width : ℤ) (source : List ℕ) where
       ap (λ (d : Result (List (List Formula)) Status). d >>= document_pages set width) (are.same ∙ ap document_from all)
       ∙ (ap (document_pages set width) (sym (append-nil are.read)) ∙ are.is [])
 
-  end_by : (pages : List (List Place)) (room : ℕ) (held : Held) (new : PageSetter) → IsTold held → source_pages set width source ≡ rest_after set width pages room held [] → IsNextOf set width source pages new (end_of held)
+  end_by : (pages : List (List Place)) (room : ℕ) (held : FirstFault) (new : PageSetter) → IsTold held → source_pages set width source ≡ rest_after set width pages room held [] → IsNextOf set width source pages new (end_of held)
   end_by pages room Nothing new told is = is
   end_by pages room (HeldPlace status) new told is = subst (λ (o : Origin). PureBy o (source_pages set width source ≡ Err status)) (sym told) is
   end_by pages room (HeldSetting status) new told is = subst (λ (o : Origin). PureBy o (source_pages set width source ≡ Err status)) (sym told) is
@@ -187,7 +187,7 @@ module _ (set : SetValue) (width : ℤ) (source : List ℕ) where
 
 formulas_ok_by : (set : SetValue) (tokens : List Token) (read : List (List Formula)) (new : PageSetter) (page : Option (List Formula)) → IsNextPage (units_of set) tokens read new.reader (Ok page) → AreFormulasOf set tokens read new (Ok page)
 formulas_ok_by set tokens read new (Some page) is = is
-formulas_ok_by set tokens read new None is = is
+formulas_ok_by set tokens read new None is = is.0
 
 pub formulas_ok : (set : SetValue) (units : Units) (tokens : List Token) (read : List (List Formula)) (old new : PageSetter) (reader : PageReader) (page : Option (List Formula)) → units ≡ units_of set → reader ≡ new.reader
     → (IsReadOf units tokens read old.reader → IsNextPage units tokens read reader (Ok page)) → IsReadOf (units_of set) tokens read old.reader → AreFormulasOf set tokens read new (Ok page)
@@ -202,11 +202,11 @@ kept_at set w v old new e is = subst (λ (x : ℤ). (source : List ℕ) → (pag
 -- a page is read and set
 pub are_set : (set : SetValue) (w v : ℤ) (source : List ℕ) (pages : List (List Place)) (page : List Formula) (old mid new : PageSetter) (found : Option (List Formula)) (got places : Option (List Place)) → w ≡ v
     → ArePagesOf set v source pages old → found ≡ Some page → ((tokens : List Token) → (read : List (List Formula)) → IsReadOf (units_of set) tokens read old.reader → AreFormulasOf set tokens read mid (Ok found))
-    → GoesOn old.reader mid.reader (Ok found) → KeepsPlaces old mid → IsSet set w page mid new got → got ≡ places → new.reader ≡ mid.reader → ArePagesOf set v source (with_places pages places) new
+    → GoesOn old.reader mid.reader (Ok found) → KeepsPlaces old mid → SetsPage set w page mid new got → got ≡ places → new.reader ≡ mid.reader → ArePagesOf set v source (append_page pages places) new
 are_set set w v source pages page old mid new found got places e are some formulas more keeps done is kept =
     let reader : IsReadOf (units_of set) are.tokens (are.read ++ page ∷ []) mid.reader = subst (λ (o : Option (List Formula)). AreFormulasOf set are.tokens are.read mid (Ok o)) some (formulas are.tokens are.read are.reader) in
     let bounded : IsBounded old.reader mid.reader page = subst (λ (o : Option (List Formula)). GoesOn old.reader mid.reader (Ok o)) some more in
-    let at : IsSet set v page mid new places = subst (λ (x : ℤ). IsSet set x page mid new places) e (subst (λ (o : Option (List Place)). IsSet set w page mid new o) is done) in
+    let at : SetsPage set v page mid new places = subst (λ (x : ℤ). SetsPage set x page mid new places) e (subst (λ (o : Option (List Place)). SetsPage set w page mid new o) is done) in
     are_more set v source are.tokens pages are.read page old mid new places are.same are.is are.told are.few are.room reader bounded.ended keeps at kept
 
 pub record GoesOnIn (first new : PageSetter) : Type 0 where

@@ -20,7 +20,7 @@ use Rattle.mt_rules.specs.Scripts.{row_with_scripts}
 use Rattle.mt_convert.specs.FirstPass.{first_pass_of}
 use Rattle.mt_convert.specs.ListRow.{halves_of, list_row}
 use Rattle.mt_convert.specs.SecondPass.{second_pass_of}
-use Rattle.mt_reader.specs.documents.Documents.{pages_from, TooManyTokens, TooManyPages}
+use Rattle.mt_reader.specs.Documents.{pages_from, TooManyTokens, TooManyPages}
 use Rattle.mt_display.specs.Displays.{display_lines}
 use Rattle.mt_display.specs.Stack.{stacked_lines}
 use Rattle.mt_pages.specs.Documents.{document_refusal}

@@ -9,9 +9,9 @@ use Rattle.mt_scan.specs.declared.fault.ReadCause.{ReadCause}
 use Rattle.mt_scan.specs.declared.fault.ReadCause.TheVariants.{TooDeep as TooManyGroups}
 use Rattle.mt_scan.specs.Errors.{cause_number}
 use Rattle.mt_rules.specs.declared.document.Formula.{Formula}
-use Rattle.mt_reader.specs.documents.Documents.{DocumentAnswer, DocumentFault, NotLexed, Outside, NotExpanded, NotRead, TooManyTokens, TooManyPages, OutOfTurns}
-use Rattle.mt_reader.specs.documents.Causes.{outside_number}
-use Rattle.mt_reader.specs.documents.Sources.{source_document}
+use Rattle.mt_reader.specs.Documents.{DocumentAnswer, DocumentFault, NotLexed, Outside, NotExpanded, NotRead, TooManyTokens, TooManyPages, OutOfTurns}
+use Rattle.mt_reader.specs.Causes.{outside_number}
+use Rattle.mt_reader.specs.Sources.{source_document}
 use Rattle.mt_status.specs.Codes.{missing_argument}
 use Rattle.mt_status.specs.declared.status.Much.TheVariants.{Pages}
 use Rattle.mt_status.specs.declared.status.Status.{Status}

@@ -1,10 +1,11 @@
 //! The tokens of a source, and why it has no document.
 ghost use Rattle.std.specs.Prelude.{◌≡◌, ◌≤◌, ◌^◌, IfOk, length};
 ghost use Rattle.mt_family.specs.SetValue.{SetValue};
-ghost use Rattle.mt_reader.specs.documents.Documents.{DocumentAnswer};
-ghost use Rattle.mt_reader.specs.documents.Refusals.{IsExpandRefusal, IsReadRefusal, IsRefusal};
+ghost use Rattle.mt_reader.specs.Documents.{DocumentAnswer};
+ghost use Rattle.mt_reader.specs.Refusals.{IsExpandRefusal, IsReadRefusal, IsRefusal};
 ghost use Rattle.mt_status.specs.Origins.{IsPure};
 ghost use Rattle.mt_pages.specs.Documents.{document_from, token_refusal};
+ghost use Rattle.mt_token.specs.Tokens.{max_source};
 ghost use Rattle.mt_pages.specs.inner.SetPages.{AreTokensOf};
 
 use mt_macro::ExpandError;
@@ -94,7 +95,7 @@ pub fn document_refusal(error: DocError) -> Status
 /// where memory ran out.
 pub fn tokens_of(alloc: Global, source: &[u8]) -> Result<TokenList, Status>
     ensures is { (fonts : SetValue) → AreTokensOf fonts source.now result }
-    ensures few { IfOk result (λ list. length list ≤ 2 ^ 22) }
+    ensures few { IfOk result (λ list. length list ≤ max_source) }
 {
     match source_tokens(alloc, source) {
         Ok(list) => Ok(list),

@@ -3,7 +3,7 @@ ghost use Rattle.std.specs.Prelude.{Err, IfOk, IfSome, List};
 ghost use Rattle.mt_box.specs.Rows.{PieceValue};
 ghost use Rattle.mt_convert.specs.Calls.{SetFails};
 ghost use Rattle.mt_display.specs.Lines.{LineValue, LinesAnswer};
-ghost use Rattle.mt_reader.specs.documents.Weights.{HasModestLists, formula_weight};
+ghost use Rattle.mt_reader.specs.Weights.{HasModestLists, formula_weight};
 ghost use Rattle.mt_rules.specs.Modest.{IsModestList};
 ghost use Rattle.mt_rules.specs.Setting.{Setting};
 ghost use Rattle.mt_pages.specs.FormulaLines.{displayed_lines, formula_lines, formula_row, number_row, set_by};

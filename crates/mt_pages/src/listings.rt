@@ -1,11 +1,11 @@
 //! Pages as a text.
 ghost use Rattle.std.specs.Prelude.{◌≡◌, ◌++◌, ◌<◌, ◌-◌, ◌^◌, ◌∷◌, [], List, flat_map, IfOk, OnOk};
 ghost use Rattle.mt_box.specs.declared.place.Place.{Place as PlaceFields};
-ghost use Rattle.mt_pages.specs.Listing.{listing, page_text, pages_text, place_line};
+ghost use Rattle.mt_pages.specs.Listing.{listing, page_text, place_line};
 ghost use Rattle.mt_pages.specs.inner.Texts.{IsListingOf};
 
 use crate::text_line::{push_number, push_number_line};
-use mt_box::{PageList, Place, PlaceList};
+use mt_box::{PageList, Place};
 use mt_scaled::{Bytes, Items};
 use std::alloc::{AllocError, Global};
 
@@ -66,17 +66,6 @@ fn push_page(out: &mut Vec<u8>, number: usize, page: &[Place]) -> Result<(), All
     Ok(())
 }
 
-fn push_pages(out: &mut Vec<u8>, pages: &[PlaceList]) -> Result<(), AllocError>
-    ensures { OnOk result (out.new.items ≡ out.old.items ++ pages_text 1 pages.now) }
-{
-    let mut number: usize = 0;
-    for page in pages {
-        number += 1;
-        push_page(out, number, page.as_slice())?;
-    }
-    Ok(())
-}
-
 /// A listing to which pages are added.
 #[derive(Drop)]
 pub struct ListingText {
@@ -96,7 +85,7 @@ impl ListingText {
     }
 
     /// Adds a page.
-    pub fn page(&mut self, page: &[Place]) -> Result<(), AllocError>
+    pub fn add_page(&mut self, page: &[Place]) -> Result<(), AllocError>
         requires { self.old.pages < 2 ^ 64 - 1 }
         ensures { (pages : List (List PlaceFields)) → IsListingOf pages self.old
             → OnOk result (IsListingOf (pages ++ page.now ∷ []) self.new) }
@@ -121,12 +110,13 @@ impl ListingText {
 ///
 /// The lines are `page N`, `g FONT CODE H V` for a glyph, `r H V HEIGHT WIDTH` for a rule and `pages N`. Numbers are
 /// decimal; lengths are scaled points, h to the right and v downward. LF ends each line.
-#[tactic(auto, unfolding(crate::specs::Listing::listing))]
 pub fn listing(alloc: Global, pages: &PageList) -> Result<Bytes, AllocError>
     ensures { IfOk result (λ text. text ≡ listing pages.now) }
 {
-    let mut out = Vec::new(alloc);
-    push_pages(&mut out, pages.as_slice())?;
-    push_number_line(&mut out, b"pages", pages.len() as u128)?;
-    Ok(Items::from_vec(out))
+    let pages = pages.as_slice();
+    let mut text = ListingText::new(alloc);
+    for page in pages {
+        text.add_page(page.as_slice())?;
+    }
+    text.finish()
 }

@@ -1,7 +1,7 @@
 //! The lines of a page.
 ghost use Rattle.std.specs.Prelude.{◌≡◌, ◌++◌, [], All, IfOk, OnOk};
 ghost use Rattle.mt_display.specs.Lines.{line_values};
-ghost use Rattle.mt_reader.specs.documents.Weights.{HasModestLists, page_weight};
+ghost use Rattle.mt_reader.specs.Weights.{HasModestLists, page_weight};
 ghost use Rattle.mt_pages.specs.Pages.{no_lines, page_lines, with_formula_lines};
 ghost use Rattle.mt_pages.specs.LineWidth.{IsLineWidth};
 ghost use Rattle.mt_pages.specs.inner.Lines.{AreLaid, IsPageLines, page_value};

@@ -5,16 +5,17 @@ ghost use Rattle.mt_box.specs.declared.place.Place.{Place as PlaceFields};
 ghost use Rattle.mt_display.specs.Lines.{line_values};
 ghost use Rattle.mt_dvi.specs.Writable.{IsWritable};
 ghost use Rattle.mt_family.specs.Sets.{units_of};
+ghost use Rattle.mt_token.specs.Tokens.{max_source};
 ghost use Rattle.mt_token.specs.declared.token.Token.{Token as TokenFields};
 ghost use Rattle.mt_rules.specs.declared.document.Formula.{Formula};
-ghost use Rattle.mt_reader.specs.documents.PageReading.{CanGoOn, GoesOn, IsReadOf};
-ghost use Rattle.mt_reader.specs.documents.Weights.{HasModestLists, page_weight};
+ghost use Rattle.mt_reader.specs.PageReading.{CanGoOn, GoesOn, IsReadOf};
+ghost use Rattle.mt_reader.specs.Weights.{HasModestLists, page_weight};
 ghost use Rattle.mt_pages.specs.Pages.{no_lines, page_lines, page_places, stack_refusal};
 ghost use Rattle.mt_pages.specs.LineWidth.{IsLineWidth};
 ghost use Rattle.mt_pages.specs.inner.Lines.{LinesHold, LinesStack, page_value};
 ghost use Rattle.mt_pages.specs.inner.Placed.{IsToldAnswer};
 ghost use Rattle.mt_pages.specs.inner.SetPages.{AreFormulasOf, ArePagesOf, AreTokensOf, GoesOnAfter, IsNextOf};
-ghost use Rattle.mt_pages.specs.inner.SetPages.{IsSet, KeepsPlaces, end_of, is_nothing, is_setting};
+ghost use Rattle.mt_pages.specs.inner.SetPages.{SetsPage, KeepsPlaces, end_of, is_nothing, is_setting};
 
 use crate::document::document_refusal;
 use crate::page_lines::{PageLines, page_lines};
@@ -72,23 +73,23 @@ fn page_places(
 // The first fault that is held back: that of a place, until all formulas are set, or that of a formula that is not set,
 // until all are read.
 #[derive(Drop)]
-enum Held {
+enum FirstFault {
     Nothing,
     Place(Status),
     Setting(Status),
 }
 
-impl Held {
+impl FirstFault {
     fn is_nothing(&self) -> bool
         ensures { result ≡ is_nothing self.now }
     {
-        matches!(self, Held::Nothing)
+        matches!(self, FirstFault::Nothing)
     }
 
     fn is_setting(&self) -> bool
         ensures { result ≡ is_setting self.now }
     {
-        matches!(self, Held::Setting(_))
+        matches!(self, FirstFault::Setting(_))
     }
 }
 
@@ -100,13 +101,13 @@ pub struct PageSetter<'a> {
     reader: PageReader<'a>,
     // how many places more there may be
     room: u64,
-    held: Held,
+    held: FirstFault,
 }
 
 impl<'a> PageSetter<'a> {
     /// The pages of these tokens. None of them is read yet.
     pub fn new(alloc: Global, tokens: &'a [Token]) -> Result<PageSetter<'a>, AllocError>
-        requires { length tokens.now ≤ 2 ^ 22 }
+        requires { length tokens.now ≤ max_source }
         ensures is { IfOk result (λ setter. (fonts : SetValue) → (width : ℤ) → (source : List ℕ)
             → AreTokensOf fonts source (Ok tokens.now) → ArePagesOf fonts width source [] setter) }
         ensures more { IfOk result (λ setter. CanGoOn setter.reader) }
@@ -114,7 +115,7 @@ impl<'a> PageSetter<'a> {
         Ok(PageSetter {
             reader: PageReader::new(alloc, tokens)?,
             room: MAX_PLACES,
-            held: Held::Nothing,
+            held: FirstFault::Nothing,
         })
     }
 
@@ -124,7 +125,7 @@ impl<'a> PageSetter<'a> {
         ensures reader { self.new.reader ≡ self.old.reader }
         ensures is { (fonts : SetValue) → (width : ℤ) → (formulas : List Formula)
             → page_lines fonts width no_lines formulas ≡ Ok (page_value page)
-            → IfOk result (λ places. IsSet fonts width formulas self.old self.new places) }
+            → IfOk result (λ places. SetsPage fonts width formulas self.old self.new places) }
         ensures writable { (fonts : SetValue) → LinesHold fonts (line_values page.lines.items)
             → IfOk result (λ places. IfSome places (λ page. All (IsWritable fonts) page)) }
     {
@@ -137,7 +138,7 @@ impl<'a> PageSetter<'a> {
                 Ok(Some(places))
             }
             Err(status) => {
-                self.held = Held::Place(status);
+                self.held = FirstFault::Place(status);
                 Ok(None)
             }
         }
@@ -155,7 +156,7 @@ impl<'a> PageSetter<'a> {
         requires modest { All HasModestLists page }
         requires few { page_weight page ≤ 2 ^ 21 }
         ensures reader { self.new.reader ≡ self.old.reader }
-        ensures is { IfOk result (λ places. IsSet fonts.now width page self.old self.new places) }
+        ensures is { IfOk result (λ places. SetsPage fonts.now width page self.old self.new places) }
         ensures writable { IfOk result (λ places. IfSome places (λ page. All (IsWritable fonts.now) page)) }
     {
         if self.held.is_setting() {
@@ -165,7 +166,7 @@ impl<'a> PageSetter<'a> {
             Ok(lines) => self.place(alloc, lines),
             Err(Status::OutOfMemory) => Err(AllocError),
             Err(status) => {
-                self.held = Held::Setting(status);
+                self.held = FirstFault::Setting(status);
                 Ok(None)
             }
         }
@@ -190,10 +191,10 @@ impl<'a> PageSetter<'a> {
     fn end(&mut self) -> Result<Option<PlaceList>, Status>
         ensures { result ≡ end_of self.old.held }
     {
-        match mem::replace(&mut self.held, Held::Nothing) {
-            Held::Nothing => Ok(None),
-            Held::Place(status) => Err(status),
-            Held::Setting(status) => Err(status),
+        match mem::replace(&mut self.held, FirstFault::Nothing) {
+            FirstFault::Nothing => Ok(None),
+            FirstFault::Place(status) => Err(status),
+            FirstFault::Setting(status) => Err(status),
         }
     }
 

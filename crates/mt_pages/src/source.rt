@@ -37,7 +37,7 @@ pub fn source_file(
     let mut setter = PageSetter::new(alloc, tokens.as_slice())?;
     let mut file = DviFile::new(alloc, fonts)?;
     while let Some(places) = setter.next_page(alloc, fonts, width)? {
-        file.page(fonts, places.as_slice())?;
+        file.add_page(fonts, places.as_slice())?;
     }
     Ok(file.finish(fonts)?)
 }
@@ -92,7 +92,7 @@ pub fn source_listing(
     let mut setter = PageSetter::new(alloc, tokens.as_slice())?;
     let mut text = ListingText::new(alloc);
     while let Some(places) = setter.next_page(alloc, fonts, width)? {
-        text.page(places.as_slice())?;
+        text.add_page(places.as_slice())?;
     }
     Ok(text.finish()?)
 }
@@ -116,7 +116,7 @@ pub fn source_summary(
     let mut setter = PageSetter::new(alloc, tokens.as_slice())?;
     let mut counts = Counts::new();
     while let Some(places) = setter.next_page(alloc, fonts, width)? {
-        counts.page(places.as_slice());
+        counts.add_page(places.as_slice());
     }
     Ok(counts.text(alloc, formulas)?)
 }

@@ -3,10 +3,10 @@ ghost use Rattle.std.specs.Prelude.{◌≡◌, ◌++◌, ◌≤◌, ◌^◌, ◌
 ghost use Rattle.mt_box.specs.declared.place.Place.{Place as PlaceFields};
 ghost use Rattle.mt_dvi.specs.WrittenPlaces.{all_places};
 ghost use Rattle.mt_pages.specs.Listing.{is_glyph_place, is_rule_place, summary};
-ghost use Rattle.mt_pages.specs.inner.Texts.{AreCountsOf, HasRoom};
+ghost use Rattle.mt_pages.specs.inner.Texts.{AreCountsOf, GrowsByPage, HasRoom};
 
 use crate::text_line::push_number_line;
-use mt_box::{PageList, Place, PlaceList};
+use mt_box::{PageList, Place};
 use mt_scaled::{Bytes, Items};
 use std::alloc::{AllocError, Global};
 
@@ -49,18 +49,18 @@ impl Counts {
     }
 
     /// Counts a page.
-    pub fn page(&mut self, page: &[Place])
+    pub fn add_page(&mut self, page: &[Place])
         requires { HasRoom self.old }
-        ensures { (pages : List (List PlaceFields)) → AreCountsOf pages self.old
+        ensures counts { (pages : List (List PlaceFields)) → AreCountsOf pages self.old
             → AreCountsOf (pages ++ page.now ∷ []) self.new }
+        ensures grows { GrowsByPage self.old self.new }
     {
         self.pages += 1;
         self.glyphs += glyphs_on(page) as u128;
         self.rules += rules_on(page) as u128;
     }
 
-    /// The summary of pages that so many formulas gave: the lines `formulas N`, `pages N`, `glyphs N` and `rules N`,
-    /// each of them ended by LF.
+    /// The summary of the pages, which so many formulas gave, as [`summary`] says.
     #[tactic(auto, using(std::proofs::Common::append_assoc), unfolding(crate::specs::Listing::summary))]
     pub fn text(&self, alloc: Global, formulas: u32) -> Result<Bytes, AllocError>
         ensures { (pages : List (List PlaceFields)) → AreCountsOf pages self.now
@@ -75,38 +75,15 @@ impl Counts {
     }
 }
 
-// The number of glyphs on all pages.
-fn glyph_count(pages: &[PlaceList]) -> u128
-    ensures { result ≡ count_by is_glyph_place (all_places pages.now) }
-{
-    let mut count: u128 = 0;
-    for page in pages {
-        count += glyphs_on(page.as_slice()) as u128;
-    }
-    count
-}
-
-// The number of rules on all pages.
-fn rule_count(pages: &[PlaceList]) -> u128
-    ensures { result ≡ count_by is_rule_place (all_places pages.now) }
-{
-    let mut count: u128 = 0;
-    for page in pages {
-        count += rules_on(page.as_slice()) as u128;
-    }
-    count
-}
-
 /// The summary of pages that so many formulas gave: the lines `formulas N`, `pages N`, `glyphs N` and `rules N`, each
 /// of them ended by LF.
-#[tactic(auto, using(std::proofs::Common::append_assoc), unfolding(crate::specs::Listing::summary))]
 pub fn summary(alloc: Global, formulas: u32, pages: &PageList) -> Result<Bytes, AllocError>
     ensures { IfOk result (λ text. text ≡ summary formulas pages.now) }
 {
-    let mut out = Vec::new(alloc);
-    push_number_line(&mut out, b"formulas", u128::from(formulas))?;
-    push_number_line(&mut out, b"pages", pages.len() as u128)?;
-    push_number_line(&mut out, b"glyphs", glyph_count(pages.as_slice()))?;
-    push_number_line(&mut out, b"rules", rule_count(pages.as_slice()))?;
-    Ok(Items::from_vec(out))
+    let pages = pages.as_slice();
+    let mut counts = Counts::new();
+    for page in pages {
+        counts.add_page(page.as_slice());
+    }
+    counts.text(alloc, formulas)
 }

@@ -4,7 +4,7 @@ use Rattle.std.specs.Prelude.{Some, None, ◌==◌, ◌&&◌}
 use Rattle.std.proofs.lemmas.List.{append-nil}
 use Rattle.mt_token.specs.declared.token.Token.{Token}
 use Rattle.mt_macro.specs.Braces.{onto, level_after, is_close}
-use Rattle.mt_reader.specs.documents.Dollars.{ends_formula, up_to_end, after_end}
+use Rattle.mt_reader.specs.Dollars.{ends_formula, up_to_end, after_end}
 use Rattle.mt_macro.proofs.Taking.{onto_all, onto_none, onto_more}
 
 -- so many tokens are passed, and these are left

@@ -5,7 +5,7 @@ use Rattle.mt_token.specs.declared.token.Token.{Token}
 use Rattle.mt_token.specs.Character.{character_code}
 use Rattle.mt_macro.specs.Braces.{index_after_first}
 use Rattle.mt_macro.specs.Parameters.{first_bad_parameter, is_hash, begins_with_parameter}
-use Rattle.mt_reader.specs.documents.Definitions.{is_parameter, parameters}
+use Rattle.mt_reader.specs.Definitions.{is_parameter, parameters}
 
 -- so many parameters are passed
 pub record Parameters (first rest : List Token) (count : ℕ) : Type 0 where

@@ -7,7 +7,7 @@ use Rattle.mt_rules.specs.declared.kind.Kind.TheVariants.{Plain, Radical, Accent
 use Rattle.mt_rules.specs.declared.kind.Limits.TheVariants.{Default, Never}
 use Rattle.mt_rules.specs.Sequence.{AtomElement, FractionElement, LeftElement, RightElement, SpaceElement, KernElement}
 use Rattle.mt_formula.proofs.Writing.{seq, sym, lst, no, symbol, delim, glue, bare, ord, scripted}
-use Rattle.mt_reader.specs.documents.Documents.{pages_from}
+use Rattle.mt_reader.specs.Documents.{pages_from}
 use Rattle.mt_reader.proofs.DocumentWriting.{read, entry, shown, shown_with}
 use Rattle.mt_plain.specs.CodeTables.{plain_codes}
 use Rattle.mt_plain.specs.Names.{control}

@@ -4,7 +4,7 @@ use Rattle.std.specs.Prelude.{codes, Err}
 use Rattle.mt_macro.specs.Expansion.{run, OverBudget, NoArgument}
 use Rattle.mt_formula.proofs.Writing.{times, sym, ord}
 use Rattle.mt_scan.specs.declared.fault.ReadCause.TheVariants.{UnknownName, DoubleScript, TwoFractions, BadDelimiter, Unbalanced, MissingField, MisplacedNumber, TooDeep}
-use Rattle.mt_reader.specs.documents.Documents.{pages_from, Outside, NotExpanded, NotRead, TooManyTokens, TooManyPages}
+use Rattle.mt_reader.specs.Documents.{pages_from, Outside, NotExpanded, NotRead, TooManyTokens, TooManyPages}
 use Rattle.mt_reader.proofs.DocumentWriting.{read, after_pages, after_tokens, after_definitions, entry}
 use Rattle.mt_plain.specs.CodeTables.{plain_codes}
 use Rattle.mt_plain.specs.Names.{control}

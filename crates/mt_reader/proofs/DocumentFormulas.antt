@@ -19,16 +19,16 @@ use Rattle.mt_reader.specs.declared.outside_role.OutsideRole.TheVariants.{Passed
 use Rattle.mt_reader.specs.declared.document_error.DocError.{DocError}
 use Rattle.mt_scan.specs.Parts.{Read, ReadOr, Got, Fault, NoTurn}
 use Rattle.mt_formula.specs.Formulas.{Reading, Reads, ReadFault, NotReadInTurns, reading}
-use Rattle.mt_reader.specs.documents.Definitions.{MacroDefinition, macro_definition}
-use Rattle.mt_reader.specs.documents.Assignments.{math_code_assignment, delcode_assignment}
-use Rattle.mt_reader.specs.documents.Dollars.{begins_display, between_dollars}
-use Rattle.mt_reader.specs.documents.Documents.{DocumentState, DocumentAnswer, DocumentTurn, Goes, Ends, Stops, StopsOutside, TooManyTokens, start_state, with_page, with_table, after_definition, after_assignment, is_page_limit, after_reading, after_expansion, formula_in, formula_turn, turn_by, turn_answer, outside_role, pages_from, document}
-use Rattle.mt_reader.specs.documents.Refusals.{IsDocument}
-use Rattle.mt_reader.specs.documents.Weights.{HasFewItems, HaveFewItems, HasModestLists, IsModestDocument}
+use Rattle.mt_reader.specs.Definitions.{MacroDefinition, macro_definition}
+use Rattle.mt_reader.specs.Assignments.{math_code_assignment, delcode_assignment}
+use Rattle.mt_reader.specs.Dollars.{begins_display, between_dollars}
+use Rattle.mt_reader.specs.Documents.{DocumentState, DocumentAnswer, DocumentTurn, Goes, Ends, Stops, StopsOutside, TooManyTokens, start_state, with_page, with_table, after_definition, after_assignment, is_page_limit, after_reading, after_expansion, formula_in, formula_turn, turn_by, turn_answer, outside_role, pages_from, document}
+use Rattle.mt_reader.specs.Refusals.{IsDocument}
+use Rattle.mt_reader.specs.Weights.{HasFewItems, HaveFewItems, HasModestLists, IsModestDocument}
 use Rattle.mt_formula.proofs.ItemBounds.{HasAtMost, reading_bound}
 use Rattle.mt_formula.proofs.Nesting.{formula_modest}
 use Rattle.mt_reader.proofs.Expanding.{expanded_short}
-use Rattle.mt_reader.specs.documents.Limits.{max_total_tokens}
+use Rattle.mt_reader.specs.Limits.{max_total_tokens}
 use Rattle.mt_macro.specs.Limits.{max_tokens}
 
 module _ (P : Formula → Type 0) (units : Units) where

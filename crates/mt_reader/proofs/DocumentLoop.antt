@@ -17,11 +17,11 @@ use Rattle.mt_macro.specs.declared.expansion.ExpandError.TheVariants.{Budget, Mi
 use Rattle.mt_formula.specs.Errors.{PlacedCause, read_error_fault}
 use Rattle.mt_reader.specs.declared.document_error.DocError.{DocError}
 use Rattle.mt_reader.specs.declared.document_error.DocError.TheVariants.{Source, Outside, Expand, Read, Total, Pages, OutOfMemory}
-use Rattle.mt_reader.specs.documents.Documents.{DocumentState, DocumentFault, DocumentAnswer, DocumentTurn, Goes, Ends, Stops, StopsOutside, start_state, state_pages, with_page, is_empty_page, after_page_end, turn_by, outside_role, turn_answer, pages_from, document}
-use Rattle.mt_reader.specs.documents.Refusals.{IsExpandRefusal, IsNotRead, IsRefusal}
-use Rattle.mt_reader.specs.documents.DocumentTurns.{state_of, ends_page, turn_refusal, IsSpent, IsTaken, TakesPage, state_weight}
-use Rattle.mt_reader.specs.documents.PageReading.{IsNextPage, IsReadOf, IsTurned, read_state}
-use Rattle.mt_reader.specs.documents.Weights.{page_weight, pages_weight}
+use Rattle.mt_reader.specs.Documents.{DocumentState, DocumentFault, DocumentAnswer, DocumentTurn, Goes, Ends, Stops, StopsOutside, start_state, state_pages, with_page, is_empty_page, after_page_end, turn_by, outside_role, turn_answer, pages_from, document}
+use Rattle.mt_reader.specs.Refusals.{IsExpandRefusal, IsNotRead, IsRefusal}
+use Rattle.mt_reader.specs.DocumentTurns.{state_of, ends_page, turn_refusal, IsSpent, IsTaken, TakesPage, state_weight}
+use Rattle.mt_reader.specs.PageReading.{IsNextPage, IsReadOf, IsTurned, read_state}
+use Rattle.mt_reader.specs.Weights.{page_weight, pages_weight}
 use Rattle.mt_reader.proofs.PagesMoved.{placeholders, same_turn, turn_after}
 
 at_end : (units : Units) (whole turns : ℕ) (s : DocumentState) → pages_from units whole turns s [] ≡ Ok (state_pages s)
@@ -194,6 +194,17 @@ module _ (units : Units) (tokens : List Token) (read : List (List Formula)) (old
   pub last_none : IsReadOf units tokens read old → old.rest.now ≡ [] → old.state.page.items ≡ [] → document units plain_codes plain_table tokens ≡ Ok read
   last_none r none empty = at_last r none ∙ ap (λ (page : List Formula). Ok (with_page read page)) empty
 
+  -- nothing has changed
+  same_read : (new : PageReader) → IsReadOf units tokens read old → new.whole ≡ old.whole → new.rest.now ≡ old.rest.now → new.state ≡ old.state → IsReadOf units tokens read new
+  same_read new r whole rest state = record {
+    turns = r.turns;
+    enough = omega (arith, r.enough, ap length rest);
+    is = r.is ∙ sym (ap (pages_from units (length tokens) r.turns (read_state read new.state)) rest ∙ ap (λ (s : StateFields). pages_from units (length tokens) r.turns (read_state read s) old.rest.now) state);
+    whole = whole ∙ r.whole;
+    ended = r.ended ∙ sym (ap (λ (s : StateFields). s.ended) state);
+    weight = omega (arith, r.weight, ap length rest, ap state_weight state);
+  }
+
   pub last_page : (new : PageReader) (page : List Formula) → IsReadOf units tokens read old → old.rest.now ≡ [] → new.whole ≡ old.whole → new.rest.now ≡ old.rest.now → IsTaken page old.state new.state
       → IsReadOf units tokens (read ++ page ∷ []) new
   last_page new page r none whole rest taken =
@@ -211,7 +222,7 @@ module _ (units : Units) (tokens : List Token) (read : List (List Formula)) (old
   pub last_taken : (new : PageReader) (taken : Option (List Formula)) → IsReadOf units tokens read old → old.rest.now ≡ [] → new.whole ≡ old.whole → new.rest.now ≡ old.rest.now → TakesPage taken old.state new.state
       → IsNextPage units tokens read new (Ok taken)
   last_taken new (Some page) r none whole rest takes = last_page new page r none whole rest takes
-  last_taken new None r none whole rest takes = last_none r none takes.0
+  last_taken new None r none whole rest takes = (last_none r none takes.0, same_read new r whole rest takes.1)
 
 -- nothing is read
 pub read_none : (units : Units) (tokens : List Token) (r : PageReader) → state_of r.state ≡ start_state plain_codes plain_table → r.rest.now ≡ tokens → r.whole ≡ length tokens → IsReadOf units tokens [] r

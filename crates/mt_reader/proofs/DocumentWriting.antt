@@ -8,7 +8,7 @@ use Rattle.mt_rules.specs.Sequence.{Element}
 use Rattle.mt_plain.specs.CodeTables.{plain_codes}
 use Rattle.mt_plain.specs.PlainMacros.{plain_table}
 use Rattle.mt_rules.specs.declared.document.Formula.{Formula}
-use Rattle.mt_reader.specs.documents.Documents.{DocumentAnswer, document, document_from, start_state}
+use Rattle.mt_reader.specs.Documents.{DocumentAnswer, document, document_from, start_state}
 use Rattle.mt_formula.proofs.Writing.{tokens_of, toy_units, seq}
 
 abbrev pub source : List ℕ → List Token

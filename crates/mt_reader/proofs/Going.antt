@@ -4,6 +4,7 @@ use Rattle.std.specs.Prelude.{All, Option, Some, None, Ok, replicate}
 use Rattle.std.proofs.lemmas.List.{length-append}
 use Rattle.std.proofs.lemmas.List.Elements.{All-nil}
 use Rattle.std.proofs.lemmas.List.Sums.{sum_by-cons}
+use Rattle.mt_token.specs.Tokens.{max_source}
 use Rattle.mt_token.specs.declared.token.Token.{Token}
 use Rattle.mt_scaled.specs.declared.unit.Units.{Units}
 use Rattle.mt_plain.specs.CodeTables.{plain_codes}
@@ -12,11 +13,11 @@ use Rattle.mt_rules.specs.declared.document.Formula.{Formula}
 use Rattle.mt_reader.specs.declared.document_state.DocumentState.{DocumentState as StateFields}
 use Rattle.mt_reader.specs.declared.outside_role.OutsideRole.{OutsideRole}
 use Rattle.mt_reader.specs.declared.page_reader.PageReader.{PageReader}
-use Rattle.mt_reader.specs.documents.Documents.{DocumentState, Goes, start_state, state_pages, with_page, is_empty_page, turn_by}
-use Rattle.mt_reader.specs.documents.DocumentTurns.{state_of, IsSpent, IsTaken, TakesPage, state_weight}
-use Rattle.mt_reader.specs.documents.Limits.{max_document_pages}
-use Rattle.mt_reader.specs.documents.PageReading.{CanGoOn, GoesOn, IsBounded, IsOver}
-use Rattle.mt_reader.specs.documents.Weights.{HasModestLists, dollars, formula_weight, page_weight}
+use Rattle.mt_reader.specs.Documents.{DocumentState, Goes, start_state, state_pages, with_page, is_empty_page, turn_by}
+use Rattle.mt_reader.specs.DocumentTurns.{state_of, IsSpent, IsTaken, TakesPage, state_weight}
+use Rattle.mt_reader.specs.Limits.{max_document_pages}
+use Rattle.mt_reader.specs.PageReading.{CanGoOn, GoesOn, IsBounded, IsOver}
+use Rattle.mt_reader.specs.Weights.{HasModestLists, dollars, formula_weight, page_weight}
 use Rattle.mt_reader.proofs.DocumentFormulas.{OfTurn, turn_modest}
 use Rattle.mt_reader.proofs.Pages.{TurnFits, turn_by_fits}
 use Rattle.mt_reader.proofs.PagesMoved.{placeholders, placeholders_hold}
@@ -118,7 +119,7 @@ go_taken first old new (Some page) over whole shorter takes = over_page first ol
 go_taken first old new None over whole shorter takes = over_then first old new over (go_same old new over.more whole shorter takes.1)
 
 -- nothing is read
-pub go_start : (r : PageReader) → state_of r.state ≡ start_state plain_codes plain_table → r.whole ≡ length r.rest.now → r.whole ≤ 2 ^ 22 → CanGoOn r
+pub go_start : (r : PageReader) → state_of r.state ≡ start_state plain_codes plain_table → r.whole ≡ length r.rest.now → r.whole ≤ max_source → CanGoOn r
 go_start r start whole few =
     let page : r.state.page.items ≡ [] = ap (λ (s : DocumentState). s.page) start in
     record {

@@ -16,12 +16,12 @@ use Rattle.mt_reader.specs.declared.outside_role.OutsideRole.{OutsideRole}
 use Rattle.mt_reader.specs.declared.outside_role.OutsideRole.TheVariants.{Passed, Defines, SetsMathCode, SetsDelimiterCode, BeginsFormula, EndsPage, EndsDocument, Misplaced}
 use Rattle.mt_scan.specs.Parts.{Read, ReadOr, Got, Fault, NoTurn}
 use Rattle.mt_formula.specs.Formulas.{Reading, Reads, ReadFault, NotReadInTurns, reading}
-use Rattle.mt_reader.specs.documents.Definitions.{MacroDefinition, macro_definition}
-use Rattle.mt_reader.specs.documents.Assignments.{math_code_assignment, delcode_assignment}
-use Rattle.mt_reader.specs.documents.Dollars.{begins_display, between_dollars}
-use Rattle.mt_reader.specs.documents.Documents.{DocumentState, DocumentTurn, Goes, Ends, Stops, StopsOutside, TooManyTokens, with_table, after_definition, after_assignment, is_empty_page, is_page_limit, after_reading, after_expansion, formula_in, formula_turn, turn_by}
-use Rattle.mt_reader.specs.documents.DocumentTurns.{ends_page}
-use Rattle.mt_reader.specs.documents.Limits.{max_total_tokens, max_document_pages}
+use Rattle.mt_reader.specs.Definitions.{MacroDefinition, macro_definition}
+use Rattle.mt_reader.specs.Assignments.{math_code_assignment, delcode_assignment}
+use Rattle.mt_reader.specs.Dollars.{begins_display, between_dollars}
+use Rattle.mt_reader.specs.Documents.{DocumentState, DocumentTurn, Goes, Ends, Stops, StopsOutside, TooManyTokens, with_table, after_definition, after_assignment, is_empty_page, is_page_limit, after_reading, after_expansion, formula_in, formula_turn, turn_by}
+use Rattle.mt_reader.specs.DocumentTurns.{ends_page}
+use Rattle.mt_reader.specs.Limits.{max_total_tokens, max_document_pages}
 
 pub placeholders : (n : ℕ) → length (replicate {A = List Formula} n []) ≡ n
 placeholders zero = refl

@@ -14,8 +14,8 @@ use Rattle.mt_plain.specs.PlainMacros.{token_of, ascii_kind}
 use Rattle.mt_scaled.specs.declared.unit.Units.{Units}
 use Rattle.mt_plain.specs.CodeTables.{plain_codes}
 use Rattle.mt_plain.specs.PlainMacros.{plain_table}
-use Rattle.mt_reader.specs.documents.Documents.{document}
-use Rattle.mt_reader.specs.documents.Sources.{document_by, source_document}
+use Rattle.mt_reader.specs.Documents.{document}
+use Rattle.mt_reader.specs.Sources.{document_by, source_document}
 
 ascii_same : (kind : TokenKind) → character_code kind < 128 → ascii_kind kind ≡ kind
 ascii_same (Control name) below = refl

@@ -1,2 +1,24 @@
+-- definitions of macros
+pub mod Definitions
+-- assignments of codes
+pub mod Assignments
+-- where a formula ends
+pub mod Dollars
 -- documents
-pub mod documents
+pub mod Documents
+-- the most tokens and pages of a document
+pub mod Limits
+-- the document of a source
+pub mod Sources
+-- the numbers of causes outside of formulas
+pub mod Causes
+-- what a source is answered
+pub mod Refusals
+-- how many formulas a document has
+pub mod Weights
+-- tokens that are lent
+pub mod Lent
+-- what a turn leaves
+pub mod DocumentTurns
+-- documents that are read page by page
+pub mod PageReading

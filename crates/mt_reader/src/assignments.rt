@@ -1,9 +1,9 @@
 //! Assignments of codes (The TeXbook, chapter 17).
 ghost use Rattle.std.specs.Prelude.{◌≡◌, ◌≤◌, length, true, IfOk};
 ghost use Rattle.mt_plain.specs.CodeTables.{is_delcode};
-ghost use Rattle.mt_reader.specs.documents.Assignments.{after_equals, code_or_none, delimiter_value};
-ghost use Rattle.mt_reader.specs.documents.Assignments.{math_code_assignment, delcode_assignment};
-ghost use Rattle.mt_reader.specs.documents.Lent.{Assigns};
+ghost use Rattle.mt_reader.specs.Assignments.{after_equals, code_or_none, delimiter_value};
+ghost use Rattle.mt_reader.specs.Assignments.{math_code_assignment, delcode_assignment};
+ghost use Rattle.mt_reader.specs.Lent.{Assigns};
 ghost use Rattle.mt_scan.specs.Meets.{Meets};
 
 use mt_plain::{Codes, MAX_DELIMITER_CODE, MAX_MATH_CODE};
@@ -77,11 +77,7 @@ pub fn assign_delcode<'a>(codes: &mut Codes, tokens: &'a [Token]) -> Result<&'a 
 {
     let character = number_to(MAX_CHARACTER, tokens)?;
     let code = after_equals(after_spaces(character.rest));
-    match delimiter_value(code) {
-        Ok(value) => {
-            codes.set_delcode(character.value as u8, value.value);
-            Ok(value.rest)
-        }
-        Err(fault) => Err(fault),
-    }
+    let value = delimiter_value(code)?;
+    codes.set_delcode(character.value as u8, value.value);
+    Ok(value.rest)
 }

@@ -2,14 +2,14 @@
 ghost use Rattle.std.specs.Prelude.{◌≡◌, ◌≤◌, ◌<◌, ◌+◌, ◌==◌, length, IfOk};
 ghost use Rattle.mt_token.specs.Character.{character_code};
 ghost use Rattle.mt_macro.specs.Parameters.{first_bad_parameter};
-ghost use Rattle.mt_reader.specs.documents.Definitions.{is_parameter, after_parameters, parameters};
-ghost use Rattle.mt_reader.specs.documents.Definitions.{checked_body, definition_body, definition_of_name};
-ghost use Rattle.mt_reader.specs.documents.Definitions.{macro_definition};
-ghost use Rattle.mt_reader.specs.documents.Lent.{MeetsOutside, MeetsDefinition, taken_tokens};
+ghost use Rattle.mt_reader.specs.Definitions.{is_parameter, after_parameters, parameters};
+ghost use Rattle.mt_reader.specs.Definitions.{checked_body, definition_body, definition_of_name};
+ghost use Rattle.mt_reader.specs.Definitions.{macro_definition};
+ghost use Rattle.mt_reader.specs.Lent.{MeetsOutside, MeetsDefinition, taken_tokens};
 ghost use Rattle.mt_reader.specs.declared.outside_cause.OutsideCause.TheVariants.{BadDefinition};
 
+use crate::dollars::{Taken, between_braces};
 use crate::outside_cause::OutsideCause;
-use crate::taken::{Taken, between_braces};
 use mt_macro::{first_bad_parameter, is_open};
 use mt_scaled::Name;
 use mt_scan::Scanned;

@@ -1,5 +1,5 @@
 //! What has been read of a document.
-ghost use Rattle.std.specs.Prelude.{◌≡◌, ◌≤◌, ◌<◌, ◌+◌, ◌-◌, ◌^◌, ◌==◌, ◌&&◌, length, nat_lt, pos, IfOk, OnOk, OnErr, IsTrue};
+ghost use Rattle.std.specs.Prelude.{◌≡◌, ◌≤◌, ◌<◌, ◌+◌, ◌-◌, ◌^◌, ◌==◌, ◌&&◌, ◌↔◌, length, nat_lt, pos, IfOk, OnOk, OnErr, IsTrue};
 ghost use Rattle.mt_scaled.specs.Number.{Within};
 ghost use Rattle.mt_plain.specs.CodeTables.{plain_codes};
 ghost use Rattle.mt_plain.specs.PlainMacros.{plain_table};
@@ -7,10 +7,10 @@ ghost use Rattle.mt_macro.specs.Definition.{define, Answers};
 ghost use Rattle.mt_macro.specs.Expansion.{Expanded, Expands, expansion};
 ghost use Rattle.mt_formula.specs.Answers.{ReadsAs};
 ghost use Rattle.mt_formula.specs.Formulas.{reading};
-ghost use Rattle.mt_reader.specs.documents.Assignments.{math_code_assignment, delcode_assignment};
-ghost use Rattle.mt_reader.specs.documents.Documents.{start_state, is_page_limit, with_formula};
-ghost use Rattle.mt_reader.specs.documents.DocumentTurns.{state_of, SetsTables, TakesPage, changes_macros};
-ghost use Rattle.mt_reader.specs.documents.Limits.{max_total_tokens};
+ghost use Rattle.mt_reader.specs.Assignments.{math_code_assignment, delcode_assignment};
+ghost use Rattle.mt_reader.specs.Documents.{start_state, is_page_limit, with_formula};
+ghost use Rattle.mt_reader.specs.DocumentTurns.{state_of, SetsTables, TakesPage, changes_macros};
+ghost use Rattle.mt_reader.specs.Limits.{max_total_tokens};
 ghost use Rattle.mt_macro.specs.Limits.{max_tokens};
 
 use crate::assignments::{assign_delcode, assign_math_code};
@@ -58,7 +58,7 @@ impl DocumentState {
     }
 
     /// The number of the next formula.
-    pub fn next(&self) -> u32
+    pub fn next_number(&self) -> u32
         requires { self.now.count < 2 ^ 32 - 1 }
         ensures { result ≡ self.now.count + 1 }
     {
@@ -107,7 +107,7 @@ impl DocumentState {
 
     /// Whether a formula is read by its tokens as they are, since nothing in them is to be expanded.
     pub fn is_expanded(&self, tokens: &[Token]) -> bool
-        ensures is { IsTrue result → expansion self.now.macros tokens.now ≡ Expanded tokens.now }
+        ensures is { IsTrue result ↔ (expansion self.now.macros tokens.now ≡ Expanded tokens.now) }
         ensures short { IsTrue result → length tokens.now ≤ max_tokens }
     {
         expands_to_itself(&self.macros, tokens)

@@ -1,24 +1,23 @@
 //! What becomes of a token outside of formulas, and of those after it.
 ghost use Rattle.std.specs.Prelude.{◌≡◌, ℕ, ◌≤◌, ◌<◌, ◌+◌, ◌-◌, ◌^◌, false, length};
 ghost use Rattle.mt_scaled.specs.Number.{Within};
-ghost use Rattle.mt_reader.specs.documents.Definitions.{macro_definition};
-ghost use Rattle.mt_reader.specs.documents.Assignments.{math_code_assignment, delcode_assignment};
-ghost use Rattle.mt_reader.specs.documents.Documents.{after_definition, after_assignment, after_reading};
-ghost use Rattle.mt_reader.specs.documents.Documents.{after_expansion, formula_turn, is_page_limit, turn_by};
+ghost use Rattle.mt_reader.specs.Definitions.{macro_definition};
+ghost use Rattle.mt_reader.specs.Assignments.{math_code_assignment, delcode_assignment};
+ghost use Rattle.mt_reader.specs.Documents.{after_definition, after_assignment, after_reading};
+ghost use Rattle.mt_reader.specs.Documents.{after_expansion, formula_turn, is_page_limit, turn_by};
 ghost use Rattle.mt_macro.specs.Expansion.{Expanded, expansion};
 ghost use Rattle.mt_formula.specs.Formulas.{reading};
-ghost use Rattle.mt_reader.specs.documents.DocumentTurns.{state_of, MeetsTurn, Spends, ReadsOne};
-ghost use Rattle.mt_reader.specs.documents.DocumentTurns.{ends_page, expand_error, read_error};
-ghost use Rattle.mt_reader.specs.documents.Limits.{max_total_tokens};
+ghost use Rattle.mt_reader.specs.DocumentTurns.{state_of, MeetsTurn, Spends, ReadsOne};
+ghost use Rattle.mt_reader.specs.DocumentTurns.{ends_page, expand_error, read_error};
+ghost use Rattle.mt_reader.specs.Limits.{max_total_tokens};
 ghost use Rattle.mt_macro.specs.Limits.{max_tokens};
 
 use crate::definitions::macro_definition;
 use crate::document_error::DocError;
 use crate::document_state::{DocumentState, MAX_DOCUMENT_PAGES};
-use crate::dollars::{begins_display, between_dollars};
+use crate::dollars::{Taken, begins_display, between_dollars};
 use crate::outside_cause::OutsideCause;
 use crate::outside_role::OutsideRole;
-use crate::taken::Taken;
 use mt_formula::ReadError;
 use mt_macro::{ExpandError, MacroError};
 use mt_scaled::Units;
@@ -47,10 +46,25 @@ fn outside(state: &DocumentState, whole: usize, cause: OutsideCause, left: usize
     ensures { result ≡ DocError.Outside (state.now.count + 1) (whole - left) cause }
 {
     DocError::Outside {
-        n: state.next(),
+        n: state.next_number(),
         place: whole.saturating_sub(left) as u32,
         cause,
     }
+}
+
+// A fault at the token before these, which are the last of the source.
+fn outside_before(
+    state: &DocumentState,
+    whole: usize,
+    cause: OutsideCause,
+    after: &[Token],
+) -> DocError
+    requires count { state.now.count < 2 ^ 32 - 1 }
+    requires whole { whole < 2 ^ 32 }
+    requires after { length after.now < whole }
+    ensures { result ≡ DocError.Outside (state.now.count + 1) (whole - (length after.now + 1)) cause }
+{
+    outside(state, whole, cause, after.len() + 1)
 }
 
 // What becomes of `\def` and the tokens after it.
@@ -71,10 +85,7 @@ fn definition_turn<'a>(
         Ok(part) => match state.define(&part.value) {
             Ok(()) => Ok(AfterTurn::Left(part.rest)),
             Err(MacroError::OutOfMemory) => Err(DocError::OutOfMemory),
-            Err(_) => {
-                let left = tokens.len() + 1;
-                Err(outside(state, whole, OutsideCause::TooManyNames, left))
-            }
+            Err(_) => Err(outside_before(state, whole, OutsideCause::TooManyNames, tokens)),
         },
         Err(fault) => Err(outside(state, whole, fault.cause, fault.left)),
     }
@@ -96,10 +107,7 @@ fn math_code_turn<'a>(
 {
     match state.assign_math_code(tokens) {
         Ok(rest) => Ok(AfterTurn::Left(rest)),
-        Err(_) => {
-            let left = tokens.len() + 1;
-            Err(outside(state, whole, OutsideCause::BadAssignment, left))
-        }
+        Err(_) => Err(outside_before(state, whole, OutsideCause::BadAssignment, tokens)),
     }
 }
 
@@ -119,10 +127,7 @@ fn delcode_turn<'a>(
 {
     match state.assign_delcode(tokens) {
         Ok(rest) => Ok(AfterTurn::Left(rest)),
-        Err(_) => {
-            let left = tokens.len() + 1;
-            Err(outside(state, whole, OutsideCause::BadAssignment, left))
-        }
+        Err(_) => Err(outside_before(state, whole, OutsideCause::BadAssignment, tokens)),
     }
 }
 
@@ -170,7 +175,7 @@ fn read_expanded<'a>(
             Ok(()) => Ok(AfterTurn::Left(rest)),
             Err(_) => Err(DocError::OutOfMemory),
         },
-        Err(cause) => Err(read_error(state.next(), cause)),
+        Err(cause) => Err(read_error(state.next_number(), cause)),
     }
 }
 
@@ -195,7 +200,7 @@ fn count_expanded<'a>(
     let total = state.total_with(list);
     if total > MAX_TOTAL_TOKENS {
         return Err(DocError::Total {
-            n: state.next(),
+            n: state.next_number(),
             count: total,
         });
     }
@@ -223,7 +228,7 @@ fn formula_between<'a>(
     }
     match state.expand(alloc, taken.argument) {
         Ok(list) => count_expanded(alloc, units, state, display, list.as_slice(), taken.after),
-        Err(cause) => Err(expand_error(state.next(), cause)),
+        Err(cause) => Err(expand_error(state.next_number(), cause)),
     }
 }
 
@@ -250,10 +255,7 @@ fn formula_turn<'a>(
     }
     match between_dollars(tokens) {
         Some(taken) => formula_between(alloc, units, state, begins_display(tokens), taken),
-        None => {
-            let left = tokens.len() + 1;
-            Err(outside(state, whole, OutsideCause::OpenFormula, left))
-        }
+        None => Err(outside_before(state, whole, OutsideCause::OpenFormula, tokens)),
     }
 }
 
@@ -285,9 +287,11 @@ pub fn document_turn<'a>(
         OutsideRole::BeginsFormula => formula_turn(alloc, units, state, whole, tokens),
         OutsideRole::EndsPage => unreachable!(),
         OutsideRole::EndsDocument => Ok(AfterTurn::Ended),
-        OutsideRole::Misplaced => {
-            let left = tokens.len() + 1;
-            Err(outside(state, whole, OutsideCause::Misplaced, left))
-        }
+        OutsideRole::Misplaced => Err(outside_before(
+            state,
+            whole,
+            OutsideCause::Misplaced,
+            tokens,
+        )),
     }
 }

@@ -1,13 +1,14 @@
 //! Documents.
-ghost use Rattle.std.specs.Prelude.{◌≡◌, ◌≤◌, ◌^◌, ◌++◌, ◌∷◌, [], length, IfOk, OnOk};
+ghost use Rattle.std.specs.Prelude.{◌≡◌, ◌≤◌, ◌^◌, ◌++◌, ◌∷◌, [], length, map, IfOk, Ok, OnOk};
 ghost use Rattle.mt_scaled.specs.Number.{Within};
+ghost use Rattle.mt_token.specs.Tokens.{max_source, source_tokens, spanned};
 ghost use Rattle.mt_plain.specs.CodeTables.{plain_codes};
 ghost use Rattle.mt_plain.specs.PlainMacros.{plain_table};
-ghost use Rattle.mt_reader.specs.documents.Documents.{document};
-ghost use Rattle.mt_reader.specs.documents.Sources.{AreSourceTokens, source_document};
-ghost use Rattle.mt_reader.specs.documents.Refusals.{IsDocument};
-ghost use Rattle.mt_reader.specs.documents.Weights.{pages_weight, HaveFewItems, IsModestDocument};
-ghost use Rattle.mt_reader.specs.documents.Limits.{max_document_pages};
+ghost use Rattle.mt_reader.specs.Documents.{document};
+ghost use Rattle.mt_reader.specs.Sources.{AreSourceTokens, source_document};
+ghost use Rattle.mt_reader.specs.Refusals.{IsDocument};
+ghost use Rattle.mt_reader.specs.Weights.{pages_weight, HaveFewItems, IsModestDocument};
+ghost use Rattle.mt_reader.specs.Limits.{max_document_pages};
 
 use crate::document_error::DocError;
 use crate::page_reader::PageReader;
@@ -22,8 +23,9 @@ use std::alloc::{AllocError, Global};
 ///
 /// Why it has none; `OutOfMemory` where memory ran out.
 pub fn source_tokens(alloc: Global, bytes: &[u8]) -> Result<TokenList, DocError>
+    ensures tokens { IfOk result (λ list. source_tokens bytes.now ≡ Ok (map spanned list)) }
     ensures is { (units : Units) → AreSourceTokens units bytes.now result }
-    ensures few { IfOk result (λ list. length list ≤ 2 ^ 22) }
+    ensures few { IfOk result (λ list. length list ≤ max_source) }
 {
     match tokens(alloc, bytes) {
         Ok(list) => Ok(list),
@@ -43,7 +45,7 @@ fn push_page(pages: &mut Vec<Page>, page: Page) -> Result<(), AllocError>
 fn document_of(alloc: Global, units: Units, tokens: &[Token]) -> Result<Document, DocError>
     requires em { Within (2 ^ 31) units.em }
     requires ex { Within (2 ^ 31) units.ex }
-    requires tokens { length tokens.now ≤ 2 ^ 22 }
+    requires tokens { length tokens.now ≤ max_source }
     ensures is { IsDocument result (document units plain_codes plain_table tokens.now) }
     ensures few { IfOk result (λ pages. pages_weight pages ≤ 2 ^ 21) }
 {

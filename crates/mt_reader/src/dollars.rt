@@ -1,13 +1,36 @@
-//! The tokens of a formula, between its dollars (The TeXbook, chapter 24).
+//! Tokens between braces, and those of a formula, between its dollars (The TeXbook, chapters 20 and 24).
 ghost use Rattle.std.specs.Prelude.{◌≡◌, ◌≤◌, ◌<◌, ◌+◌, ◌*◌, ◌==◌, ◌&&◌, length, IfSome, IsTrue};
-ghost use Rattle.mt_reader.specs.documents.Dollars.{is_math_shift_token, begins_with_dollar, ends_formula};
-ghost use Rattle.mt_reader.specs.documents.Dollars.{after_end, up_to_end, begins_display, between_dollars};
-ghost use Rattle.mt_reader.specs.documents.Lent.{TakesAs};
-ghost use Rattle.mt_reader.specs.documents.Weights.{dollars};
+ghost use Rattle.mt_macro.specs.Braces.{group};
+ghost use Rattle.mt_reader.specs.Dollars.{is_math_shift_token, begins_with_dollar, ends_formula};
+ghost use Rattle.mt_reader.specs.Dollars.{after_end, up_to_end, begins_display, between_dollars};
+ghost use Rattle.mt_reader.specs.Lent.{TakesAs};
+ghost use Rattle.mt_reader.specs.Weights.{dollars};
 
-use crate::taken::Taken;
-use mt_macro::{closes_none, level_after};
+use mt_macro::{closes_none, closing_brace, level_after};
 use mt_token::{Token, character_code};
+
+/// Tokens that were taken, and those after them.
+#[derive(Clone, Copy)]
+pub struct Taken<'a> {
+    /// The tokens that were taken.
+    pub argument: &'a [Token],
+    /// The tokens after them and after what ends them.
+    pub after: &'a [Token],
+}
+
+/// What stands in a group after its `{`, and what follows the group; `None` where it does not end.
+pub fn between_braces<'a>(tokens: &'a [Token]) -> Option<Taken<'a>>
+    ensures is { TakesAs result (group 0 tokens.now) }
+    ensures falls { IfSome result (λ t. length t.argument.now + length t.after.now < length tokens.now) }
+{
+    match closing_brace(tokens) {
+        Some(index) => Some(Taken {
+            argument: &tokens[..index],
+            after: &tokens[index + 1..],
+        }),
+        None => None,
+    }
+}
 
 fn is_dollar(token: &Token) -> bool
     ensures { result ≡ is_math_shift_token token.now }

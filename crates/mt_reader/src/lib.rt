@@ -11,7 +11,6 @@ mod dollars;
 mod outside_cause;
 mod outside_role;
 mod page_reader;
-mod taken;
 
 pub use document_error::DocError;
 pub use documents::{read_document, source_tokens};

@@ -1,7 +1,8 @@
 //! Why a token outside of formulas is refused.
 ghost use Rattle.std.specs.Prelude.{◌≡◌};
-ghost use Rattle.mt_reader.specs.documents.Causes.{outside_number};
+ghost use Rattle.mt_reader.specs.Causes.{outside_number};
 
+use mt_token::FIRST_OUTSIDE_CAUSE;
 use thiserror::Error;
 
 /// Why a token outside of formulas is refused. Its place is an index in the tokens of the source, counted from 0.
@@ -29,17 +30,17 @@ pub enum OutsideCause {
 }
 
 impl OutsideCause {
-    /// The number of the cause, from 31 to 36.
+    /// The number of the cause, from [`FIRST_OUTSIDE_CAUSE`] in the order of the variants.
     pub fn number(self) -> u8
         ensures { result ≡ outside_number self }
     {
         match self {
-            OutsideCause::Misplaced => 31,
-            OutsideCause::OpenFormula => 32,
-            OutsideCause::BadDefinition => 33,
-            OutsideCause::OpenBody => 34,
-            OutsideCause::TooManyNames => 35,
-            OutsideCause::BadAssignment => 36,
+            OutsideCause::Misplaced => FIRST_OUTSIDE_CAUSE,
+            OutsideCause::OpenFormula => FIRST_OUTSIDE_CAUSE + 1,
+            OutsideCause::BadDefinition => FIRST_OUTSIDE_CAUSE + 2,
+            OutsideCause::OpenBody => FIRST_OUTSIDE_CAUSE + 3,
+            OutsideCause::TooManyNames => FIRST_OUTSIDE_CAUSE + 4,
+            OutsideCause::BadAssignment => FIRST_OUTSIDE_CAUSE + 5,
         }
     }
 }

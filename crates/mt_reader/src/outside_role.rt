@@ -1,6 +1,6 @@
 //! What a token is outside of formulas.
 ghost use Rattle.std.specs.Prelude.{◌≡◌};
-ghost use Rattle.mt_reader.specs.documents.Documents.{outside_name_role, outside_role};
+ghost use Rattle.mt_reader.specs.Documents.{outside_name_role, outside_role};
 
 use mt_token::{Token, TokenKind};
 
@@ -26,7 +26,7 @@ pub enum OutsideRole {
 }
 
 impl OutsideRole {
-    ghost use Rattle.mt_reader.specs.documents.DocumentTurns.{ends_page};
+    ghost use Rattle.mt_reader.specs.DocumentTurns.{ends_page};
 
     /// Whether it ends a page.
     pub fn ends_page(self) -> bool

@@ -1,9 +1,10 @@
 //! A document that is read page by page.
 ghost use Rattle.std.specs.Prelude.{◌≡◌, ◌≤◌, ◌<◌, ◌^◌, [], ◌∷◌, List, IfOk, length};
 ghost use Rattle.mt_scaled.specs.Number.{Within};
+ghost use Rattle.mt_token.specs.Tokens.{max_source};
 ghost use Rattle.mt_token.specs.declared.token.Token.{Token as TokenFields};
 ghost use Rattle.mt_rules.specs.declared.document.Formula.{Formula};
-ghost use Rattle.mt_reader.specs.documents.PageReading.{CanGoOn, GoesOn, IsNextPage, IsReadOf, IsTurned};
+ghost use Rattle.mt_reader.specs.PageReading.{CanGoOn, GoesOn, IsNextPage, IsReadOf, IsTurned};
 
 use crate::document_error::DocError;
 use crate::document_state::DocumentState;
@@ -26,7 +27,7 @@ pub struct PageReader<'a> {
 impl<'a> PageReader<'a> {
     /// The pages that these tokens make, with plain TeX's codes and macros at their start. None of them is read yet.
     pub fn new(alloc: Global, tokens: &'a [Token]) -> Result<PageReader<'a>, AllocError>
-        requires { length tokens.now ≤ 2 ^ 22 }
+        requires { length tokens.now ≤ max_source }
         ensures is { IfOk result (λ reader. (units : Units) → IsReadOf units tokens.now [] reader) }
         ensures more { IfOk result CanGoOn }
     {

@@ -1,4 +1,4 @@
--- A source that is set, in one of the forms in which it is put out (`IsPutOut`, `IsSetAs`).
+-- A source that is set, in one of its forms (`IsPutOut`, `IsTypesetStep`).
 use Rattle.std.specs.Prelude.{◌≡◌, ℕ, List, Option, Result, Ok, Err}
 use Rattle.mt_outside.specs.declared.files.Held.{Held}
 use Rattle.mt_dvi.specs.Lean.{Lean}
@@ -37,6 +37,6 @@ abbrev pub StepPutsOut : CabinetValue → CabinetValue → (List Held → Outcom
 StepPutsOut before now steps form (Ok bytes) = PutsOut before now steps form bytes
 StepPutsOut before now steps form (Err status) = StepLeaves before now steps (Err status)
 
-abbrev pub IsSetAs : {C : Type 0} → (C → Option (List Held)) → (C → ℕ) → (C → Option (List ℕ)) → C → C → (List Held → Outcome TypesetValue) → Form → Result (List ℕ) Status → Type 0
-IsSetAs holds faults lost before now steps form result =
+abbrev pub IsTypesetStep : {C : Type 0} → (C → Option (List Held)) → (C → ℕ) → (C → Option (List ℕ)) → C → C → (List Held → Outcome TypesetValue) → Form → Result (List ℕ) Status → Type 0
+IsTypesetStep holds faults lost before now steps form result =
     StepPutsOut (record { holds = holds before; faults = faults before; lost = lost before }) (record { holds = holds now; faults = faults now; lost = lost now }) steps form result

@@ -6,7 +6,7 @@ use Rattle.mathset.specs.Ends.{Gives, GotLean, GotPart, IsQuiet, IsReadFaultOrNo
 use Rattle.mathset.specs.Outcome.{Outcome}
 use Rattle.mathset.specs.Product.{IsLean, Makes, Product}
 use Rattle.mt_status.specs.declared.status.Status.{Status}
-use Rattle.mt_status.specs.declared.status.Status.TheVariants.{Done, ReadFault, WriteFault, OutOfMemory}
+use Rattle.mt_status.specs.declared.status.Status.TheVariants.{Done, ReadFault, WriteFault}
 
 -- no step refused, and the output got the whole product, which is lean
 pub record WritesWholeLean (holds : Option (List Held)) (steps : List Held → Outcome Product) (before now : Option (List ℕ)) : Type 0 where
@@ -28,7 +28,6 @@ pub record IsRun {C K : Type 0} (holds : C → Option (List Held)) (reads : C �
 abbrev pub LeavesOutput : {K : Type 0} → (K → Option (List ℕ)) → (K → ℕ) → Product → K → K → Status → Type 0
 LeavesOutput written writes product out out' Done = (writes out' ≡ writes out) × GotLean product (written out) (written out')
 LeavesOutput written writes product out out' (WriteFault count) = Rose (writes out) (writes out') × GotPart product count (written out) (written out')
-LeavesOutput written writes product out out' OutOfMemory = out' ≡ out
 LeavesOutput written writes product out out' status = ⊥
 
 -- what the end of a run leaves: what was made is written, or the refusal is the status

@@ -182,10 +182,10 @@ fn tells_the_first_fault_of_setting(rt: HostRuntime) {
 fn tells_a_fault_of_setting_before_one_of_a_place(rt: HostRuntime) {
     let alloc = rt.alloc();
     let fonts = fonts(&rt, alloc, Some(NO_ROMAN));
-    // Line 1,367 is more than 16384pt below the first.
+    // The baseline of line 1,366 is 16385pt below the top of the page.
     let lines = repeated(&rt, alloc, 1_400, b"", b"$a$ ", b"");
     let status = refusal(&rt, alloc, &fonts, &lines);
-    assert!(rt; matches!(status, Status::Overflow { .. }));
+    assert!(rt; matches!(status, Status::Overflow { n: 1_366, .. }));
     let source = repeated(&rt, alloc, 1_400, b"", b"$a$ ", b"\\eject$a^1$");
     let status = refusal(&rt, alloc, &fonts, &source);
     assert!(rt; matches!(status, Status::MissingFamily { n: 1_401, .. }));

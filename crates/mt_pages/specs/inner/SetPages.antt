@@ -11,34 +11,34 @@ use Rattle.mt_dvi.specs.WrittenPlaces.{all_places}
 use Rattle.mt_plain.specs.CodeTables.{plain_codes}
 use Rattle.mt_plain.specs.PlainMacros.{plain_table}
 use Rattle.mt_rules.specs.declared.document.Formula.{Formula}
-use Rattle.mt_reader.specs.documents.Documents.{document}
-use Rattle.mt_reader.specs.documents.Limits.{max_document_pages}
-use Rattle.mt_reader.specs.documents.PageReading.{CanGoOn, IsReadOf, left_to_read}
+use Rattle.mt_reader.specs.Documents.{document}
+use Rattle.mt_reader.specs.Limits.{max_document_pages}
+use Rattle.mt_reader.specs.PageReading.{CanGoOn, IsReadOf, left_to_read}
 use Rattle.mt_pages.specs.Documents.{document_from, document_of}
 use Rattle.mt_pages.specs.Pages.{document_lines, document_pages, source_pages}
 use Rattle.mt_pages.specs.inner.Placed.{PlacedValue, place_rest}
-use Rattle.mt_pages.specs.declared.pages.Held.{Held}
-use Rattle.mt_pages.specs.declared.pages.Held.TheVariants.{Nothing, Place as HeldPlace, Setting as HeldSetting}
+use Rattle.mt_pages.specs.declared.pages.FirstFault.{FirstFault}
+use Rattle.mt_pages.specs.declared.pages.FirstFault.TheVariants.{Nothing, Place as HeldPlace, Setting as HeldSetting}
 use Rattle.mt_pages.specs.declared.pages.PageSetter.{PageSetter}
 use Rattle.mt_status.specs.Origins.{IsPure, Told, refusal_origin}
 use Rattle.mt_status.specs.declared.status.Status.{Status}
 
-abbrev pub is_nothing : Held → Bool
+abbrev pub is_nothing : FirstFault → Bool
 is_nothing Nothing = true
 is_nothing held = false
 
-abbrev pub is_setting : Held → Bool
+abbrev pub is_setting : FirstFault → Bool
 is_setting (HeldSetting status) = true
 is_setting held = false
 
 -- what is held back is a refusal that the source gives
-abbrev pub IsTold : Held → Type 0
+abbrev pub IsTold : FirstFault → Type 0
 IsTold Nothing = ⊤
 IsTold (HeldPlace status) = refusal_origin status ≡ Told
 IsTold (HeldSetting status) = refusal_origin status ≡ Told
 
 -- the answer where nothing more is read
-abbrev pub end_of : Held → Result (Option (List Place)) Status
+abbrev pub end_of : FirstFault → Result (Option (List Place)) Status
 end_of Nothing = Ok None
 end_of (HeldPlace status) = Err status
 end_of (HeldSetting status) = Err status
@@ -53,7 +53,7 @@ abbrev pub rest_pages : SetValue → ℤ → Result PlacedValue Status → List 
 rest_pages set width placed pages = document_lines set width pages >>= place_rest placed
 
 -- the same, where these pages are placed and there is room for so many places more, or by the fault that is held back
-abbrev pub rest_after : SetValue → ℤ → List (List Place) → ℕ → Held → List (List Formula) → Result (List (List Place)) Status
+abbrev pub rest_after : SetValue → ℤ → List (List Place) → ℕ → FirstFault → List (List Formula) → Result (List (List Place)) Status
 rest_after set width pages room Nothing rest = rest_pages set width (Ok (record { pages = pages; room = room })) rest
 rest_after set width pages room (HeldPlace status) rest = rest_pages set width (Err status) rest
 rest_after set width pages room (HeldSetting status) rest = Err status
@@ -80,18 +80,18 @@ pub record KeepsPlaces (old new : PageSetter) : Type 0 where
   pub room : new.room ≡ old.room
   pub held : new.held ≡ old.held
 
-abbrev pub with_places : List (List Place) → Option (List Place) → List (List Place)
-with_places pages None = pages
-with_places pages (Some places) = pages ++ places ∷ []
+abbrev pub append_page : List (List Place) → Option (List Place) → List (List Place)
+append_page pages None = pages
+append_page pages (Some places) = pages ++ places ∷ []
 
 abbrev pub count_places : Option (List Place) → ℕ
 count_places None = 0
 count_places (Some places) = length places
 
 -- a page is set and placed, or a fault is held back
-pub record IsSet (fonts : SetValue) (width : ℤ) (page : List Formula) (old new : PageSetter) (places : Option (List Place)) : Type 0 where
+pub record SetsPage (fonts : SetValue) (width : ℤ) (page : List Formula) (old new : PageSetter) (places : Option (List Place)) : Type 0 where
   pub is : (pages : List (List Place)) (rest : List (List Formula))
-      → rest_after fonts width pages old.room old.held (page ∷ rest) ≡ rest_after fonts width (with_places pages places) new.room new.held rest
+      → rest_after fonts width pages old.room old.held (page ∷ rest) ≡ rest_after fonts width (append_page pages places) new.room new.held rest
   pub told : IsTold old.held → IsTold new.held
   pub room : count_places places + new.room ≡ old.room
 

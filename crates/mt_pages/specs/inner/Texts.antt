@@ -1,5 +1,5 @@
 -- Texts to which pages are added: a listing (`IsListingOf`) and the counts of a summary (`AreCountsOf`).
-use Rattle.std.specs.Prelude.{◌≡◌, ◌≤◌, ◌<◌, ◌-◌, ◌^◌, List, length, count_by}
+use Rattle.std.specs.Prelude.{◌≡◌, ◌≤◌, ◌<◌, ◌+◌, ◌-◌, ◌^◌, List, length, count_by}
 use Rattle.mt_box.specs.declared.place.Place.{Place}
 use Rattle.mt_dvi.specs.WrittenPlaces.{all_places}
 use Rattle.mt_pages.specs.Listing.{is_glyph_place, is_rule_place, pages_text}
@@ -20,5 +20,10 @@ pub record AreCountsOf (pages : List (List Place)) (counts : Counts) : Type 0 wh
 -- one page more can be counted
 pub record HasRoom (counts : Counts) : Type 0 where
   pub pages : counts.pages < 2 ^ 64 - 1
-  pub glyphs : counts.glyphs ≤ 2 ^ 127
-  pub rules : counts.rules ≤ 2 ^ 127
+  pub glyphs : counts.glyphs < 2 ^ 128 - 2 ^ 64
+  pub rules : counts.rules < 2 ^ 128 - 2 ^ 64
+
+-- a page has fewer than 2^64 places
+pub record GrowsByPage (old new : Counts) : Type 0 where
+  pub glyphs : new.glyphs < old.glyphs + 2 ^ 64
+  pub rules : new.rules < old.rules + 2 ^ 64

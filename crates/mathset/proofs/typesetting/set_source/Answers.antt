@@ -14,8 +14,8 @@ pub returns : goal.returns
 returns g c = record {
   is =
       rw (← c.words.view_is)
-      (put_step _ _ (file_of c.words.inside.source.now max_source) _ (typeset_of c.args.fonts.now c.words.inside.line) c.args.form c.put_out.result c.in_ok-source.ensures.is
-      (rw (line_kept c.words.inside.line c.words.invariant.0 c.words.invariant.1, c.as_slice.ensures) at c.put_out.ensures.is));
+      (put_step _ _ (file_of c.words.inside.source.now max_source) _ (typeset_of c.args.fonts.now c.words.inside.line) c.args.form c.source_in_form.result c.in_ok-source.ensures.is
+      (rw (line_kept c.words.inside.line c.words.invariant.0 c.words.invariant.1, c.as_slice.ensures) at c.source_in_form.ensures.is));
 }
 
 pub returns-in_err-source : goal.returns-in_err-source

@@ -8,8 +8,8 @@ use Rattle.mt_dvi.specs.WrittenPlaces.{all_places}
 use Rattle.mt_dvi.proofs.FileLemmas.{all_taken, can_take, taken}
 use Rattle.mt_dvi.proofs.write.write_dvi.Goals as goal
 
-pub page-requires : goal.page-requires
-page-requires c =
+pub add_page-requires : goal.add_page-requires
+add_page-requires c =
     let pages = c.as_slice-pages.result.now in
     let few : length pages ≤ max_dvi_pages = omega (arith, c.if-pages-gt-MAX_DVI_PAGES.false) in
     let places : length (all_places pages) ≤ max_places = omega (arith, c.if-count-gt-MAX_PLACES.false, c.count_places-count.ensures) in
@@ -18,7 +18,7 @@ page-requires c =
 
 pub loop-page-preserved : goal.loop-page-preserved
 loop-page-preserved c =
-    taken c.args.fonts.now c.as_slice-pages.result.now c.loop-page.page-index c.page-item.result c.as_slice.result.now _ c.loop-page-test.true (c.as_slice.ensures ∙ c.page-item.is) (c.in_ok-page.ensures _ c.loop-page.invariant)
+    taken c.args.fonts.now c.as_slice-pages.result.now c.loop-page.page-index c.page-item.result c.as_slice.result.now _ c.loop-page-test.true (c.as_slice.ensures ∙ c.page-item.is) (c.in_ok-add_page.ensures _ c.loop-page.invariant)
 
 pub returns-clause-written : goal.returns-clause-written
 returns-clause-written c =

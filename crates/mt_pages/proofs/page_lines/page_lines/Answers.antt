@@ -4,7 +4,7 @@ use Rattle.std.specs.Vec.Iter.{into_iter_items}
 use Rattle.std.proofs.lemmas.List.Elements.{All-tail}
 use Rattle.mt_display.specs.declared.line.Line.{Line as LineFields}
 use Rattle.mt_display.specs.Lines.{line_values}
-use Rattle.mt_reader.specs.documents.Weights.{HasModestLists, formula_weight, page_weight}
+use Rattle.mt_reader.specs.Weights.{HasModestLists, formula_weight, page_weight}
 use Rattle.mt_rules.specs.declared.document.Formula.{Formula}
 use Rattle.mt_pages.specs.Pages.{PageLinesValue, page_lines}
 use Rattle.mt_pages.specs.inner.Lines.{AreLaid, page_value}

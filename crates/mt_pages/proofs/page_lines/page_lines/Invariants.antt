@@ -1,7 +1,7 @@
 use Rattle.std.proofs.Common.{◌≡◌, ◌++◌, length}
 use Rattle.std.specs.Prelude.{All}
 use Rattle.std.specs.Vec.Iter.{into_iter_items, into_iter_len}
-use Rattle.mt_reader.specs.documents.Weights.{HasModestLists, page_weight}
+use Rattle.mt_reader.specs.Weights.{HasModestLists, page_weight}
 use Rattle.mt_pages.specs.Pages.{no_lines, page_lines}
 use Rattle.mt_pages.specs.inner.Lines.{AreLaid, page_value}
 use Rattle.mt_pages.proofs.page_lines.page_lines.Given as goal

@@ -18,8 +18,8 @@ loop-file-init c = record {
   more = c.in_ok-setter.ensures.more;
 }
 
-pub page-requires : goal.page-requires
-page-requires c =
+pub add_page-requires : goal.add_page-requires
+add_page-requires c =
     let so = c.loop-file.invariant.so_far in
     let on = after_some c.args.fonts.now c.loop-file.setter c.next_page.new.self c.in_ok-places.field-0 c.in-Some.places c.in-Some.is c.in_ok-places.ensures.more in
     subst (λ (l : List Place). CanTake c.args.fonts.now c.loop-file.file l) (sym c.as_slice-in-Some.ensures)
@@ -50,7 +50,7 @@ loop-file-preserved c =
       so_far = record {
         pages = so.pages ++ c.in-Some.places ∷ [];
         are = next_some c.args.fonts.now _ c.args.source.now so.pages c.next_page.new.self c.in_ok-places.field-0 c.in-Some.places c.in-Some.is (c.in_ok-places.ensures.is c.args.source.now so.pages so.are);
-        file_of = subst (λ (l : List Place). IsFileOf c.args.fonts.now (so.pages ++ l ∷ []) c.page.new.self) c.as_slice-in-Some.ensures (c.in_ok-page.ensures so.pages so.file_of);
+        file_of = subst (λ (l : List Place). IsFileOf c.args.fonts.now (so.pages ++ l ∷ []) c.add_page.new.self) c.as_slice-in-Some.ensures (c.in_ok-add_page.ensures so.pages so.file_of);
       };
       more = on.more;
     }

@@ -37,7 +37,7 @@ loop-text-preserved c =
         pages = so.pages ++ c.in-Some.places ∷ [];
         are = are;
         few = few_more c.args.fonts.now _ c.args.source.now (so.pages ++ c.in-Some.places ∷ []) c.next_page.new.self are on.pages;
-        listing = subst (λ (l : List Place). IsListingOf (so.pages ++ l ∷ []) c.page.new.self) c.as_slice-in-Some.ensures (c.in_ok-page.ensures so.pages so.listing);
+        listing = subst (λ (l : List Place). IsListingOf (so.pages ++ l ∷ []) c.add_page.new.self) c.as_slice-in-Some.ensures (c.in_ok-add_page.ensures so.pages so.listing);
       };
       more = on.more;
     }

@@ -37,7 +37,7 @@ loop-setter-preserved c =
         pages = so.pages ++ c.in-Some.places ∷ [];
         are = are;
         few = few_more c.args.fonts.now _ c.args.source.now (so.pages ++ c.in-Some.places ∷ []) c.next_page.new.self are on.pages;
-        counted = subst (λ (l : List Place). AreCountsOf (so.pages ++ l ∷ []) c.page.new.self) c.as_slice-in-Some.ensures (c.page.ensures so.pages so.counted);
+        counted = subst (λ (l : List Place). AreCountsOf (so.pages ++ l ∷ []) c.add_page.new.self) c.as_slice-in-Some.ensures (c.add_page.ensures.counts so.pages so.counted);
       };
       more = on.more;
     }

@@ -1,4 +1,4 @@
-use Rattle.mt_reader.specs.documents.PageReading.{CanGoOn, left_to_read}
+use Rattle.mt_reader.specs.PageReading.{CanGoOn, left_to_read}
 use Rattle.mt_pages.proofs.SetLemmas.{IsCounted}
 use Rattle.mt_pages.proofs.source.source_summary.Given as goal
 

@@ -9,4 +9,4 @@ returns-in_err-page-clause-is c =
     rw (p.1, p.2) (c.in_err-page.ensures.is c.args.tokens.now c.loop-pages.pages.items c.loop-pages.invariant.is)
 
 pub returns-clause-is : goal.returns-clause-is
-returns-clause-is c = (rw c.in_default.is at (c.in_ok-page.ensures.is c.args.tokens.now c.loop-pages.pages.items c.loop-pages.invariant.is)) ∙ ap Ok (sym c.from_vec.ensures)
+returns-clause-is c = (rw c.in_default.is at (c.in_ok-page.ensures.is c.args.tokens.now c.loop-pages.pages.items c.loop-pages.invariant.is)).0 ∙ ap Ok (sym c.from_vec.ensures)

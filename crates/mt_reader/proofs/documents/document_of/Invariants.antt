@@ -1,4 +1,4 @@
-use Rattle.mt_reader.specs.documents.PageReading.{CanGoOn, IsReadOf, left_to_read}
+use Rattle.mt_reader.specs.PageReading.{CanGoOn, IsReadOf, left_to_read}
 use Rattle.mt_reader.proofs.documents.document_of.Given as goal
 
 abbrev pub invariant-loop-pages : goal.invariant-loop-pages

@@ -1,7 +1,7 @@
 use Rattle.std.proofs.Common.{List, length}
 use Rattle.mt_token.specs.declared.token.Token.{Token}
 use Rattle.mt_rules.specs.declared.document.Formula.{Formula}
-use Rattle.mt_reader.specs.documents.PageReading.{IsOver, IsReadOf}
+use Rattle.mt_reader.specs.PageReading.{IsOver, IsReadOf}
 use Rattle.mt_reader.proofs.page_reader.PageReader.next_page.Given as goal
 
 abbrev pub invariant-loop-self : goal.invariant-loop-self

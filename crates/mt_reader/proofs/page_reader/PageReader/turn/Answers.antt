@@ -1,5 +1,5 @@
 use Rattle.std.proofs.Common.{ap, refl, sym, ◌∙◌}
-use Rattle.mt_reader.specs.documents.DocumentTurns.{ends_page}
+use Rattle.mt_reader.specs.DocumentTurns.{ends_page}
 use Rattle.mt_reader.proofs.DocumentLoop.{read_ended, read_more, read_refused, read_taken}
 use Rattle.mt_reader.proofs.Going.{go_more}
 use Rattle.mt_reader.proofs.page_reader.PageReader.turn.Goals as goal

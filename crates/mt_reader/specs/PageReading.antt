@@ -1,6 +1,7 @@
 -- A document that is read page by page.
 use Rattle.std.specs.Prelude.{◌≡◌, ℕ, ◌+◌, ◌*◌, ◌≤◌, ◌<◌, ◌^◌, List, [], ◌∷◌, ◌++◌, length, All, Option, Some, None, Result, Ok, Err, ⊤}
 use Rattle.mt_token.specs.declared.token.Token.{Token}
+use Rattle.mt_token.specs.Tokens.{max_source}
 use Rattle.mt_scaled.specs.declared.unit.Units.{Units}
 use Rattle.mt_plain.specs.CodeTables.{plain_codes}
 use Rattle.mt_plain.specs.PlainMacros.{plain_table}
@@ -8,11 +9,11 @@ use Rattle.mt_rules.specs.declared.document.Formula.{Formula}
 use Rattle.mt_reader.specs.declared.document_error.DocError.{DocError}
 use Rattle.mt_reader.specs.declared.document_state.DocumentState.{DocumentState as StateFields}
 use Rattle.mt_reader.specs.declared.page_reader.PageReader.{PageReader}
-use Rattle.mt_reader.specs.documents.Documents.{DocumentState, document, pages_from, state_pages}
-use Rattle.mt_reader.specs.documents.DocumentTurns.{state_of, state_weight}
-use Rattle.mt_reader.specs.documents.Limits.{max_document_pages, max_total_tokens}
-use Rattle.mt_reader.specs.documents.Refusals.{IsRefusal}
-use Rattle.mt_reader.specs.documents.Weights.{HasModestLists, page_weight, pages_weight}
+use Rattle.mt_reader.specs.Documents.{DocumentState, document, pages_from, state_pages}
+use Rattle.mt_reader.specs.DocumentTurns.{state_of, state_weight}
+use Rattle.mt_reader.specs.Limits.{max_document_pages, max_total_tokens}
+use Rattle.mt_reader.specs.Refusals.{IsRefusal}
+use Rattle.mt_reader.specs.Weights.{HasModestLists, page_weight, pages_weight}
 
 -- what has been read, with the pages that were handed out
 abbrev pub read_state : List (List Formula) → StateFields → DocumentState
@@ -33,7 +34,7 @@ pub record IsReadOf (units : Units) (tokens : List Token) (read : List (List For
 
 -- bounds, within which a reader reads on
 pub record CanGoOn (r : PageReader) : Type 0 where
-  pub whole : r.whole ≤ 2 ^ 22
+  pub whole : r.whole ≤ max_source
   pub left : left_to_read r ≤ r.whole
   pub count : r.state.count + length r.rest.now ≤ r.whole
   pub total : r.state.total ≤ max_total_tokens
@@ -69,5 +70,5 @@ IsTurned units tokens read new (Err e) = IsRefusal e (document units plain_codes
 -- a page more, or there are no more, or the document is refused
 abbrev pub IsNextPage : Units → List Token → List (List Formula) → PageReader → Result (Option (List Formula)) DocError → Type 0
 IsNextPage units tokens read new (Ok (Some page)) = IsReadOf units tokens (read ++ page ∷ []) new
-IsNextPage units tokens read new (Ok None) = document units plain_codes plain_table tokens ≡ Ok read
+IsNextPage units tokens read new (Ok None) = (document units plain_codes plain_table tokens ≡ Ok read) × IsReadOf units tokens read new
 IsNextPage units tokens read new (Err e) = IsRefusal e (document units plain_codes plain_table tokens)

@@ -1,6 +1,7 @@
 -- How many formulas a document has, each display counted twice (`pages_weight`), and how great each of them is
 -- (`HaveFewItems`, `IsModestDocument`).
-use Rattle.std.specs.Prelude.{ℕ, ◌≤◌, Bool, List, All, sum_by, if◌then◌else◌}
+use Rattle.std.specs.Prelude.{ℕ, ◌*◌, ◌≤◌, Bool, List, All, sum_by, if◌then◌else◌}
+use Rattle.mt_macro.specs.Limits.{max_tokens}
 use Rattle.mt_rules.specs.declared.document.Formula.{Formula}
 use Rattle.mt_formula.specs.Counts.{formula_items, IsModestFormula}
 
@@ -17,9 +18,9 @@ page_weight page = sum_by formula_weight page
 abbrev pub pages_weight : List (List Formula) → ℕ
 pages_weight pages = sum_by page_weight pages
 
--- four items for each of 50,000 tokens, in its body and its number together
+-- four items for each token that it may have, in its body and its number together
 abbrev pub HasFewItems : Formula → Type 0
-HasFewItems f = formula_items (f.body, f.tag) ≤ 200000
+HasFewItems f = formula_items (f.body, f.tag) ≤ 4 * max_tokens
 
 abbrev pub HaveFewItems : List (List Formula) → Type 0
 HaveFewItems pages = All (All HasFewItems) pages

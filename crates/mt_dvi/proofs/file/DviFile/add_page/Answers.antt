@@ -2,7 +2,7 @@ use Rattle.std.proofs.Common.{◌≡◌, length, refl, arith, to_z, of_z, w64}
 use Rattle.std.specs.Prelude.{pos}
 use Rattle.std.proofs.lemmas.Int.{ints}
 use Rattle.mt_dvi.proofs.FileLemmas.{few_with, page_added, short_enough}
-use Rattle.mt_dvi.proofs.file.DviFile.page.Goals as goal
+use Rattle.mt_dvi.proofs.file.DviFile.add_page.Goals as goal
 
 pub returns : goal.returns
 returns c = λ pages file.

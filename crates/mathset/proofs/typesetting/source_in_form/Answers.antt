@@ -1,6 +1,6 @@
 use Rattle.std.proofs.Common.{to_z-of_z}
 use Rattle.mathset.proofs.FormLemmas.{file_put, listing_put, summary_put}
-use Rattle.mathset.proofs.typesetting.put_out.Goals as goal
+use Rattle.mathset.proofs.typesetting.source_in_form.Goals as goal
 
 pub returns-in-File : goal.returns-in-File
 returns-in-File c = record { is = rw c.in-File.is (file_put c.args.fonts.now c.args.width c.args.source.now c.source_file.result (rw (to_z-of_z c.ranges.width) at c.source_file.ensures.is)) }

@@ -6,8 +6,8 @@ use Rattle.mt_token.specs.Tokens.{Answer, source_tokens}
 use Rattle.mt_plain.specs.CodeTables.{plain_codes}
 use Rattle.mt_plain.specs.PlainMacros.{plain_table, token_of}
 use Rattle.mt_reader.specs.declared.document_error.DocError.{DocError}
-use Rattle.mt_reader.specs.documents.Documents.{DocumentAnswer, NotLexed, document}
-use Rattle.mt_reader.specs.documents.Refusals.{IsRefusal}
+use Rattle.mt_reader.specs.Documents.{DocumentAnswer, NotLexed, document}
+use Rattle.mt_reader.specs.Refusals.{IsRefusal}
 
 abbrev pub document_by : Units → Answer → DocumentAnswer
 document_by units (Ok list) = document units plain_codes plain_table (map token_of list)

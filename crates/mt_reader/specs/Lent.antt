@@ -6,12 +6,12 @@ use Rattle.std.specs.Borrow.{Bor}
 use Rattle.mt_plain.specs.CodeTables.{CodeTables}
 use Rattle.mt_scan.specs.declared.scanned.Scanned.{Scanned}
 use Rattle.mt_scan.specs.declared.fault.Fault.{Fault as FaultFields}
-use Rattle.mt_reader.specs.declared.taken.Taken.{Taken}
+use Rattle.mt_reader.specs.declared.dollars.Taken.{Taken}
 use Rattle.mt_reader.specs.declared.outside_cause.OutsideCause.{OutsideCause}
 use Rattle.mt_reader.specs.declared.definitions.OutsideFault.{OutsideFault}
 use Rattle.mt_reader.specs.declared.definitions.MacroDefinition.{MacroDefinition as LentDefinition}
 use Rattle.mt_scan.specs.Parts.{Read, ReadOr, Got, Fault}
-use Rattle.mt_reader.specs.documents.Definitions.{MacroDefinition}
+use Rattle.mt_reader.specs.Definitions.{MacroDefinition}
 
 abbrev pub taken_tokens : Taken → TakenTokens
 taken_tokens t = record { argument = t.argument.now; after = t.after.now }

@@ -23,10 +23,10 @@ use Rattle.mt_rules.specs.Sequence.{Sequence}
 use Rattle.mt_rules.specs.declared.document.Formula.{Formula}
 use Rattle.mt_rules.specs.declared.document.Tag.{Tag}
 use Rattle.mt_formula.specs.Formulas.{Reading, Reads, ReadFault, NotReadInTurns, reading}
-use Rattle.mt_reader.specs.documents.Definitions.{MacroDefinition, macro_definition}
-use Rattle.mt_reader.specs.documents.Assignments.{math_code_assignment, delcode_assignment}
-use Rattle.mt_reader.specs.documents.Dollars.{begins_display, between_dollars}
-use Rattle.mt_reader.specs.documents.Limits.{max_total_tokens, max_document_pages}
+use Rattle.mt_reader.specs.Definitions.{MacroDefinition, macro_definition}
+use Rattle.mt_reader.specs.Assignments.{math_code_assignment, delcode_assignment}
+use Rattle.mt_reader.specs.Dollars.{begins_display, between_dollars}
+use Rattle.mt_reader.specs.Limits.{max_total_tokens, max_document_pages}
 
 -- what has been read: the pages that are ended, the formulas of the page that is not, how many formulas there are, and
 -- how many tokens they had after expansion

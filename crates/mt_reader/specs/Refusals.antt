@@ -8,7 +8,7 @@ use Rattle.mt_formula.specs.declared.read_error.ReadError.{ReadError}
 use Rattle.mt_formula.specs.Errors.{PlacedCause, read_error_fault}
 use Rattle.mt_reader.specs.declared.document_error.DocError.{DocError}
 use Rattle.mt_reader.specs.declared.document_error.DocError.TheVariants.{Source, Outside, Expand, Read, Total, Pages, OutOfMemory}
-use Rattle.mt_reader.specs.documents.Documents.{DocumentAnswer, NotLexed, Outside as RefusedOutside, NotExpanded, NotRead, TooManyTokens, TooManyPages}
+use Rattle.mt_reader.specs.Documents.{DocumentAnswer, NotLexed, Outside as RefusedOutside, NotExpanded, NotRead, TooManyTokens, TooManyPages}
 
 -- formula n is not expanded, for this cause
 abbrev pub IsExpandRefusal : ℕ → ExpandError → DocumentAnswer → Type 0

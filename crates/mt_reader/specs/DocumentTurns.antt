@@ -18,11 +18,11 @@ use Rattle.mt_reader.specs.declared.document_turn.AfterTurn.TheVariants.{Left, E
 use Rattle.mt_reader.specs.declared.document_error.DocError.{DocError}
 use Rattle.mt_reader.specs.declared.document_error.DocError.TheVariants.{Expand, Read as NotReadError, OutOfMemory}
 use Rattle.mt_reader.specs.declared.document_state.DocumentState.{DocumentState as StateFields}
-use Rattle.mt_reader.specs.documents.Documents.{DocumentState, DocumentAnswer, DocumentTurn, Goes, Ends, Stops, StopsOutside, Outside, is_empty_page}
-use Rattle.mt_reader.specs.documents.Refusals.{IsRefusal}
-use Rattle.mt_reader.specs.documents.Lent.{Assigns}
-use Rattle.mt_reader.specs.documents.Weights.{dollars, page_weight}
-use Rattle.mt_reader.specs.documents.Limits.{max_total_tokens}
+use Rattle.mt_reader.specs.Documents.{DocumentState, DocumentAnswer, DocumentTurn, Goes, Ends, Stops, StopsOutside, Outside, is_empty_page}
+use Rattle.mt_reader.specs.Refusals.{IsRefusal}
+use Rattle.mt_reader.specs.Lent.{Assigns}
+use Rattle.mt_reader.specs.Weights.{dollars, page_weight}
+use Rattle.mt_reader.specs.Limits.{max_total_tokens}
 
 -- what has been read; of the pages that are ended only their number is kept, and each stands as one without formulas
 abbrev pub state_of : StateFields → DocumentState
