@@ -6,8 +6,8 @@ ghost use Rattle.mt_box.specs.Rows.{AllModest, IsModest};
 use crate::pieces::{LETTER, SMALL, glyph, letter, space};
 use mt_box::{
     Entry, Extents, Mark, Node, NodeId, PackError, Packed, Piece, Place, PlaceError, Row, clean,
-    first_out, glyph_box, hpack, hpack_to, places, recentre, row_extents, shrink_of, vpack,
-    with_extents,
+    first_out, glyph_box, hpack, hpack_glyph, hpack_kern, hpack_to, places, put_places, recentre,
+    row_extents, shrink_of, vpack, with_extents,
 };
 use mt_scaled::Items;
 use std::alloc::{AllocError, Global};
@@ -255,6 +255,54 @@ fn refuses_places(rt: HostRuntime) {
     assert!(rt; refusal == Some(PlaceError::OutOfRange(-1073741824)));
     let refusal = places(rt.alloc(), &body, far, -far, 0).err();
     assert!(rt; refusal == Some(PlaceError::OutOfRange(1073741824)));
+}
+
+#[test]
+fn packs_a_glyph_with_a_kern(rt: HostRuntime) {
+    let body = hpack_glyph(rt.alloc(), 3, 97, LETTER, 65536).expect(&rt, "memory");
+    let want = Extents {
+        width: 393216,
+        ..LETTER
+    };
+    assert!(rt; body.extents() == want && body.level() == 1 && body.nodes().len() == 1);
+    let page = places(rt.alloc(), &body, 5, 7, 1).expect(&rt, "memory");
+    assert!(rt; page.as_slice() == [glyph(3, 97, 5, 7)].as_slice());
+    let refusal = hpack_glyph(rt.alloc(), 3, 97, LETTER, 1073741823).err();
+    assert!(rt; refusal == Some(PackError::Overflow(1074069503)));
+}
+
+#[test]
+fn packs_a_kern(rt: HostRuntime) {
+    let body = hpack_kern(rt.alloc(), -7).expect(&rt, "memory");
+    let want = Extents {
+        width: -7,
+        height: 0,
+        depth: 0,
+    };
+    assert!(rt; body.extents() == want && body.level() == 1 && body.nodes().len() == 1);
+    let page = places(rt.alloc(), &body, 5, 7, 0).expect(&rt, "memory");
+    assert!(rt; page.as_slice().len() == 0);
+    let refusal = hpack_kern(rt.alloc(), -1073741824).err();
+    assert!(rt; refusal == Some(PackError::Overflow(-1073741824)));
+}
+
+#[test]
+fn puts_places_after_others(rt: HostRuntime) -> Result<(), AllocError> {
+    let body = power(rt.alloc()).expect(&rt, "memory");
+    let first = glyph(4, 98, 1, 2);
+    let mut page = vec![in rt.alloc(); first]?;
+    let refusal = put_places(rt.alloc(), &mut page, &body, 0, 475136, 3).err();
+    assert!(rt; refusal == Some(PlaceError::TooMany));
+    assert!(rt; page.as_slice() == [first].as_slice());
+    put_places(rt.alloc(), &mut page, &body, 0, 475136, 4).expect(&rt, "memory");
+    let want = [
+        first,
+        glyph(3, 97, 0, 475136),
+        glyph(3, 98, 327680, 475136),
+        glyph(1, 50, 655360, 229376),
+    ];
+    assert!(rt; page.as_slice() == want.as_slice());
+    Ok(())
 }
 
 // A row of so many thin glyphs.
