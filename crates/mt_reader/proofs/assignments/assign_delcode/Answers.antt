@@ -8,5 +8,5 @@ pub returns-in_err-value-clause-is : goal.returns-in_err-value-clause-is
 returns-in_err-value-clause-is c =
     let p = err_from_is_err_and c.from_residual-in_err-value.result c.from_residual-in_err-value.ensures.1 in
     let value : delimiter_value (after_equals (after_spaces c.in_ok-character.character.rest.now)) ≡ Fault c.in_err-value.field-0.0.cause c.in_err-value.field-0.0.left =
-        ap delimiter_value (sym (c.after_equals-code.ensures.is ∙ ap after_equals c.after_spaces.ensures.is)) ∙ c.in_err-value.ensures.is in
+    ap delimiter_value (sym (c.after_equals-code.ensures.is ∙ ap after_equals c.after_spaces.ensures.is)) ∙ c.in_err-value.ensures.is in
     rw (p.1, p.2, c.in_ok-character.ensures.is, value) refl
