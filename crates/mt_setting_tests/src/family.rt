@@ -171,3 +171,16 @@ fn a_set_needs_families_2_and_3(rt: HostRuntime) -> Result<(), Fail> {
     );
     Ok(())
 }
+
+// Fonts 0 and 2 have one name, and at a design size of 10pt one size.
+const SAME: &str =
+    "mathset fonts 2\nfont a scaled 500\nfont b scaled 500\nfont a 327680\nfamily 2 0 0 0\n";
+
+#[test]
+fn a_set_has_a_name_and_a_size_once(rt: HostRuntime) -> Result<(), Fail> {
+    assert_eq!(rt;
+        set(&rt, rt.alloc(), SAME, 22, 22)?.err(),
+        Some(SetError::SameFont(2))
+    );
+    Ok(())
+}
