@@ -150,23 +150,41 @@ fn a_font_is_scaled(rt: HostRuntime) -> Result<(), Fail> {
 
 #[test]
 fn a_size_is_tested_after_the_design_size(rt: HostRuntime) -> Result<(), Fail> {
-    let faults: [(&[(usize, u8)], u32, TfmError); 4] = [
-        (&[(28, 0x7D), (29, 0)], 32768, TfmError::BadSize(4294967296)),
-        (&[(28, 0x40), (29, 0)], 2000, TfmError::BadSize(134217728)),
-        (&[(28, 0x80), (29, 0)], 32768, TfmError::BadHeader),
+    // What is changed, the thousandths, the fault there, and the one at a size of its own.
+    let faults: [(&[(usize, u8)], u32, TfmError, Option<TfmError>); 4] = [
+        (
+            &[(28, 0x7D), (29, 0)],
+            32768,
+            TfmError::BadSize(4294967296),
+            None,
+        ),
+        (
+            &[(28, 0x40), (29, 0)],
+            2000,
+            TfmError::BadSize(134217728),
+            None,
+        ),
+        // The design size is tested before the size, and the characters after it.
+        (
+            &[(28, 0x80), (29, 0)],
+            32768,
+            TfmError::BadHeader,
+            Some(TfmError::BadHeader),
+        ),
         (
             &[(28, 0x7D), (29, 0), (33, 0x20)],
             32768,
             TfmError::BadSize(4294967296),
+            Some(TfmError::BadIndex(97)),
         ),
     ];
-    for (changes, factor, want) in faults {
+    for (changes, factor, scaled, plain) in faults {
         let bytes = changed(rt.alloc(), changes, &[])?;
-        let fault = read_tfm_scaled(rt.alloc(), &bytes, factor, None).err();
-        assert_eq!(rt; fault, Some(want));
-        // At a size of its own the font has the other fault, or none.
-        let plain = read_tfm(rt.alloc(), &bytes, 655360, None).err();
-        assert!(rt; plain != Some(TfmError::BadSize(4294967296)));
+        assert_eq!(rt;
+            read_tfm_scaled(rt.alloc(), &bytes, factor, None).err(),
+            Some(scaled)
+        );
+        assert_eq!(rt; read_tfm(rt.alloc(), &bytes, 655360, None).err(), plain);
     }
     Ok(())
 }

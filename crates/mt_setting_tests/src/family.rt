@@ -86,14 +86,22 @@ fn sizes_are_numbered(rt: HostRuntime) -> Result<(), Fail> {
     Ok(())
 }
 
-// A font of one character with so many parameters, of which parameter 5 is a quarter of the size.
+// A font of one character with so many parameters, of which parameter 5 is a quarter of the size, and a design size of
+// 10pt.
 fn font_file(alloc: Global, params: u8) -> Result<Vec<u8>, AllocError>
+    requires { params < 100 }
+{
+    font_file_of(alloc, params, 0xA0)
+}
+
+// The same with a design size of so many sixteenths of a point.
+fn font_file_of(alloc: Global, params: u8, design: u8) -> Result<Vec<u8>, AllocError>
     requires { params < 100 }
 {
     let mut bytes = Vec::new(alloc);
     bytes.extend_from_slice(&[0, 15 + params, 0, 2, 0, 97, 0, 97])?;
     bytes.extend_from_slice(&[0, 2, 0, 2, 0, 1, 0, 1, 0, 0, 0, 0, 0, 0, 0, params])?;
-    bytes.extend_from_slice(&[0, 0, 0, 0, 0, 0xA0, 0, 0, 1, 0x10, 0, 0])?;
+    bytes.extend_from_slice(&[0, 0, 0, 0, 0, design, 0, 0, 1, 0x10, 0, 0])?;
     bytes.extend_from_slice(&[0, 0, 0, 0, 0, 8, 0, 0, 0, 0, 0, 0, 0, 8, 0, 0])?;
     bytes.extend_from_slice(&[0; 8])?;
     for number in 1..=params {
@@ -148,6 +156,23 @@ fn a_set_looks_fonts_up(rt: HostRuntime) -> Result<(), Fail> {
     assert_eq!(rt; set.sy(5, Size::Script), 81920);
     assert_eq!(rt; set.ex(5, Size::Script), 163840);
     assert_eq!(rt; (set.units().em, set.units().ex), (0, 81920));
+    Ok(())
+}
+
+// One name at thousandths of 10pt, and of 5pt.
+const HALVES: &str = "mathset fonts 2\nfont a scaled 500\nfont a scaled 1000 97\n";
+
+#[test]
+fn fonts_of_other_design_sizes_can_have_one_size(rt: HostRuntime) -> Result<(), Fail> {
+    let alloc = rt.alloc();
+    let list = read(alloc, HALVES.as_bytes())?;
+    let skewed = font_file_of(alloc, 0, 0x50)?;
+    let plain = font_file_of(alloc, 0, 0xA0)?;
+    let fonts = load(&rt, alloc, list.lines.as_slice(), &skewed, &plain)?;
+    assert_eq!(rt;
+        FontSet::build(alloc, list, fonts).err(),
+        Some(SetError::SameFont(1))
+    );
     Ok(())
 }
 

@@ -1,5 +1,5 @@
-//! What the causes in refusals mean, each by the number that its error has in the crate that refuses. The errors after
-//! those of a table are statuses of their own.
+//! What the causes in refusals mean, each by the number that its error has in the crate that refuses, but for fonts of
+//! one size, which come after the causes of a TFM file. The errors after those of a table are statuses of their own.
 ghost use Rattle.std.specs.Prelude.{◌≡◌, true};
 ghost use Rattle.mt_status.specs.Explanation.{IsLine, are_lines};
 

@@ -50,7 +50,7 @@ pub enum Status {
         line: u32,
         cause: u8,
     },
-    /// The metrics of a font, by its number in the list from 0.
+    /// A font, by its number in the list from 0: its metrics, or a size that it cannot have.
     BadTfm {
         font: u32,
         cause: u8,

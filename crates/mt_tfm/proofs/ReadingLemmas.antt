@@ -4,7 +4,7 @@ use Rattle.mt_tfm.specs.declared.error.TfmError.{TfmError}
 use Rattle.mt_tfm.specs.declared.wanted.Wanted.{Wanted}
 use Rattle.std.specs.Option.{option_or}
 use Rattle.mt_tfm.specs.declared.wanted.Wanted.TheVariants.{At}
-use Rattle.mt_tfm.specs.Checks.{head_fault, size_fault, table_fault, tfm_fault}
+use Rattle.mt_tfm.specs.Checks.{head_fault, wanted_fault, table_fault, tfm_fault}
 use Rattle.mt_tfm.specs.Tables.{counts_of}
 use Rattle.mt_tfm.specs.Words.{words_of, design_of}
 use Rattle.mt_tfm.specs.Font.{Metrics, metrics_of}
@@ -34,7 +34,7 @@ passes_by None size table passes none = rw none passes
 passes_by (Some e) size table passes none = absurd (cc)
 
 -- a file that passes at one size passes at each size in range
-pub passes_at : (bytes : List ℕ) (at : ℤ) (wanted : Wanted) → tfm_fault bytes (At at) ≡ None → size_fault wanted (design_of (words_of bytes)) ≡ None → tfm_fault bytes wanted ≡ None
+pub passes_at : (bytes : List ℕ) (at : ℤ) (wanted : Wanted) → tfm_fault bytes (At at) ≡ None → wanted_fault wanted (design_of (words_of bytes)) ≡ None → tfm_fault bytes wanted ≡ None
 unfolding tfm_fault
 passes_at bytes at wanted passes none =
-    passes_by (head_fault (counts_of (words_of bytes)) bytes (words_of bytes)) (size_fault wanted (design_of (words_of bytes))) (table_fault (counts_of (words_of bytes)) (words_of bytes)) passes none
+    passes_by (head_fault (counts_of (words_of bytes)) bytes (words_of bytes)) (wanted_fault wanted (design_of (words_of bytes))) (table_fault (counts_of (words_of bytes)) (words_of bytes)) passes none

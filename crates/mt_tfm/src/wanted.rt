@@ -1,7 +1,7 @@
 //! The size at which a font is wanted.
 ghost use Rattle.std.specs.Prelude.{◌≡◌, ◌<◌, ◌≤◌, ◌^◌, ◌<ℤ◌, pos, IfOk};
 ghost use Rattle.std.specs.Result.{result_err};
-ghost use Rattle.mt_tfm.specs.Checks.{size_fault};
+ghost use Rattle.mt_tfm.specs.Checks.{wanted_fault};
 ghost use Rattle.mt_tfm.specs.Limits.{max_factor};
 ghost use Rattle.mt_tfm.specs.Sizes.{IsWanted, scaled_size, size_for};
 
@@ -35,7 +35,7 @@ fn check_scaled(factor: u32, design: u32) -> Result<i64, TfmError>
     ensures is { IfOk result (λ size. size ≡ pos (scaled_size factor design)) }
     ensures above { IfOk result (λ size. pos 0 <ℤ size) }
     ensures below { IfOk result (λ size. size <ℤ pos (2 ^ 27)) }
-    ensures fault { result_err result ≡ size_fault (Wanted.Scaled factor) design }
+    ensures fault { result_err result ≡ wanted_fault (Wanted.Scaled factor) design }
 {
     let size = scaled_size(factor, design);
     if 1 <= size && size < 1 << 27 {
@@ -52,7 +52,7 @@ pub fn size_for(wanted: Wanted, design: u32) -> Result<i64, TfmError>
     ensures is { IfOk result (λ size. size ≡ size_for wanted design) }
     ensures above { IfOk result (λ size. pos 0 <ℤ size) }
     ensures below { IfOk result (λ size. size <ℤ pos (2 ^ 27)) }
-    ensures fault { result_err result ≡ size_fault wanted design }
+    ensures fault { result_err result ≡ wanted_fault wanted design }
 {
     match wanted {
         Wanted::At(at) => Ok(at),

@@ -202,6 +202,27 @@ const DEEP: &[u8] =
       }}}}}}}}}}}}}}}}}}}}}}}}}}}}}}}}}}}}}}}}}}}}}}}}}}}}}}}}}}}}}}}}}}}}}}}}}}}}}}}}\
       }}}}}}}}}}}}}}}}}}}}}}}}}}}}}}}}}}}}}}}}}}}}}}}}}}}}}}}}}}}}}}}}$";
 
+// The toy fonts of `SCALED`, and the first of them once more after it. The families' numbers are those of `SCALED`.
+const SCALED_AND_SAME: &[u8] = b"mathset fonts 2
+font toyr scaled 1000
+font toyr 655360 -
+font toyr scaled 700
+font toyr scaled 500
+skew 127
+font toym scaled 1000
+font toym scaled 700
+font toym scaled 500
+skew -
+font toys scaled 1000
+font toys scaled 700
+font toys scaled 500
+font toyx scaled 1000
+family 0 0 1 2
+family 1 3 4 5
+family 2 6 7 8
+family 3 9 9 9
+";
+
 const REFUSALS: &[Case] = &[
     (None, b"$ab$", 1, 20, b"cannot read toy.fonts\n"),
     (None, b"$ab$", 5, 20, b"cannot read toym.tfm\n"),
@@ -265,13 +286,7 @@ const REFUSALS: &[Case] = &[
         b"font 1 cause 11\n",
     ),
     // Fonts of one name and one size: after all files, before the families.
-    (
-        Some(b"mathset fonts 2\nfont toyr scaled 1000\nfont toyr 655360 -\n"),
-        b"$ab$",
-        0,
-        31,
-        b"font 1 cause 12\n",
-    ),
+    (Some(SCALED_AND_SAME), b"$ab$", 0, 31, b"font 1 cause 12\n"),
     (
         Some(
             b"mathset fonts 2\nfont toyr 655360\nfont toym 9\nfont toyr scaled 1000 4\nfont cut 9\n",
