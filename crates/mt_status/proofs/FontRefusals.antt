@@ -32,7 +32,7 @@ use Rattle.mt_family.specs.declared.size.Size.TheVariants.{Text, Script, Scripts
 use Rattle.mt_family.specs.Limits.{max_fonts}
 use Rattle.mt_family.specs.Lines.{line_of, version_of}
 use Rattle.mt_family.specs.ListFacts.{ListValue}
-use Rattle.mt_family.specs.Lists.{SoFar, font_list, has_family, has_font, is_known, lines_of, listing, nothing, with_family, with_font, with_form, with_line, with_lines, with_version}
+use Rattle.mt_family.specs.Lists.{SoFar, font_list, has_family, has_font, is_known, lines_of, nothing, with_family, with_font, with_form, with_line, with_lines, with_list, with_version}
 use Rattle.mt_family.specs.SetValue.{SetValue, font_of}
 use Rattle.mt_family.specs.Sets.{families_fault, family_fault, font_fault, same_fault, set_fault, size_fault}
 use Rattle.mt_status.specs.FontRefusals.{font_by, font_refusal, font_set_by, font_set_refusal, list_by, list_refusal}
@@ -53,9 +53,9 @@ family_line_avoids n list f =
 form_avoids : (n : ℕ) (so_far : SoFar) (form : Option ListLine) → Avoids NoListMemory (with_form n so_far form)
 form_avoids n so_far None = λ same. cc
 form_avoids n so_far (Some Nothing) = λ same. cc
-form_avoids n so_far (Some (Font f)) = avoids_then NoListMemory (with_font n so_far.list f) (λ list. Ok (listing so_far list)) (font_line_avoids n so_far.list f) (λ list is same. cc)
+form_avoids n so_far (Some (Font f)) = avoids_then NoListMemory (with_font n so_far.list f) (λ list. Ok (with_list so_far list)) (font_line_avoids n so_far.list f) (λ list is same. cc)
 form_avoids n so_far (Some (Family f)) =
-    avoids_then NoListMemory (with_family n so_far.list f) (λ list. Ok (listing so_far list)) (family_line_avoids n so_far.list f) (λ list is same. cc)
+    avoids_then NoListMemory (with_family n so_far.list f) (λ list. Ok (with_list so_far list)) (family_line_avoids n so_far.list f) (λ list is same. cc)
 form_avoids n so_far (Some (Skew skew)) = λ same. cc
 
 version_avoids : (so_far : SoFar) (version : Option Version) → Avoids NoListMemory (with_version so_far version)

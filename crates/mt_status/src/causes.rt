@@ -14,8 +14,9 @@ const LIST_CAUSES: [&str; 4] = [
     "at most 48 fonts may be listed",
 ];
 
-/// Why a TFM file is refused, in the order of `TfmError` of mt_tfm.
-const FONT_CAUSES: [&str; 9] = [
+/// Why a font is refused, in the order of `TfmError` of mt_tfm, and last where an earlier font has its size. The tenth is
+/// want of memory, a status of its own.
+const FONT_CAUSES: [&str; 12] = [
     "the TFM file ends too early",
     "the counts at the beginning of the TFM file do not fit together",
     "the design size is less than 1pt",
@@ -25,13 +26,7 @@ const FONT_CAUSES: [&str; 9] = [
     "the first entry of a table of dimensions is not 0",
     "a step of the ligatures and kerns leads past a table, or to no character",
     "a recipe has a piece that is no character",
-];
-
-/// The number of the first cause of `SIZE_CAUSES`: before it stands want of memory, a status of its own.
-const FIRST_SIZE: u8 = 11;
-
-/// Why a font's size is refused: `BadSize` of mt_tfm, `SameFont` of mt_family.
-const SIZE_CAUSES: [&str; 2] = [
+    "",
     "so many thousandths of its design size are 2048pt or more",
     "an earlier font has the same name and comes to the same size",
 ];
@@ -116,11 +111,7 @@ pub fn list_cause(cause: u8) -> &'static str
 pub fn font_cause(cause: u8) -> &'static str
     ensures { IsLine result.now }
 {
-    if cause < FIRST_SIZE {
-        text_of(&FONT_CAUSES, 1, cause)
-    } else {
-        text_of(&SIZE_CAUSES, FIRST_SIZE, cause)
-    }
+    text_of(&FONT_CAUSES, 1, cause)
 }
 
 /// Of a family at a size.
