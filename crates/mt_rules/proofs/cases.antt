@@ -7,6 +7,7 @@ mod LimitCases
 mod FractionCases
 mod RadicalCases
 mod LineCases
+mod TableCases
 mod DelimiterCases
 mod AtomCases
 mod OperatorCases

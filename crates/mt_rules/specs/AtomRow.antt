@@ -3,7 +3,9 @@
 use Rattle.std.specs.Prelude.{ℕ, ℤ, pos, List, [], ◌∷◌, Bool, true, false, ◌&&◌, not, Option, Some, None, unwrap_or, Ok, if◌then◌else◌}
 use Rattle.mt_tfm.specs.Font.{skew_of}
 use Rattle.mt_family.specs.declared.size.Size.{Size}
+use Rattle.mt_family.specs.declared.size.Size.TheVariants.{Text}
 use Rattle.mt_family.specs.SetValue.{SetValue, number_in}
+use Rattle.mt_box.specs.declared.extents.Extents.{Extents}
 use Rattle.mt_box.specs.Layout.{Layout}
 use Rattle.mt_box.specs.Rows.{PieceValue, PieceBox}
 use Rattle.mt_rules.specs.declared.class.Class.{Class}
@@ -11,22 +13,25 @@ use Rattle.mt_rules.specs.declared.class.Class.TheVariants.{Op}
 use Rattle.mt_rules.specs.declared.kind.Kind.{Kind}
 use Rattle.mt_rules.specs.declared.kind.Kind.TheVariants.{Plain, Radical, Accent, Over, Under, Vcenter}
 use Rattle.mt_rules.specs.declared.kind.Limits.{Limits}
+use Rattle.mt_rules.specs.declared.list.Look.{Look}
+use Rattle.mt_rules.specs.declared.list.Look.TheVariants.{Matrix, Equations}
 use Rattle.mt_rules.specs.declared.symbol.Symbol.{Symbol}
 use Rattle.mt_rules.specs.declared.symbol.Delim.{Delim}
 use Rattle.mt_rules.specs.declared.style.Style.{Style}
 use Rattle.mt_rules.specs.declared.style.Style.TheVariants.{T}
 use Rattle.mt_rules.specs.Styles.{size_of, sup_of, sub_of, cramped_of, num_of, den_of}
-use Rattle.mt_rules.specs.Setting.{Setting, ◌>>=◌, make_row, pack_row}
+use Rattle.mt_rules.specs.Setting.{Setting, ◌>>=◌, ◌>>◌, make_row, pack_row, test_extents}
 use Rattle.mt_rules.specs.Parameters.{default_rule_thickness}
-use Rattle.mt_rules.specs.Symbols.{font_of_number, find_symbol}
+use Rattle.mt_rules.specs.Symbols.{font_of_number, find_symbol, extents_without_italic}
 use Rattle.mt_rules.specs.Scripts.{row_with_scripts}
 use Rattle.mt_rules.specs.Limits.{limits}
 use Rattle.mt_rules.specs.Fractions.{fraction}
 use Rattle.mt_rules.specs.Radicals.{radical}
 use Rattle.mt_rules.specs.Lines.{overline, underline}
 use Rattle.mt_rules.specs.Vcenter.{vcenter}
+use Rattle.mt_rules.specs.Tables.{matrix_table, equations_table}
 use Rattle.mt_rules.specs.Accents.{accent}
-use Rattle.mt_rules.specs.Nuclei.{RowByStyle, Content, SymbolContent, ListContent, RowsContent, is_empty, SymbolRole, OrdinarySymbol, Nucleus, empty_nucleus, nucleus_row, packed_list, make_clean, clean_field, clean_list}
+use Rattle.mt_rules.specs.Nuclei.{RowByStyle, Content, NoContent, SymbolContent, ListContent, RowsContent, TableContent, is_empty, SymbolRole, OrdinarySymbol, Nucleus, empty_nucleus, nucleus_row, packed_list, make_clean, clean_field, clean_list}
 use Rattle.mt_rules.specs.Operators.{uses_limits, operator_nucleus}
 
 pub record AtomContent : Type 0 where
@@ -140,14 +145,50 @@ pack_rows (list ∷ lists) = do
   boxes ← pack_rows lists
   Ok (box ∷ boxes)
 
-abbrev pub content_rows : Content → List RowByStyle
-content_rows (RowsContent rows) = rows
-content_rows _ = []
+abbrev pub vcenter_rows : SetValue → Style → List RowByStyle → Setting Layout
+vcenter_rows fonts style rows = do
+  boxes ← pack_rows rows
+  vcenter fonts (size_of style) boxes
+
+-- the cells that have a column: equations have two, and what a row has behind its second cell is not set
+abbrev pub cells_in_columns : Look → List RowByStyle → List RowByStyle
+cells_in_columns Matrix cells = cells
+cells_in_columns Equations [] = []
+cells_in_columns Equations (left ∷ []) = left ∷ []
+cells_in_columns Equations (left ∷ right ∷ more) = left ∷ right ∷ []
+
+-- the cells of a table, row by row: each is a formula in text style, packed
+abbrev pub pack_cells : Look → List (List RowByStyle) → Setting (List (List Layout))
+pack_cells look [] = Ok []
+pack_cells look (row ∷ rows) = do
+  cells ← pack_rows (cells_in_columns look row)
+  others ← pack_cells look rows
+  Ok (cells ∷ others)
+
+-- the extents of the left parenthesis of family 0 at text size (plain TeX's \mathstrut)
+abbrev pub table_strut : SetValue → Setting Extents
+table_strut fonts = do
+  font ← find_symbol fonts Text (record { fam = 0; code = 40 })
+  let strut = extents_without_italic (font_of_number fonts font) 40
+  test_extents strut
+  Ok strut
+
+-- of a matrix the strut comes first; then the cells, the rows and the table
+abbrev pub table_part : SetValue → Style → Look → List (List RowByStyle) → Setting Layout
+table_part fonts style Matrix rows = do
+  strut ← table_strut fonts
+  cells ← pack_cells Matrix rows
+  matrix_table fonts (size_of style) strut cells
+table_part fonts style Equations rows = do
+  cells ← pack_cells Equations rows
+  equations_table fonts (size_of style) cells
 
 abbrev pub vcenter_part : SetValue → Style → Content → Setting Layout
-vcenter_part fonts style nucleus = do
-  rows ← pack_rows (content_rows nucleus)
-  vcenter fonts (size_of style) rows
+vcenter_part fonts style (RowsContent rows) = vcenter_rows fonts style rows
+vcenter_part fonts style (TableContent look rows) = table_part fonts style look rows
+vcenter_part fonts style NoContent = vcenter_rows fonts style []
+vcenter_part fonts style (SymbolContent symbol) = vcenter_rows fonts style []
+vcenter_part fonts style (ListContent list) = vcenter_rows fonts style []
 
 -- ---- accents
 

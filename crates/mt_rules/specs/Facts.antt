@@ -1,17 +1,19 @@
 -- What every math list keeps (`IsMathList`): a left boundary stands only first and a right one only last, both or
--- neither, and middles stand only between the two; the lists of a choice have none of these; rows are the nucleus of
--- each vcenter atom, and stand nowhere else.
+-- neither, and middles stand only between the two; the lists of a choice have none of these; rows or a table are the
+-- nucleus of each vcenter atom, and stand nowhere else.
 use Rattle.std.specs.Prelude.{⊤}
 use Rattle.mt_rules.specs.declared.kind.Kind.{Kind}
 use Rattle.mt_rules.specs.declared.kind.Kind.TheVariants.{Vcenter}
-use Rattle.mt_rules.specs.Sequence.{Sequence, Element, Part, End, More, AtomElement, LeftElement, MiddleElement, RightElement, ChoiceElement, RowsPart}
+use Rattle.mt_rules.specs.Sequence.{Sequence, Element, Part, End, More, AtomElement, LeftElement, MiddleElement, RightElement, ChoiceElement, RowsPart, TablePart}
 
 abbrev pub HoldsRows : Part → Type 0
 HoldsRows (RowsPart rows) = ⊤
+HoldsRows (TablePart look grid) = ⊤
 HoldsRows _ = ⊥
 
 abbrev pub HoldsNoRows : Part → Type 0
 HoldsNoRows (RowsPart rows) = ⊥
+HoldsNoRows (TablePart look grid) = ⊥
 HoldsNoRows _ = ⊤
 
 -- the nucleus that an atom of this kind may have

@@ -42,6 +42,10 @@ pub mod Radicals
 pub mod Lines
 -- rows one below another, centred on the axis
 pub mod Vcenter
+-- cells in rows and columns, centred on the axis
+pub mod Tables
+-- displays of several lines
+pub mod DisplayRows
 -- accents
 pub mod Accents
 -- the nucleus of an atom, and clean boxes

@@ -2,9 +2,10 @@
 use Rattle.std.specs.Prelude.{ℕ, ℤ, ◌+◌, ◌≤◌, ◌^◌, max, ⊤, Option, Some, None}
 use Rattle.mt_scaled.specs.Number.{Within, max_dimen}
 use Rattle.mt_rules.specs.declared.symbol.Glue.{Glue}
-use Rattle.mt_rules.specs.Sequence.{Sequence, Element, Part, Rows, End, More, AtomElement, FractionElement, LeftElement, MiddleElement, RightElement, StyleElement, ChoiceElement, MuSpaceElement, SpaceElement, MuKernElement, KernElement, NonscriptElement, EmptyPart, SymbolPart, ListPart, RowsPart, NoRows, MoreRows}
+use Rattle.mt_rules.specs.Sequence.{Sequence, Element, Part, Rows, End, More, AtomElement, FractionElement, LeftElement, MiddleElement, RightElement, StyleElement, ChoiceElement, MuSpaceElement, SpaceElement, MuKernElement, KernElement, NonscriptElement, EmptyPart, SymbolPart, ListPart, RowsPart, TablePart, NoRows, MoreRows, TableGrid, NoTableRows, MoreTableRows}
 
--- how many items a list has at all levels; each row of a vcenter atom counts as one more
+-- how many items a list has at all levels; each row of a vcenter atom, and each row and each cell of a table, counts
+-- as one more
 abbrev mutual
   pub list_items : Sequence → ℕ
   list_items End = 0
@@ -30,10 +31,15 @@ abbrev mutual
   part_items (SymbolPart symbol) = 0
   part_items (ListPart list) = list_items list
   part_items (RowsPart rows) = rows_items rows
+  part_items (TablePart look grid) = grid_items grid
 
   pub rows_items : Rows → ℕ
   rows_items NoRows = 0
   rows_items (MoreRows first rest) = list_items first + rows_items rest + 1
+
+  pub grid_items : TableGrid → ℕ
+  grid_items NoTableRows = 0
+  grid_items (MoreTableRows cells rest) = rows_items cells + grid_items rest + 1
 
 -- the greatest number of lists that lie one inside another, the outermost counted; of an element, with the list in
 -- which it stands
@@ -63,10 +69,15 @@ abbrev mutual
   part_nesting (SymbolPart symbol) = 0
   part_nesting (ListPart list) = list_nesting list
   part_nesting (RowsPart rows) = rows_nesting rows
+  part_nesting (TablePart look grid) = grid_nesting grid
 
   pub rows_nesting : Rows → ℕ
   rows_nesting NoRows = 0
   rows_nesting (MoreRows first rest) = max (list_nesting first) (rows_nesting rest)
+
+  pub grid_nesting : TableGrid → ℕ
+  grid_nesting NoTableRows = 0
+  grid_nesting (MoreTableRows cells rest) = max (rows_nesting cells) (grid_nesting rest)
 
 -- below 2^30 in size
 abbrev pub IsAmount : ℤ → Type 0
@@ -106,10 +117,15 @@ abbrev mutual
   PartAmounts (SymbolPart symbol) = ⊤
   PartAmounts (ListPart list) = ListAmounts list
   PartAmounts (RowsPart rows) = RowsAmounts rows
+  PartAmounts (TablePart look grid) = GridAmounts grid
 
   pub RowsAmounts : Rows → Type 0
   RowsAmounts NoRows = ⊤
   RowsAmounts (MoreRows first rest) = ListAmounts first × RowsAmounts rest
+
+  pub GridAmounts : TableGrid → Type 0
+  GridAmounts NoTableRows = ⊤
+  GridAmounts (MoreTableRows cells rest) = RowsAmounts cells × GridAmounts rest
 
 -- at most 320 lists one inside another, at most 2^18 items, and every amount below 2^30 in size
 pub record IsModestList (list : Sequence) : Type 0 where

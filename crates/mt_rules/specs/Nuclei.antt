@@ -9,6 +9,7 @@ use Rattle.mt_box.specs.Layout.{Layout}
 use Rattle.mt_box.specs.Rows.{PieceValue, PieceGlyph, PieceBox, PieceKern}
 use Rattle.mt_box.specs.Boxes.{clean_row}
 use Rattle.mt_rules.specs.declared.symbol.Symbol.{Symbol}
+use Rattle.mt_rules.specs.declared.list.Look.{Look}
 use Rattle.mt_rules.specs.declared.style.Style.{Style}
 use Rattle.mt_rules.specs.Styles.{size_of}
 use Rattle.mt_rules.specs.Setting.{Setting, ◌>>=◌, ◌>>◌, SmartLigature, make_box, make_row, pack_row, empty_layout, test_extents}
@@ -24,6 +25,8 @@ pub data Content : Type 0 where
   SymbolContent : (symbol : Symbol) → Content
   ListContent : (list : RowByStyle) → Content
   RowsContent : (rows : List RowByStyle) → Content
+  -- the cells of each row
+  TableContent : (look : Look) (rows : List (List RowByStyle)) → Content
 
 abbrev pub is_empty : Content → Bool
 is_empty NoContent = true

@@ -6,6 +6,7 @@ use Rattle.mt_rules.specs.declared.symbol.Delim.{Delim}
 use Rattle.mt_rules.specs.declared.symbol.Glue.{Glue}
 use Rattle.mt_rules.specs.declared.kind.Limits.{Limits}
 use Rattle.mt_rules.specs.declared.kind.Kind.{Kind}
+use Rattle.mt_rules.specs.declared.list.Look.{Look}
 
 mutual
   pub data Sequence : Type 0 where
@@ -31,10 +32,16 @@ mutual
     SymbolPart : (symbol : Symbol) → Part
     ListPart : (list : Sequence) → Part
     RowsPart : (rows : Rows) → Part
+    TablePart : (look : Look) (grid : TableGrid) → Part
 
   pub data Rows : Type 0 where
     NoRows : Rows
     MoreRows : (first : Sequence) (rest : Rows) → Rows
+
+  -- the rows of a table, each with its cells
+  pub data TableGrid : Type 0 where
+    NoTableRows : TableGrid
+    MoreTableRows : (cells : Rows) (rest : TableGrid) → TableGrid
 
 -- how much a list holds, at all levels
 abbrev mutual
@@ -62,10 +69,15 @@ abbrev mutual
   part_size (SymbolPart symbol) = 0
   part_size (ListPart list) = sequence_size list + 1
   part_size (RowsPart rows) = rows_size rows + 1
+  part_size (TablePart look grid) = grid_size grid + 1
 
   pub rows_size : Rows → ℕ
   rows_size NoRows = 1
   rows_size (MoreRows first rest) = sequence_size first + rows_size rest + 1
+
+  pub grid_size : TableGrid → ℕ
+  grid_size NoTableRows = 1
+  grid_size (MoreTableRows cells rest) = rows_size cells + grid_size rest + 1
 
 -- the number of elements at the outermost level
 abbrev pub sequence_length : Sequence → ℕ
@@ -86,3 +98,12 @@ abbrev pub row_at : Rows → ℕ → Option Sequence
 row_at NoRows i = None
 row_at (MoreRows s rs) zero = Some s
 row_at (MoreRows s rs) (suc i) = row_at rs i
+
+abbrev pub grid_length : TableGrid → ℕ
+grid_length NoTableRows = 0
+grid_length (MoreTableRows cells rest) = grid_length rest + 1
+
+abbrev pub cells_at : TableGrid → ℕ → Option Rows
+cells_at NoTableRows i = None
+cells_at (MoreTableRows cells rest) zero = Some cells
+cells_at (MoreTableRows cells rest) (suc i) = cells_at rest i

@@ -1,19 +1,20 @@
 -- What the types of the code are seen as: a list of items as a sequence (`sequence_of`), an item as an element (`element_of`).
 use Rattle.std.specs.Prelude.{List, [], ◌∷◌}
-use Rattle.mt_rules.specs.Sequence.{Sequence, Element, Part, End, More, AtomElement, FractionElement, LeftElement, MiddleElement, RightElement, StyleElement, ChoiceElement, MuSpaceElement, SpaceElement, MuKernElement, KernElement, NonscriptElement, EmptyPart, SymbolPart, ListPart, RowsPart}
+use Rattle.mt_rules.specs.Sequence.{Sequence, Element, Part, End, More, AtomElement, FractionElement, LeftElement, MiddleElement, RightElement, StyleElement, ChoiceElement, MuSpaceElement, SpaceElement, MuKernElement, KernElement, NonscriptElement, EmptyPart, SymbolPart, ListPart, RowsPart, TablePart}
 use Rattle.mt_rules.specs.declared.list.Atom.{Atom as AtomFields}
 use Rattle.mt_rules.specs.declared.list.Fraction.{Fraction as FractionFields}
 use Rattle.mt_rules.specs.declared.list.Choice.{Choice as ChoiceFields}
 use Rattle.mt_rules.specs.declared.list.Item.{Item}
 use Rattle.mt_rules.specs.declared.list.Item.TheVariants.{Atom, Fraction, Left, Middle, Right, Style as StyleItem, Choice, MuSpace, Space, MuKern, Kern, Nonscript}
 use Rattle.mt_rules.specs.declared.list.Field.{Field}
-use Rattle.mt_rules.specs.declared.list.Field.TheVariants.{Empty, Sym, List as OfList, Rows as OfRows}
+use Rattle.mt_rules.specs.declared.list.Field.TheVariants.{Empty, Sym, List as OfList, Rows as OfRows, Table as OfTable}
 
 abbrev pub part_of_field : Field → Part
 part_of_field Empty = EmptyPart
 part_of_field (Sym s) = SymbolPart s
 part_of_field (OfList l) = ListPart l
 part_of_field (OfRows r) = RowsPart r
+part_of_field (OfTable t) = TablePart t.look t.rows
 
 abbrev pub atom_element : AtomFields → Element
 atom_element a = AtomElement a.kind a.limits (part_of_field a.nucleus) (part_of_field a.sup) (part_of_field a.sub)

@@ -1,6 +1,6 @@
 //! Formulas, and the pages that they stand on.
 
-use crate::MathList;
+use crate::{MathList, RowList};
 use mt_scaled::Items;
 
 /// What is set at the side of a displayed formula, as its number.
@@ -12,6 +12,37 @@ pub struct Tag {
     pub left: bool,
 }
 
+/// A row of a display of equations. A cell that the source leaves out is an empty list.
+#[derive(Drop)]
+pub struct Equation {
+    /// The left side, which ends where the right side of each row begins.
+    pub first: MathList,
+    /// The right side.
+    pub second: MathList,
+    /// The number at the side, a list in text style.
+    pub number: MathList,
+}
+
+/// The rows of a display of equations, in order.
+pub type EquationList = Items<Equation>;
+
+/// What is set as a formula (The TeXbook, chapter 19).
+#[derive(Drop)]
+pub enum Body {
+    /// A list.
+    List(MathList),
+    /// A display of equations with numbers, one below another: plain TeX's `\eqalignno` and
+    /// `\leqalignno`.
+    Equations {
+        /// Whether the numbers stand at the left.
+        left: bool,
+        /// The equations, from the top down.
+        rows: EquationList,
+    },
+    /// A display of lists in display style, one below another: plain TeX's `\displaylines`.
+    Lines(RowList),
+}
+
 /// A formula of a document.
 #[derive(Drop)]
 pub struct Formula {
@@ -20,8 +51,8 @@ pub struct Formula {
     /// Whether it is displayed.
     pub display: bool,
     /// What is set.
-    pub body: MathList,
-    /// The number that is set beside it, if it has one.
+    pub body: Body,
+    /// The number that is set beside it, if it has one. It stands only beside a list.
     pub tag: Option<Tag>,
 }
 

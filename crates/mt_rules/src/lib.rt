@@ -20,10 +20,12 @@ mod symbol;
 
 pub use character::{extents_without_italic, width_with_italic};
 pub use class::Class;
-pub use document::{Document, Formula, Page, Tag};
-pub use gap::line_gap;
+pub use document::{Body, Document, Equation, EquationList, Formula, Page, Tag};
+pub use gap::{line_gap, open_gap};
 pub use kind::{Kind, Limits};
-pub use list::{Atom, Choice, Field, Fraction, Item, MathList, RowList};
+pub use list::{
+    Atom, Choice, Field, Fraction, Item, Look, MathList, RowList, Table, TableRow, TableRows,
+};
 pub use packed_list::PackedList;
 pub use part::{part_answer, test_rule, with_width};
 pub use part_error::PartError;

@@ -3,7 +3,8 @@ ghost use Rattle.std.specs.Prelude.{◌≡◌, ◌↔◌, IsTrue, slice_get};
 ghost use Rattle.std.specs.Option.{option_copied, option_map};
 ghost use Rattle.mt_rules.specs.Facts.{IsMathList};
 ghost use Rattle.mt_rules.specs.Sequence.{End, NoRows, element_at, row_at, rows_length, sequence_length};
-ghost use Rattle.mt_rules.specs.Rows.{rows_of};
+ghost use Rattle.mt_rules.specs.Sequence.{NoTableRows, cells_at, grid_length};
+ghost use Rattle.mt_rules.specs.Rows.{grid_of, rows_of};
 ghost use Rattle.mt_rules.specs.View.{element_of, sequence_of};
 
 use crate::{Delim, Glue, Kind, Limits, Style, Symbol};
@@ -12,19 +13,48 @@ use std::marker::Model;
 /// A math list: the items of a formula or of a part of one, in order (The TeXbook, Appendix G).
 ///
 /// A left boundary stands only first and a right one only last, both or neither, and middles stand only between the
-/// two; the four lists of a [`Choice`] have none of these. The nucleus of a vcenter atom is rows, and rows stand
-/// nowhere else.
+/// two; the four lists of a [`Choice`] have none of these. The nucleus of a vcenter atom is rows or a table, and these
+/// stand nowhere else.
 #[cycle(list)]
 #[derive(Drop)]
 pub struct MathList {
     items: Vec<Item>,
 }
 
-/// Math lists one below another.
+/// Math lists one below another, or the cells of a row of a table from left to right.
 #[cycle(list)]
 #[derive(Drop)]
 pub struct RowList {
     rows: Vec<MathList>,
+}
+
+/// The cells of a row of a table, from left to right.
+pub type TableRow = RowList;
+
+/// The rows of a table, one below another.
+#[cycle(list)]
+#[derive(Drop)]
+pub struct TableRows {
+    rows: Vec<RowList>,
+}
+
+/// How a table is laid out.
+#[derive(Clone, Copy)]
+pub enum Look {
+    /// As plain TeX's `\matrix`: the cells stand in the middle of their columns, and the columns a quad apart.
+    Matrix,
+    /// As plain TeX's `\eqalign`: two columns without a gap, the first flush right and the second flush left.
+    Equations,
+}
+
+/// Cells in rows and columns (The TeXbook, chapters 18 and 19).
+#[cycle(list)]
+#[derive(Drop)]
+pub struct Table {
+    /// How it is laid out.
+    pub look: Look,
+    /// Its rows. They may differ in the number of their cells.
+    pub rows: TableRows,
 }
 
 /// What stands in a math list. Lengths are scaled points, or 65536ths of a math unit (mu) where the name says so.
@@ -85,6 +115,8 @@ pub enum Field {
     List(MathList),
     /// Formulas one below another.
     Rows(RowList),
+    /// A table.
+    Table(Table),
 }
 
 /// One formula over another.
@@ -166,6 +198,30 @@ impl Model for RowList {
     ghost use Rattle.mt_rules.specs.nesting.RowsFall.{rows_fall};
 
     ghost size_decreases = { λ l h. rows_fall l.rows.items };
+}
+
+impl Model for TableRows {
+    ghost use Rattle.mt_rules.specs.Sequence.{TableGrid};
+
+    ghost Value = { TableGrid };
+
+    ghost use Rattle.mt_rules.specs.nesting.Steps.{BuildStep, build_steps_of_grid, grid_from, grid_from-steps};
+    ghost use Rattle.std.specs.Prelude.{List};
+    ghost use Rattle.std.specs.Coded.{codes, code_by, coded_list};
+
+    ghost coded = { code_by (List BuildStep) (coded_list (Prim.hlevel codes)) build_steps_of_grid grid_from grid_from-steps };
+
+    ghost use Rattle.mt_rules.specs.Rows.{grid_of};
+
+    ghost view = { λ l. grid_of l.rows.items };
+
+    ghost use Rattle.mt_rules.specs.Sequence.{grid_size};
+
+    ghost size = { grid_size };
+
+    ghost use Rattle.mt_rules.specs.nesting.RowsFall.{grid_fall};
+
+    ghost size_decreases = { λ l h. grid_fall l.rows.items };
 }
 
 // The item at an index.
@@ -263,6 +319,51 @@ impl RowList {
     /// The row at an index, counted from 0; `None` past the last one.
     pub fn get(&self, i: usize) -> Option<&MathList>
         ensures { option_copied result ≡ row_at self.now i }
+    {
+        item_at(&self.rows, i)
+    }
+}
+
+impl TableRows {
+    /// The table's rows in this order. Takes no memory.
+    pub fn from_vec(rows: Vec<TableRow>) -> Self
+        ensures { result ≡ grid_of rows.items }
+    {
+        TableRows { rows }
+    }
+
+    /// The vector of the rows. Takes no memory.
+    pub fn into_vec(self) -> Vec<TableRow>
+        ensures { grid_of result.items ≡ self }
+    {
+        self.rows
+    }
+
+    /// The number of rows.
+    #[tactic(auto, using(crate::proofs::Lists::grid_length_of))]
+    pub fn len(&self) -> usize
+        ensures { result ≡ grid_length self.now }
+    {
+        self.rows.len()
+    }
+
+    /// Whether there is no row.
+    pub fn is_empty(&self) -> bool
+        ensures { IsTrue result ↔ (self.now ≡ NoTableRows) }
+    {
+        self.rows.is_empty()
+    }
+
+    /// The rows as a slice.
+    pub fn as_slice(&self) -> &[TableRow]
+        ensures { grid_of result.now ≡ self.now }
+    {
+        &self.rows
+    }
+
+    /// The row at an index, counted from 0; `None` past the last one.
+    pub fn get(&self, i: usize) -> Option<&TableRow>
+        ensures { option_copied result ≡ cells_at self.now i }
     {
         item_at(&self.rows, i)
     }

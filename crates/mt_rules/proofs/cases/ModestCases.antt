@@ -5,8 +5,9 @@ use Rattle.std.specs.Prelude.{pos, Some}
 use Rattle.mt_rules.specs.declared.class.Class.TheVariants.{Ord}
 use Rattle.mt_rules.specs.declared.kind.Kind.TheVariants.{Plain, Vcenter}
 use Rattle.mt_rules.specs.declared.kind.Limits.TheVariants.{Default}
+use Rattle.mt_rules.specs.declared.list.Look.TheVariants.{Matrix}
 use Rattle.mt_rules.specs.declared.symbol.Delim.{Delim}
-use Rattle.mt_rules.specs.Sequence.{Sequence, Element, End, More, AtomElement, FractionElement, KernElement, EmptyPart, SymbolPart, ListPart, RowsPart, NoRows, MoreRows}
+use Rattle.mt_rules.specs.Sequence.{Sequence, Element, End, More, AtomElement, FractionElement, KernElement, EmptyPart, SymbolPart, ListPart, RowsPart, TablePart, NoRows, MoreRows, NoTableRows, MoreTableRows}
 use Rattle.mt_rules.specs.Modest.{list_items, list_nesting, IsAmount, ListAmounts, IsModestList}
 use Rattle.mt_rules.proofs.cases.Writing.{neg}
 
@@ -48,6 +49,19 @@ two_rows_items = refl
 
 two_rows_nesting : list_nesting two_rows ≡ 2
 two_rows_nesting = refl
+
+-- a table of two rows, the first of a letter and an empty cell, the second of no cell: each row and each cell counts as one item more
+abbrev table : Sequence
+table = More (AtomElement Vcenter Default (TablePart Matrix (MoreTableRows (MoreRows (More letter End) (MoreRows End NoRows)) (MoreTableRows NoRows NoTableRows))) EmptyPart EmptyPart) End
+
+table_items : list_items table ≡ 6
+table_items = refl
+
+table_nesting : list_nesting table ≡ 2
+table_nesting = refl
+
+table_amounts : ListAmounts table
+table_amounts = ((((((tt, tt, tt), tt), (tt, tt)), (tt, tt)), tt, tt), tt)
 
 -- an amount of 2^30 - 1 may be, and one of 2^30, or of -2^30, not
 greatest : IsAmount (pos 1073741823)

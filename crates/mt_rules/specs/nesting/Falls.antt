@@ -5,7 +5,7 @@ use denote.Param.Weighed.{most}
 use Rattle.mt_rules.specs.declared.list.Item.{Item}
 use Rattle.mt_rules.specs.declared.list.Item.TheVariants.{Atom, Fraction, Left, Middle, Right, Style as StyleItem, Choice, MuSpace, Space, MuKern, Kern, Nonscript}
 use Rattle.mt_rules.specs.declared.list.Field.{Field}
-use Rattle.mt_rules.specs.declared.list.Field.TheVariants.{Empty, Sym, List as OfList, Rows as OfRows}
+use Rattle.mt_rules.specs.declared.list.Field.TheVariants.{Empty, Sym, List as OfList, Rows as OfRows, Table as OfTable}
 use Rattle.mt_rules.specs.declared.list.MathList.TheDeep.{deep-Item, deep-Field}
 use Rattle.mt_rules.specs.Sequence.{sequence_size, element_size, part_size}
 use Rattle.mt_rules.specs.View.{sequence_of, element_of, part_of_field}
@@ -15,6 +15,7 @@ field_falls Empty = omega arith
 field_falls (Sym c) = omega arith
 field_falls (OfList l) = omega arith
 field_falls (OfRows l) = omega arith
+field_falls (OfTable t) = omega arith
 
 pub item_falls : (i : Item) → deep-Item i ≤ element_size (element_of i)
 item_falls (Atom b) = omega (arith, field_falls b.value.nucleus, field_falls b.value.sup, field_falls b.value.sub)

@@ -7,7 +7,8 @@ use Rattle.mt_rules.specs.declared.symbol.Delim.{Delim}
 use Rattle.mt_rules.specs.declared.symbol.Glue.{Glue}
 use Rattle.mt_rules.specs.declared.kind.Limits.{Limits}
 use Rattle.mt_rules.specs.declared.kind.Kind.{Kind}
-use Rattle.mt_rules.specs.Sequence.{Sequence, Element, Part, Rows, End, More, AtomElement, FractionElement, LeftElement, MiddleElement, RightElement, StyleElement, ChoiceElement, MuSpaceElement, SpaceElement, MuKernElement, KernElement, NonscriptElement, EmptyPart, SymbolPart, ListPart, RowsPart, NoRows, MoreRows}
+use Rattle.mt_rules.specs.declared.list.Look.{Look}
+use Rattle.mt_rules.specs.Sequence.{Sequence, Element, Part, Rows, End, More, AtomElement, FractionElement, LeftElement, MiddleElement, RightElement, StyleElement, ChoiceElement, MuSpaceElement, SpaceElement, MuKernElement, KernElement, NonscriptElement, EmptyPart, SymbolPart, ListPart, RowsPart, TablePart, NoRows, MoreRows, TableGrid, NoTableRows, MoreTableRows}
 
 pub data BuildStep : Type 0 where
   MakeEnd : BuildStep
@@ -30,6 +31,9 @@ pub data BuildStep : Type 0 where
   MakeRowsPart : BuildStep
   MakeNoRows : BuildStep
   MakeMoreRows : BuildStep
+  MakeTablePart : (look : Look) → BuildStep
+  MakeNoTableRows : BuildStep
+  MakeMoreTableRows : BuildStep
 
 -- what stands on the stack
 pub data Cell : Type 0 where
@@ -37,6 +41,7 @@ pub data Cell : Type 0 where
   ElementCell : Element → Cell
   PartCell : Part → Cell
   RowsCell : Rows → Cell
+  GridCell : TableGrid → Cell
 
 abbrev mutual
   pub sequence_steps : Sequence → List BuildStep → List BuildStep
@@ -62,10 +67,15 @@ abbrev mutual
   part_steps (SymbolPart a) k = MakeSymbolPart a ∷ k
   part_steps (ListPart a) k = sequence_steps a (MakeListPart ∷ k)
   part_steps (RowsPart a) k = rows_steps a (MakeRowsPart ∷ k)
+  part_steps (TablePart a b) k = grid_steps b (MakeTablePart a ∷ k)
 
   pub rows_steps : Rows → List BuildStep → List BuildStep
   rows_steps NoRows k = MakeNoRows ∷ k
   rows_steps (MoreRows a b) k = sequence_steps a (rows_steps b (MakeMoreRows ∷ k))
+
+  pub grid_steps : TableGrid → List BuildStep → List BuildStep
+  grid_steps NoTableRows k = MakeNoTableRows ∷ k
+  grid_steps (MoreTableRows a b) k = rows_steps a (grid_steps b (MakeMoreTableRows ∷ k))
 
 abbrev pub take_step : BuildStep → List Cell → List Cell
 take_step MakeEnd st = SequenceCell End ∷ st
@@ -88,6 +98,9 @@ take_step MakeListPart (SequenceCell a ∷ st) = PartCell (ListPart a) ∷ st
 take_step MakeRowsPart (RowsCell a ∷ st) = PartCell (RowsPart a) ∷ st
 take_step MakeNoRows st = RowsCell NoRows ∷ st
 take_step MakeMoreRows (RowsCell b ∷ SequenceCell a ∷ st) = RowsCell (MoreRows a b) ∷ st
+take_step (MakeTablePart a) (GridCell b ∷ st) = PartCell (TablePart a b) ∷ st
+take_step MakeNoTableRows st = GridCell NoTableRows ∷ st
+take_step MakeMoreTableRows (GridCell b ∷ RowsCell a ∷ st) = GridCell (MoreTableRows a b) ∷ st
 take_step _ st = st
 
 abbrev pub rebuild : List BuildStep → List Cell → List Cell
@@ -118,10 +131,15 @@ mutual
   rebuilt-part (SymbolPart a) k st = refl
   rebuilt-part (ListPart a) k st = rebuilt-sequence a (MakeListPart ∷ k) st
   rebuilt-part (RowsPart a) k st = rebuilt-rows a (MakeRowsPart ∷ k) st
+  rebuilt-part (TablePart a b) k st = rebuilt-grid b (MakeTablePart a ∷ k) st
 
   pub rebuilt-rows : (x : Rows) (k : List BuildStep) (st : List Cell) → rebuild (rows_steps x k) st ≡ rebuild k (RowsCell x ∷ st)
   rebuilt-rows NoRows k st = refl
   rebuilt-rows (MoreRows a b) k st = rebuilt-sequence a (rows_steps b (MakeMoreRows ∷ k)) st ∙ rebuilt-rows b (MakeMoreRows ∷ k) (SequenceCell a ∷ st)
+
+  pub rebuilt-grid : (x : TableGrid) (k : List BuildStep) (st : List Cell) → rebuild (grid_steps x k) st ≡ rebuild k (GridCell x ∷ st)
+  rebuilt-grid NoTableRows k st = refl
+  rebuilt-grid (MoreTableRows a b) k st = rebuilt-rows a (grid_steps b (MakeMoreTableRows ∷ k)) st ∙ rebuilt-grid b (MakeMoreTableRows ∷ k) (RowsCell a ∷ st)
 
 abbrev pub top_sequence : List Cell → Sequence
 top_sequence (SequenceCell s ∷ st) = s
@@ -148,3 +166,16 @@ rows_from ws = top_rows (rebuild ws [])
 
 pub rows_from-steps : (s : Rows) → rows_from (build_steps_of_rows s) ≡ s
 rows_from-steps s = ap top_rows (rebuilt-rows s [] [])
+
+abbrev pub top_grid : List Cell → TableGrid
+top_grid (GridCell s ∷ st) = s
+top_grid _ = NoTableRows
+
+abbrev pub build_steps_of_grid : TableGrid → List BuildStep
+build_steps_of_grid s = grid_steps s []
+
+abbrev pub grid_from : List BuildStep → TableGrid
+grid_from ws = top_grid (rebuild ws [])
+
+pub grid_from-steps : (s : TableGrid) → grid_from (build_steps_of_grid s) ≡ s
+grid_from-steps s = ap top_grid (rebuilt-grid s [] [])
