@@ -1,0 +1,217 @@
+-- The widths of columns, as rows are gone through from the last to the first.
+use Rattle.std.proofs.Common.{◌≡◌, ℕ, suc, false, drop-cons, ◌≤◌, ◌<◌, ◌+◌, ◌-◌, ◌*◌, ◌^◌, max, List, [], ◌∷◌, ◌++◌, length, map, take, drop, get_or, set, ℤ, pos, ◌+ℤ◌, ◌-ℤ◌, refl, arith, add-one, append_assoc, length-append, sym, ◌∙◌, ap, subst, w64, to_z, of_z}
+use Rattle.std.proofs.lemmas.Int.{ints, clamps}
+use Rattle.std.proofs.lemmas.List.{take-append-drop, take-set, drop-set, length-take-le}
+use Rattle.std.proofs.lemmas.List.Elements.{All-nil, All-cons, All-head, All-tail, All-get_or}
+use Rattle.std.proofs.lemmas.Bool.{false≢true}
+use Rattle.std.specs.Int.{int_max}
+use Rattle.std.specs.Prelude.{All, ◌==◌}
+use Rattle.mt_scaled.specs.Number.{Within, max_dimen}
+use Rattle.mt_box.specs.Layout.{BoxValue, Layout, layout_of}
+use Rattle.mt_box.proofs.Lists.{next_item}
+use Rattle.mt_rules.specs.Tables.{Cells, widened, column_widths, with_struts, columns_width}
+use Rattle.mt_align.specs.Cells.{cells_of}
+
+-- ---- a column gets a cell more
+
+pub kept : (x : ℤ) → Within max_dimen x → to_z w64 (of_z w64 x) ≡ x
+kept x h = omega (arith, ints, h.low, h.high)
+
+pub greater_in_range : (x y : ℤ) → Within max_dimen x → Within max_dimen y → Within max_dimen (int_max x y)
+greater_in_range x y h k = record { low = omega (arith, ints, clamps, h.low, k.low); high = omega (arith, ints, clamps, h.high, k.high) }
+
+-- the greater of the width so far and that of a cell
+pub wider : (ws : List ℤ) (j : ℕ) (x y m : ℤ) → j < length ws → x ≡ get_or ws j x → m ≡ int_max (to_z w64 (of_z w64 x)) (to_z w64 (of_z w64 y)) → Within max_dimen y → All (Within max_dimen) ws → (to_z w64 (of_z w64 m) ≡ int_max x y) × Within max_dimen (to_z w64 (of_z w64 m))
+wider ws j x y m lt is e h small =
+    let k : Within max_dimen x = subst (λ z. Within max_dimen z) (sym is) (All-get_or (Within max_dimen) ws j x lt small) in
+    let f : m ≡ int_max x y = rw (kept x k, kept y h) at e in
+    let n : Within max_dimen m = subst (λ z. Within max_dimen z) (sym f) (greater_in_range x y k h) in
+    (kept m n ∙ f, subst (λ z. Within max_dimen z) (sym (kept m n)) n)
+
+pub set_widens : (ws : List ℤ) (j : ℕ) (c : Layout) (x v : ℤ) → j < length ws → x ≡ get_or ws j x → v ≡ int_max x c.extents.width → set ws j v ≡ take j ws ++ widened (drop j ws) (c ∷ [])
+set_widens ws j c x v lt is e =
+    let before = take-set ws j v in
+    let behind = drop-set ws j v lt in
+    let next = next_item ws j x lt is in
+    sym (take-append-drop j (set ws j v)) ∙ rw (before, behind, next, e) refl
+
+pub push_widens : (ws : List ℤ) (j : ℕ) (c : Layout) → take j ws ≡ ws → drop j ws ≡ [] → ws ++ c.extents.width ∷ [] ≡ take j ws ++ widened (drop j ws) (c ∷ [])
+push_widens ws j c e f = rw (e, f) refl
+
+-- ---- columns get a row of cells more
+
+-- the first of some columns that get cells, and those behind it
+record Widened (ws : List ℤ) (c : Layout) : Type 0 where
+  head : ℤ
+  tail : List ℤ
+  one : widened ws (c ∷ []) ≡ head ∷ tail
+  more : (cs : Cells) → widened ws (c ∷ cs) ≡ head ∷ widened tail cs
+
+widened_one : (ws : List ℤ) (c : Layout) → Widened ws c
+widened_one [] c = record { head = c.extents.width; tail = []; one = refl; more = λ cs. refl }
+widened_one (w ∷ ws) c = record { head = int_max w c.extents.width; tail = ws; one = refl; more = λ cs. refl }
+
+take_behind : (xs : List ℤ) (h : ℤ) (t : List ℤ) → take (suc (length xs)) (xs ++ h ∷ t) ≡ xs ++ h ∷ []
+take_behind [] h t = refl
+take_behind (x ∷ xs) h t = ap (λ ys. x ∷ ys) (take_behind xs h t)
+
+drop_behind : (xs : List ℤ) (h : ℤ) (t : List ℤ) → drop (suc (length xs)) (xs ++ h ∷ t) ≡ t
+drop_behind [] h t = refl
+drop_behind (x ∷ xs) h t = drop_behind xs h t
+
+widening_step : (before ws new : List ℤ) (c : Layout) (cs : Cells) (j : ℕ) → j ≡ length before → new ≡ before ++ widened ws (c ∷ []) → take (suc j) new ++ widened (drop (suc j) new) cs ≡ before ++ widened ws (c ∷ cs)
+widening_step before ws new c cs j e is =
+    let s = widened_one ws c in
+    rw (is, s.one, e, take_behind before s.head s.tail, drop_behind before s.head s.tail, append_assoc before (s.head ∷ []) (widened s.tail cs)) (ap (λ xs. before ++ xs) (sym (s.more cs)))
+
+longer : (before ws new : List ℤ) (c : Layout) → new ≡ before ++ widened ws (c ∷ []) → length before + 1 ≤ length new
+longer before ws new c is =
+    let s = widened_one ws c in
+    let e : new ≡ before ++ s.head ∷ s.tail = is ∙ ap (λ xs. before ++ xs) s.one in
+    let l : length new ≡ length (before ++ s.head ∷ s.tail) = ap (λ xs. length xs) e in
+    omega (arith, l, length-append before (s.head ∷ s.tail))
+
+-- the columns, and the cells that are left from column j on
+pub record Widening (old : List ℤ) (cells rest : List BoxValue) (j : ℕ) (ws : List ℤ) : Type 0 where
+  pub same : take j ws ++ widened (drop j ws) (map layout_of rest) ≡ widened old (map layout_of cells)
+  pub far : j ≤ length ws
+  pub small : All (Within max_dimen) ws
+
+pub widening_start : (old : List ℤ) (cells rest : List BoxValue) → rest ≡ cells → All (Within max_dimen) old → Widening old cells rest 0 old
+widening_start old cells rest e small = rw e (record { same = refl; far = omega arith; small = small })
+
+pub widening_more : (old : List ℤ) (cells rest rest' : List BoxValue) (b : BoxValue) (j : ℕ) (ws new : List ℤ) → Widening old cells rest j ws → rest ≡ b ∷ rest' → new ≡ take j ws ++ widened (drop j ws) (layout_of b ∷ []) → All (Within max_dimen) new → Widening old cells rest' (j + 1) new
+widening_more old cells rest rest' b j ws new h e is small =
+    let h' : Widening old cells (b ∷ rest') j ws = subst (λ r. Widening old cells r j ws) e h in
+    let len : length (take j ws) ≡ j = length-take-le j ws h'.far in
+    record {
+      same = rw add-one (widening_step (take j ws) (drop j ws) new (layout_of b) (map layout_of rest') j (sym len) is ∙ h'.same);
+      far = omega (arith, longer (take j ws) (drop j ws) new (layout_of b) is, len);
+      small = small;
+    }
+
+pub widening_end : (old : List ℤ) (cells rest : List BoxValue) (j : ℕ) (ws : List ℤ) → Widening old cells rest j ws → rest ≡ [] → ws ≡ widened old (map layout_of cells)
+widening_end old cells rest j ws h e =
+    let h' : Widening old cells [] j ws = subst (λ r. Widening old cells r j ws) e h in
+    sym (take-append-drop j ws) ∙ h'.same
+
+-- ---- all rows
+
+pub row_before : (rows : List (List BoxValue)) (i : ℕ) (row : List BoxValue) (ws new : List ℤ) → 0 < i → i ≤ length rows → row ≡ get_or rows (i - 1) row → ws ≡ column_widths (cells_of (drop i rows)) → new ≡ widened ws (map layout_of row) → new ≡ column_widths (cells_of (drop (i - 1) rows))
+row_before rows i row ws new low far is e f =
+    let back : (i - 1) + 1 ≡ i = omega arith in
+    let next : drop (i - 1) rows ≡ row ∷ drop ((i - 1) + 1) rows = next_item rows (i - 1) row (omega arith) is in
+    rw (next, back, f, e) refl
+
+-- ---- how many columns there are
+
+widened_length : (ws : List ℤ) (cs : Cells) → length (widened ws cs) ≡ max (length ws) (length cs)
+widened_length ws [] = omega arith
+widened_length [] (c ∷ cs) = omega (arith, widened_length [] cs)
+widened_length (w ∷ ws) (c ∷ cs) = omega (arith, widened_length ws cs)
+
+pub layouts_length : (bs : List BoxValue) → length (map layout_of bs) ≡ length bs
+layouts_length [] = refl
+layouts_length (b ∷ bs) = omega (arith, layouts_length bs)
+
+pub no_wider : (rows : List (List BoxValue)) (n : ℕ) → All (λ (cells : List BoxValue). length cells ≤ n) rows → length (column_widths (cells_of rows)) ≤ n
+no_wider [] n h = omega arith
+no_wider (row ∷ rows) n h =
+    let first : length row ≤ n = All-head (λ (cells : List BoxValue). length cells ≤ n) row rows h in
+    let others = no_wider rows n (All-tail (λ (cells : List BoxValue). length cells ≤ n) row rows h) in
+    omega (arith, widened_length (column_widths (cells_of rows)) (map layout_of row), layouts_length row, first, others)
+
+pub each_fits : (rows : List (List BoxValue)) (n : ℕ) → length (column_widths (cells_of rows)) ≤ n → All (λ (cells : List BoxValue). length cells ≤ n) rows
+each_fits [] n h = All-nil (λ (cells : List BoxValue). length cells ≤ n)
+each_fits (row ∷ rows) n h =
+    let l = widened_length (column_widths (cells_of rows)) (map layout_of row) in
+    All-cons (λ (cells : List BoxValue). length cells ≤ n) row rows (omega (arith, l, layouts_length row, h)) (each_fits rows n (omega (arith, l, h)))
+
+pub struts_length : (ws : List ℤ) → length (with_struts ws) ≡ length ws
+struts_length [] = refl
+struts_length (w ∷ ws) = refl
+
+-- the first width is at least that of a strut
+pub struts_set : (ws : List ℤ) (x v : ℤ) → 0 < length ws → x ≡ get_or ws 0 x → v ≡ int_max x (pos 0) → set ws 0 v ≡ with_struts ws
+struts_set [] x v h is e = absurd (omega (arith, h))
+struts_set (w ∷ ws) x v h is e =
+    let other : int_max w (pos 0) ≡ int_max (pos 0) w = omega (arith, ints, clamps) in
+    rw (e, is) (ap (λ z. z ∷ ws) other)
+
+pub struts_none : (ws : List ℤ) → ws ≡ [] → ws ≡ with_struts ws
+struts_none ws e = rw e refl
+
+-- ---- how wide they are together
+
+-- columns, each with a gap behind it
+abbrev pub reach : ℤ → List ℤ → ℤ
+reach gap [] = pos 0
+reach gap (w ∷ ws) = (w +ℤ gap) +ℤ reach gap ws
+
+reach_is : (gap w : ℤ) (ws : List ℤ) → columns_width gap (w ∷ ws) ≡ reach gap (w ∷ ws) -ℤ gap
+reach_is gap w [] = omega (arith, ints)
+reach_is gap w (v ∷ ws) =
+    let rest : ℤ = columns_width gap (v ∷ ws) in
+    let all : ℤ = reach gap (v ∷ ws) in
+    let ih : rest ≡ all -ℤ gap = reach_is gap v ws in
+    behind w gap rest all ih
+  where
+    behind : (w g c r : ℤ) → c ≡ r -ℤ g → w +ℤ (g +ℤ c) ≡ ((w +ℤ g) +ℤ r) -ℤ g
+    behind w g c r e = omega (arith, ints, e)
+
+pub record Reaching (gap : ℤ) (all rest : List ℤ) (end : ℤ) : Type 0 where
+  pub sum : end +ℤ reach gap rest ≡ reach gap all
+  pub near : Within (2 ^ 32 * (2 ^ 20 - length rest)) end
+  pub few : length rest ≤ 2 ^ 20
+
+pub reaching_start : (gap : ℤ) (all rest : List ℤ) → rest ≡ all → length all ≤ 2 ^ 19 → Reaching gap all rest (pos 0)
+reaching_start gap all rest e few = rw e (record {
+  sum = omega (arith, ints);
+  near = record { low = omega (arith, ints); high = omega (arith, ints) };
+  few = omega (arith, few);
+})
+
+nearer : (n m : ℕ) (t w g t' : ℤ) → m ≡ n + 1 → m ≤ 2 ^ 20 → t' ≡ (t +ℤ w) +ℤ g → Within (2 ^ 32 * (2 ^ 20 - m)) t → Within max_dimen w → Within (2 ^ 31) g → Within (2 ^ 32 * (2 ^ 20 - n)) t'
+nearer n m t w g t' e few is a b c = record {
+  low = omega (arith, ints, a.low, b.low, c.low, is);
+  high = omega (arith, ints, a.high, b.high, c.high, is);
+}
+
+reach_step : (t w g r a t' : ℤ) → t' ≡ (t +ℤ w) +ℤ g → t +ℤ ((w +ℤ g) +ℤ r) ≡ a → t' +ℤ r ≡ a
+reach_step t w g r a t' is e = omega (arith, ints, is, e)
+
+pub reaching_more : (gap : ℤ) (all rest rest' : List ℤ) (w end end' : ℤ) → Reaching gap all rest end → rest ≡ w ∷ rest' → end' ≡ (end +ℤ w) +ℤ gap → Within max_dimen w → Within (2 ^ 31) gap → Reaching gap all rest' end'
+reaching_more gap all rest rest' w end end' h e is small gap_small =
+    let h' : Reaching gap all (w ∷ rest') end = subst (λ r. Reaching gap all r end) e h in
+    record {
+      sum = reach_step end w gap (reach gap rest') (reach gap all) end' is h'.sum;
+      near = nearer (length rest') (length (w ∷ rest')) end w gap end' (omega arith) h'.few is h'.near small gap_small;
+      few = omega (arith, h'.few);
+    }
+
+pub reaching_small : (gap : ℤ) (all rest : List ℤ) (end : ℤ) → Reaching gap all rest end → Within (2 ^ 52) end
+reaching_small gap all rest end h = record { low = omega (arith, ints, h.near.low, h.few); high = omega (arith, ints, h.near.high, h.few) }
+
+reaching_end : (gap : ℤ) (all rest : List ℤ) (end : ℤ) → Reaching gap all rest end → rest ≡ [] → end ≡ reach gap all
+reaching_end gap all rest end h e =
+    let h' : Reaching gap all [] end = subst (λ r. Reaching gap all r end) e h in
+    let s : end +ℤ pos 0 ≡ reach gap all = h'.sum in
+    omega (arith, ints, s)
+
+pub reached_none : (gap : ℤ) (all rest : List ℤ) (end : ℤ) → Reaching gap all rest end → rest ≡ [] → all ≡ [] → end ≡ columns_width gap all
+reached_none gap all rest end h e f = reaching_end gap all rest end h e ∙ rw f refl
+
+pub reached_some : (gap : ℤ) (all rest : List ℤ) (end : ℤ) → Reaching gap all rest end → rest ≡ [] → (all ≡ [] → ⊥) → end -ℤ gap ≡ columns_width gap all
+reached_some gap [] rest end h e f = absurd (f refl)
+reached_some gap (w ∷ ws) rest end h e f = ap (λ z. z -ℤ gap) (reaching_end gap (w ∷ ws) rest end h e) ∙ sym (reach_is gap w ws)
+
+pub reaching_item : (gap : ℤ) (ws : List ℤ) (i : ℕ) (d end end' : ℤ) → Reaching gap ws (drop i ws) end → i < length ws → All (Within max_dimen) ws → Within (2 ^ 31) gap → end' ≡ (end +ℤ to_z w64 (of_z w64 (get_or ws i d))) +ℤ gap → Reaching gap ws (drop (i + 1) ws) end'
+reaching_item gap ws i d end end' h lt small gap_small is =
+    let w : ℤ = get_or ws i d in
+    let in_range : Within max_dimen w = All-get_or (Within max_dimen) ws i d lt small in
+    let next : drop i ws ≡ w ∷ drop (i + 1) ws = rw (add-one, drop-cons ws i d) refl in
+    reaching_more gap ws (drop i ws) (drop (i + 1) ws) w end end' h next (rw (kept w in_range) at is) in_range gap_small
+
+pub not_empty : (ws : List ℤ) → false ≡ (length ws == 0) → ws ≡ [] → ⊥
+not_empty [] h e = absurd (false≢true h)
+not_empty (w ∷ ws) h e = cc

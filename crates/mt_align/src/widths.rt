@@ -1,0 +1,76 @@
+//! The widths of columns: each is as wide as its widest cell.
+ghost use Rattle.std.specs.Prelude.{◌≡◌, ◌≤◌, ◌^◌, ◌++◌, ◌∷◌, [], All, drop, length, map, take, IfOk, OnOk};
+ghost use Rattle.mt_scaled.specs.Number.{Within, max_dimen};
+ghost use Rattle.mt_box.specs.Layout.{layout_of};
+ghost use Rattle.mt_rules.specs.Tables.{column_widths as widths_of_columns, columns_width as width_of_columns, widened};
+ghost use Rattle.mt_align.specs.Cells.{cells_of};
+
+use crate::{CellRow, CellRows};
+use mt_box::Packed;
+use mt_scaled::Length;
+use std::alloc::{AllocError, Global};
+
+// The widths of the columns, in scaled points. A column of negative cells has a negative width.
+pub(crate) fn column_widths(alloc: Global, rows: &CellRows) -> Result<Vec<i64>, AllocError>
+    ensures is { IfOk result (λ widths. widths.items ≡ widths_of_columns (cells_of rows.now)) }
+    ensures small { IfOk result (λ widths. All (Within max_dimen) widths.items) }
+{
+    let mut widths = Vec::new(alloc);
+    let rows = rows.as_slice();
+    for i in (0..rows.len()).rev() {
+        widen(&mut widths, &rows[i])?;
+    }
+    Ok(widths)
+}
+
+// The widths of columns that get a row of cells more.
+fn widen(widths: &mut Vec<i64>, cells: &CellRow) -> Result<(), AllocError>
+    requires { All (Within max_dimen) widths.old.items }
+    ensures is { OnOk result (widths.new.items
+        ≡ widened widths.old.items (map layout_of cells.now)) }
+    ensures small { OnOk result (All (Within max_dimen) widths.new.items) }
+{
+    let mut column = 0;
+    for cell in cells.as_slice() {
+        widen_column(widths, column, cell)?;
+        column += 1;
+    }
+    Ok(())
+}
+
+// The width of one of the columns that gets a cell more, or of a new one behind them.
+#[tactic(auto, using(std::proofs::lemmas::Int::ints, std::proofs::lemmas::Int::clamps))]
+fn widen_column(widths: &mut Vec<i64>, column: usize, cell: &Packed) -> Result<(), AllocError>
+    requires column { column ≤ length widths.old.items }
+    requires small { All (Within max_dimen) widths.old.items }
+    ensures is { OnOk result (widths.new.items ≡ take column widths.old.items
+        ++ widened (drop column widths.old.items) (layout_of cell.now ∷ [])) }
+    ensures small { OnOk result (All (Within max_dimen) widths.new.items) }
+{
+    let width = cell.extents().width;
+    if column < widths.len() {
+        widths[column] = widths[column].max(width);
+    } else {
+        widths.push(width)?;
+    }
+    Ok(())
+}
+
+// How wide columns and the gaps between them are.
+pub(crate) fn columns_width(gap: Length, widths: &[i64]) -> Length
+    requires gap { Within (2 ^ 31) gap.sp }
+    requires widths { All (Within max_dimen) widths.now }
+    requires few { length widths.now ≤ 2 ^ 19 }
+    ensures is { result.sp ≡ width_of_columns gap.sp widths.now }
+    ensures small { Within (2 ^ 53) result.sp }
+{
+    let mut end = Length { sp: 0 };
+    for width in widths {
+        end = end.plus(Length { sp: *width }).plus(gap);
+    }
+    if widths.is_empty() {
+        end
+    } else {
+        end.minus(gap)
+    }
+}
