@@ -8,7 +8,7 @@ pub type NameRow = ([u8; 18], Meaning);
 
 // In the order of the names' bytes, which the search rests on.
 #[rattlefmt::skip]
-static MEANINGS: [NameRow; 214] = [
+static MEANINGS: [NameRow; 221] = [
     (*b"!                 ", Meaning::Command(Command::NegativeThin)),
     (*b",                 ", Meaning::Command(Command::Thin)),
     (*b";                 ", Meaning::Command(Command::Thick)),
@@ -62,6 +62,7 @@ static MEANINGS: [NameRow; 214] = [
     (*b"clubsuit          ", Meaning::MathChar(0x027C)),
     (*b"colon             ", Meaning::MathChar(0x603A)),
     (*b"coprod            ", Meaning::MathChar(0x1360)),
+    (*b"cr                ", Meaning::Command(Command::Cr)),
     (*b"cup               ", Meaning::MathChar(0x225B)),
     (*b"dagger            ", Meaning::MathChar(0x2279)),
     (*b"dashv             ", Meaning::MathChar(0x3261)),
@@ -71,11 +72,14 @@ static MEANINGS: [NameRow; 214] = [
     (*b"diamond           ", Meaning::MathChar(0x2205)),
     (*b"diamondsuit       ", Meaning::MathChar(0x027D)),
     (*b"displaylimits     ", Meaning::Command(Command::DisplayLimits)),
+    (*b"displaylines      ", Meaning::Command(Command::DisplayLines)),
     (*b"displaystyle      ", Meaning::Command(Command::DisplayStyle)),
     (*b"div               ", Meaning::MathChar(0x2204)),
     (*b"ell               ", Meaning::MathChar(0x0160)),
     (*b"emptyset          ", Meaning::MathChar(0x023B)),
     (*b"epsilon           ", Meaning::MathChar(0x010F)),
+    (*b"eqalign           ", Meaning::Command(Command::Eqalign)),
+    (*b"eqalignno         ", Meaning::Command(Command::EqalignNo)),
     (*b"eqno              ", Meaning::Command(Command::EqNo)),
     (*b"equiv             ", Meaning::MathChar(0x3211)),
     (*b"eta               ", Meaning::MathChar(0x0111)),
@@ -110,6 +114,7 @@ static MEANINGS: [NameRow; 214] = [
     (*b"leftharpoonup     ", Meaning::MathChar(0x3128)),
     (*b"leftrightarrow    ", Meaning::MathChar(0x3224)),
     (*b"leq               ", Meaning::MathChar(0x3214)),
+    (*b"leqalignno        ", Meaning::Command(Command::LeqalignNo)),
     (*b"leqno             ", Meaning::Command(Command::LeqNo)),
     (*b"limits            ", Meaning::Command(Command::Limits)),
     (*b"ll                ", Meaning::MathChar(0x321C)),
@@ -127,6 +132,7 @@ static MEANINGS: [NameRow; 214] = [
     (*b"mathord           ", Meaning::Command(Command::MathOrd)),
     (*b"mathpunct         ", Meaning::Command(Command::MathPunct)),
     (*b"mathrel           ", Meaning::Command(Command::MathRel)),
+    (*b"matrix            ", Meaning::Command(Command::Matrix)),
     (*b"mid               ", Meaning::MathChar(0x326A)),
     (*b"middle            ", Meaning::Command(Command::Middle)),
     (*b"mkern             ", Meaning::Command(Command::MKern)),
@@ -160,6 +166,7 @@ static MEANINGS: [NameRow; 214] = [
     (*b"phi               ", Meaning::MathChar(0x011E)),
     (*b"pi                ", Meaning::MathChar(0x0119)),
     (*b"pm                ", Meaning::MathChar(0x2206)),
+    (*b"pmatrix           ", Meaning::Command(Command::Pmatrix)),
     (*b"prec              ", Meaning::MathChar(0x321E)),
     (*b"preceq            ", Meaning::MathChar(0x3216)),
     (*b"prime             ", Meaning::MathChar(0x0230)),

@@ -1,5 +1,5 @@
 -- What a token is in a formula.
-use Rattle.std.specs.Prelude.{ℕ, ℤ, pos, negsuc, Bool, true, false, ◌==◌, ◌||◌, Option, Some, None, if◌then◌else◌}
+use Rattle.std.specs.Prelude.{ℕ, ℤ, pos, negsuc, Bool, true, false, ◌==◌, Option, Some, None, if◌then◌else◌}
 use Rattle.mt_token.specs.declared.token.Token.{Token}
 use Rattle.mt_token.specs.declared.token.TokenKind.{TokenKind}
 use Rattle.mt_token.specs.declared.token.TokenKind.TheVariants.{Control, Char, Space as SpaceKind}
@@ -10,7 +10,7 @@ use Rattle.mt_rules.specs.declared.kind.Limits.TheVariants.{Default, Always, Nev
 use Rattle.mt_rules.specs.declared.style.Style.TheVariants.{D, T, S, Ss}
 use Rattle.mt_rules.specs.Sequence.{Element, StyleElement, MuSpaceElement, SpaceElement, MuKernElement, KernElement, NonscriptElement}
 use Rattle.mt_plain.specs.declared.meaning.Command.{Command}
-use Rattle.mt_plain.specs.declared.meaning.Command.TheVariants.{Relax, MathChar, Delimiter, MathOrd, MathOp, MathBin, MathRel, MathOpen, MathClose, MathPunct, MathInner, Overline, Underline, Radical, MathAccent, Vcenter, Hbox, Left, Middle, Right, Limits, NoLimits, DisplayLimits, Over, Atop, Above, OverWithDelims, AtopWithDelims, AboveWithDelims, DisplayStyle, TextStyle, ScriptStyle, ScriptScriptStyle, MathChoice, MSkip, MKern, HSkip, Kern as KernCommand, NonScript, Thin, Medium, Thick, NegativeThin, Fam, EqNo, LeqNo}
+use Rattle.mt_plain.specs.declared.meaning.Command.TheVariants.{Relax, MathChar, Delimiter, MathOrd, MathOp, MathBin, MathRel, MathOpen, MathClose, MathPunct, MathInner, Overline, Underline, Radical, MathAccent, Vcenter, Hbox, Left, Middle, Right, Limits, NoLimits, DisplayLimits, Over, Atop, Above, OverWithDelims, AtopWithDelims, AboveWithDelims, DisplayStyle, TextStyle, ScriptStyle, ScriptScriptStyle, MathChoice, MSkip, MKern, HSkip, Kern as KernCommand, NonScript, Thin, Medium, Thick, NegativeThin, Fam, EqNo, LeqNo, Matrix as MatrixCommand, Pmatrix, Eqalign, Cr, EqalignNo, LeqalignNo, DisplayLines}
 use Rattle.mt_plain.specs.declared.meaning.Meaning.{Meaning}
 use Rattle.mt_plain.specs.declared.meaning.Meaning.TheVariants.{MathChar as CodeMeaning, Command as CommandMeaning}
 use Rattle.mt_plain.specs.CodeTables.{CodeTables, math_code_of}
@@ -23,8 +23,9 @@ use Rattle.mt_scan.specs.declared.role.FieldKind.{FieldKind}
 use Rattle.mt_scan.specs.declared.role.FieldKind.TheVariants.{Class, Radical as RadicalNucleus, Accent as AccentNucleus, Over as OverNucleus, Under as UnderNucleus}
 use Rattle.mt_scan.specs.declared.role.Simple.{Simple}
 use Rattle.mt_scan.specs.declared.role.Simple.TheVariants.{Style, MuSpace, Space, MuKern, Kern, Nonscript}
+use Rattle.mt_scan.specs.declared.role.Preamble.TheVariants.{Matrix, Equations, NumberedEquations, Lines}
 use Rattle.mt_scan.specs.declared.role.Role.{Role}
-use Rattle.mt_scan.specs.declared.role.Role.TheVariants.{Blank, MathCode, CharWord, DelimiterWord, Prime, Script, OpenBrace, CloseBrace, Dollar, Misplaced, Nucleus, RadicalWord, AccentWord, VcenterWord, HboxWord, LeftWord, MiddleWord, RightWord, LimitsWord, FractionWord, ChoiceWord, AmountWord, ItemWord, FamilyWord, NumberWord, Unknown}
+use Rattle.mt_scan.specs.declared.role.Role.TheVariants.{Blank, MathCode, CharWord, DelimiterWord, Prime, Script, OpenBrace, CloseBrace, Dollar, Misplaced, Tab, CrWord, TableWord, PmatrixWord, DisplayWord, Nucleus, RadicalWord, AccentWord, VcenterWord, HboxWord, LeftWord, MiddleWord, RightWord, LimitsWord, FractionWord, ChoiceWord, AmountWord, ItemWord, FamilyWord, NumberWord, Unknown}
 
 -- the item
 abbrev pub simple_element : Simple → Element
@@ -94,6 +95,13 @@ command_role NegativeThin = mu_space (negsuc 196607) (pos 0)
 command_role Fam = FamilyWord
 command_role EqNo = NumberWord false
 command_role LeqNo = NumberWord true
+command_role MatrixCommand = TableWord Matrix
+command_role Pmatrix = PmatrixWord
+command_role Eqalign = TableWord Equations
+command_role Cr = CrWord
+command_role EqalignNo = DisplayWord NumberedEquations false
+command_role LeqalignNo = DisplayWord NumberedEquations true
+command_role DisplayLines = DisplayWord Lines false
 
 abbrev pub meaning_role : Option Meaning → Role
 meaning_role None = Unknown
@@ -112,7 +120,8 @@ character_role tables c =
     else if c == 94 then Script Up
     else if c == 95 then Script Down
     else if c == 36 then Dollar
-    else if (c == 38) || (c == 35) then Misplaced
+    else if c == 38 then Tab
+    else if c == 35 then Misplaced
     else code_role c (math_code_of tables c)
 
 abbrev pub kind_role : CodeTables → TokenKind → Role
@@ -146,6 +155,10 @@ is_left _ = false
 abbrev pub is_middle : Role → Bool
 is_middle MiddleWord = true
 is_middle _ = false
+
+abbrev pub is_pmatrix : Role → Bool
+is_pmatrix PmatrixWord = true
+is_pmatrix _ = false
 
 abbrev pub is_prime : Role → Bool
 is_prime Prime = true

@@ -1,6 +1,7 @@
 //! Delimiters.
-ghost use Rattle.std.specs.Prelude.{◌≡◌, ◌≤◌, length, IfOk};
-ghost use Rattle.mt_scan.specs.Delimiters.{code_of_kind, delimiter_by_code, delimiter_here, scan_delimiter};
+ghost use Rattle.std.specs.Prelude.{◌≡◌, ◌<◌, ◌≤◌, length, IfOk};
+ghost use Rattle.mt_scan.specs.Delimiters.{character_delimiter, code_of_kind};
+ghost use Rattle.mt_scan.specs.Delimiters.{delimiter_by_code, delimiter_here, scan_delimiter};
 ghost use Rattle.mt_scan.specs.Meets.{Meets};
 
 use crate::fault::{Fault, ReadCause};
@@ -40,6 +41,20 @@ fn delimiter_by_code<'a>(code: Option<u32>, rest: &'a [Token]) -> Result<Scanned
             left: rest.len() + 1,
         }),
     }
+}
+
+/// The delimiter of a character, as the token before these stands for it. The fault is at that token where the
+/// character has no delimiter code.
+pub fn character_delimiter<'a>(
+    codes: &Codes,
+    c: u8,
+    after: &'a [Token],
+) -> Result<Scanned<'a, Delim>, Fault>
+    requires { c < 128 }
+    ensures is { Meets result (character_delimiter codes.now c after.now) }
+    ensures falls { IfOk result (λ part. length part.rest.now ≤ length after.now) }
+{
+    delimiter_by_code(codes.delcode(c), after)
 }
 
 fn delimiter_here<'a>(codes: &Codes, tokens: &'a [Token]) -> Result<Scanned<'a, Delim>, Fault>

@@ -27,10 +27,12 @@ pub enum ReadCause {
     MisplacedNumber,
     /// Too many groups in one another.
     TooDeep,
+    /// A cell of a table in a column that it does not have.
+    ExtraCell,
 }
 
 impl ReadCause {
-    /// Its number, from 1 in the order of the variants.
+    /// Its number: from 1 in the order of the variants, without 12, which want of memory has.
     pub fn number(self) -> u8
         ensures { result ≡ cause_number self }
     {
@@ -46,6 +48,7 @@ impl ReadCause {
             ReadCause::BadDimension => 9,
             ReadCause::MisplacedNumber => 10,
             ReadCause::TooDeep => 11,
+            ReadCause::ExtraCell => 13,
         }
     }
 }

@@ -13,11 +13,11 @@ mod spaces;
 mod symbols;
 mod units;
 
-pub use delimiters::{MAX_DELIMITER, scan_delimiter};
+pub use delimiters::{MAX_DELIMITER, character_delimiter, scan_delimiter};
 pub use dimensions::{dimension, glue};
 pub use fault::{Fault, ReadCause};
 pub use numbers::{MAX_MATH_CHAR, number_to, whole_number};
-pub use role::{Amount, Bar, FieldKind, Role, Side, Simple, role_of};
+pub use role::{Amount, Bar, FieldKind, Preamble, Role, Side, Simple, role_of};
 pub use scanned::Scanned;
 pub use spaces::{after_blanks, after_spaces};
 pub use symbols::{class_of, code_symbol, current_family, delim_of, null_delim};

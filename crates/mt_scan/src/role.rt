@@ -72,6 +72,19 @@ pub enum FieldKind {
     Under,
 }
 
+/// What columns a table has.
+#[derive(Clone, Copy, Debug, PartialEq, Eq)]
+pub enum Preamble {
+    /// Those of a matrix: as many as its rows have cells.
+    Matrix,
+    /// The two sides of equations.
+    Equations,
+    /// The two sides of equations, and their numbers.
+    NumberedEquations,
+    /// One column.
+    Lines,
+}
+
 /// What a token is in a formula. Words that are treated alike are one variant.
 #[derive(Clone, Copy, Debug, PartialEq, Eq)]
 pub enum Role {
@@ -93,8 +106,19 @@ pub enum Role {
     CloseBrace,
     /// `$`
     Dollar,
-    /// `&` or `#`.
+    /// `#`
     Misplaced,
+    /// `&`
+    Tab,
+    /// `\cr`
+    CrWord,
+    /// `\matrix` or `\eqalign`: a table with these columns.
+    TableWord(Preamble),
+    /// `\pmatrix`
+    PmatrixWord,
+    /// `\eqalignno`, `\leqalignno` or `\displaylines`: a display with these columns, and whether its
+    /// numbers stand at the left.
+    DisplayWord(Preamble, bool),
     /// A word that takes a field as the nucleus of an atom of this kind.
     Nucleus(FieldKind),
     /// `\radical`
@@ -185,6 +209,13 @@ fn command_role(command: Command) -> Role
         Command::Fam => Role::FamilyWord,
         Command::EqNo => Role::NumberWord(false),
         Command::LeqNo => Role::NumberWord(true),
+        Command::Matrix => Role::TableWord(Preamble::Matrix),
+        Command::Pmatrix => Role::PmatrixWord,
+        Command::Eqalign => Role::TableWord(Preamble::Equations),
+        Command::Cr => Role::CrWord,
+        Command::EqalignNo => Role::DisplayWord(Preamble::NumberedEquations, false),
+        Command::LeqalignNo => Role::DisplayWord(Preamble::NumberedEquations, true),
+        Command::DisplayLines => Role::DisplayWord(Preamble::Lines, false),
     }
 }
 
@@ -222,7 +253,8 @@ fn character_role(codes: &Codes, c: u8) -> Role
         b'^' => Role::Script(Side::Up),
         b'_' => Role::Script(Side::Down),
         b'$' => Role::Dollar,
-        b'&' | b'#' => Role::Misplaced,
+        b'&' => Role::Tab,
+        b'#' => Role::Misplaced,
         _ => code_role(c, codes.math_code(c)),
     }
 }
