@@ -4,7 +4,7 @@ use Rattle.std.specs.Prelude.{⊤, if◌then◌else◌}
 use Rattle.mt_token.specs.declared.token.Token.{Token}
 use Rattle.mt_scaled.specs.declared.unit.Units.{Units}
 use Rattle.mt_rules.specs.Modest.{IsAmount, GlueAmounts, ElementAmounts}
-use Rattle.mt_plain.specs.CodeTables.{CodeTables}
+use Rattle.mt_plain.specs.CodeTables.{CodeTables, delcode_of}
 use Rattle.mt_scan.specs.Limits.{max_groups, max_math_char, max_delimiter}
 use Rattle.mt_scan.specs.declared.fault.ReadCause.TheVariants.{DoubleScript, MisplacedLimits, MissingField, TooDeep}
 use Rattle.mt_scan.specs.declared.role.Side.{Side}
@@ -14,21 +14,21 @@ use Rattle.mt_scan.specs.declared.role.FieldKind.TheVariants.{Radical, Accent}
 use Rattle.mt_scan.specs.declared.role.Amount.{Amount}
 use Rattle.mt_scan.specs.declared.role.Amount.TheVariants.{MuSkip, MuKern, Skip, Kern}
 use Rattle.mt_scan.specs.declared.role.Role.{Role}
-use Rattle.mt_scan.specs.declared.role.Role.TheVariants.{Blank, MathCode, CharWord, DelimiterWord, Prime as PrimeRole, Script as ScriptRole, OpenBrace, Nucleus, RadicalWord, AccentWord, VcenterWord, HboxWord, LeftWord, LimitsWord, ChoiceWord, AmountWord, ItemWord, FamilyWord, Unknown}
+use Rattle.mt_scan.specs.declared.role.Role.TheVariants.{Blank, MathCode, CharWord, DelimiterWord, Prime as PrimeRole, Script as ScriptRole, OpenBrace, Nucleus, RadicalWord, AccentWord, VcenterWord, HboxWord, TableWord, PmatrixWord, LeftWord, LimitsWord, ChoiceWord, AmountWord, ItemWord, FamilyWord, Unknown}
 use Rattle.mt_formula.specs.declared.step.action.FieldStart.{FieldStart}
 use Rattle.mt_formula.specs.declared.step.action.FieldStart.TheVariants.{Symbol as SymbolStart, Group as GroupStart}
 use Rattle.mt_formula.specs.declared.step.action.Action.{Action}
 use Rattle.mt_formula.specs.declared.step.action.Action.TheVariants.{Item, Group, ScriptGroup, LeftRight, Choice, Prime as PrimeAction, Limits as LimitsAction, Stop}
-use Rattle.mt_scan.specs.Role.{role_of, simple_element, is_open_brace, is_left}
+use Rattle.mt_scan.specs.Role.{role_of, simple_element, is_open_brace, is_left, is_pmatrix}
 use Rattle.mt_scan.specs.Parts.{Got, Fault, after_blanks, opening}
 use Rattle.mt_scan.specs.Numbers.{math_code, delimiter_number, whole_number}
 use Rattle.mt_scan.specs.Dimensions.{dimension, glue}
 use Rattle.mt_scan.specs.Symbols.{code_symbol, delim_of}
-use Rattle.mt_scan.specs.Delimiters.{scan_delimiter}
+use Rattle.mt_scan.specs.Delimiters.{character_delimiter, scan_delimiter}
 use Rattle.mt_formula.specs.Atoms.{AtomValue, is_free, is_op}
 use Rattle.mt_formula.specs.Fields.{field_start_at, field_start_here, field_start}
-use Rattle.mt_formula.specs.Items.{filled, script_filled, nucleus_action, script_action, amount_action, left_action, action, action_here}
-use Rattle.mt_formula.proofs.Short.{Within, within_next, within_if, within_more, none, blanks_short, whole_number_short, number_to_short, delimiter_short, opening_takes, dimension_short, glue_short}
+use Rattle.mt_formula.specs.Items.{filled, script_filled, nucleus_action, script_action, amount_action, left_action, pmatrix_action, action, action_here}
+use Rattle.mt_formula.proofs.Short.{Within, within_next, within_if, within_more, none, blanks_short, whole_number_short, number_to_short, by_code_short, delimiter_short, opening_takes, dimension_short, glue_short}
 use Rattle.mt_formula.proofs.Fitting.{Holds, holds_next, holds_after, holds_if, dimension_amount, glue_amounts, RoleFits, role_fits}
 
 -- what a token counts for that an action takes: four items
@@ -116,6 +116,11 @@ module _ (tables : CodeTables) where
     left_takes : (ts : List Token) → Within action_four (4 * length ts + 4) (left_action tables ts)
     left_takes ts = within_next none action_four (4 * length ts) (4 * length ts + 4) (scan_delimiter tables ts) _ (delimiter_short tables ts) (λ left inside w. omega (arith, w))
 
+    pmatrix_takes : (ts : List Token) → Within action_four (4 * length ts + 4) (pmatrix_action tables ts)
+    pmatrix_takes ts =
+        within_next none action_four (4 * length ts) (4 * length ts + 4) (character_delimiter tables 40 ts) _ (by_code_short (delcode_of tables 40) ts (4 * length ts) (omega arith))
+        (λ left same w. within_next none action_four (4 * length same) (4 * length ts + 4) (character_delimiter tables 41 same) _ (by_code_short (delcode_of tables 41) same (4 * length same) (omega arith)) (λ right after v. omega (arith, w, v)))
+
     module _ (units : Units) where
       amount_takes : (amount : Amount) (ts : List Token) → Within action_four (4 * length ts + 4) (amount_action units amount ts)
       amount_takes MuSkip ts = within_next none action_four (4 * length ts) (4 * length ts + 4) (glue units true ts) _ (glue_short units true ts) (λ g rest w. omega (arith, w))
@@ -142,6 +147,8 @@ module _ (tables : CodeTables) where
         action_takes t rest AccentWord = within_next none action_four (4 * length rest) (4 * length rest + 4) (math_code rest) _ (number_to_short max_math_char rest) (λ code after w. within_more action_four (4 * length after + 4) (4 * length rest + 4) (nucleus_action tables level family (Accent (code_symbol family code)) after) (omega (arith, w)) (nucleus_takes (Accent (code_symbol family code)) after))
         action_takes t rest VcenterWord = within_next (λ (here : ⊤). 4) action_four (4 * length rest) (4 * length rest + 4) (opening tables is_open_brace level rest) _ (opening_takes tables is_open_brace level rest) (λ here inside w. omega (arith, w))
         action_takes t rest LeftWord = within_next (λ (here : ⊤). 4) action_four (4 * length (t ∷ rest)) (4 * length rest + 4) (opening tables is_left level (t ∷ rest)) _ (opening_takes tables is_left level (t ∷ rest)) (λ here after w. within_more action_four (4 * length after + 4) (4 * length rest + 4) (left_action tables after) (omega (arith, w)) (left_takes after))
+        action_takes t rest (TableWord preamble) = omega arith
+        action_takes t rest PmatrixWord = within_next (λ (here : ⊤). 4) action_four (4 * length (t ∷ rest)) (4 * length rest + 4) (opening tables is_pmatrix level (t ∷ rest)) _ (opening_takes tables is_pmatrix level (t ∷ rest)) (λ here after w. within_more action_four (4 * length after + 4) (4 * length rest + 4) (pmatrix_action tables after) (omega (arith, w)) (pmatrix_takes after))
         action_takes t rest (ScriptRole side) = within_if action_four (4 * length rest + 4) (is_free side last) (script_action tables level family side rest) (Fault DoubleScript (length rest + 1)) (script_takes side rest) tt
         action_takes t rest PrimeRole = within_if action_four (4 * length rest + 4) (is_free Up last) (Got PrimeAction rest) (Fault DoubleScript (length rest + 1)) (omega arith) tt
         action_takes t rest (LimitsWord limits) = within_if action_four (4 * length rest + 4) (is_op last) (Got (LimitsAction limits) rest) (Fault MisplacedLimits (length rest + 1)) (omega arith) tt
@@ -169,6 +176,10 @@ module _ (tables : CodeTables) where
         action_carries t rest AccentWord r = holds_after (Carries level) (math_code rest) _ (λ code after. nucleus_carries (Accent (code_symbol family code)) after)
         action_carries t rest VcenterWord r = holds_after (Carries level) (opening tables is_open_brace level rest) _ (λ here inside. tt)
         action_carries t rest LeftWord r = holds_next (λ (here : ⊤). level < max_groups) (Carries level) (opening tables is_left level (t ∷ rest)) _ (opening_level is_left level (t ∷ rest)) (λ here after h. holds_after (Carries level) (scan_delimiter tables after) _ (λ left inside. h))
+        action_carries t rest (TableWord preamble) r = tt
+        action_carries t rest PmatrixWord r =
+            holds_after (Carries level) (opening tables is_pmatrix level (t ∷ rest)) _
+            (λ here after. holds_after (Carries level) (character_delimiter tables 40 after) _ (λ left same. holds_after (Carries level) (character_delimiter tables 41 same) _ (λ right last. tt)))
         action_carries t rest (ScriptRole side) r = holds_if (Carries level) (is_free side last) (script_action tables level family side rest) (Fault DoubleScript (length rest + 1)) (λ e. script_carries side rest) tt
         action_carries t rest PrimeRole r = holds_if (Carries level) (is_free Up last) (Got PrimeAction rest) (Fault DoubleScript (length rest + 1)) (λ e. tt) tt
         action_carries t rest (LimitsWord limits) r = holds_if (Carries level) (is_op last) (Got (LimitsAction limits) rest) (Fault MisplacedLimits (length rest + 1)) (λ e. tt) tt

@@ -17,8 +17,8 @@ use Rattle.mt_scan.specs.declared.role.Side.TheVariants.{Up}
 use Rattle.mt_formula.specs.declared.open.open_list.Stop.{Stop}
 use Rattle.mt_scan.specs.Role.{nucleus_kind}
 use Rattle.mt_scan.specs.Parts.{Read, Fault}
-use Rattle.mt_formula.specs.Atoms.{InGroup, nucleus_atom, nucleus_of, with_script}
-use Rattle.mt_formula.specs.Items.{put_atom, put_script}
+use Rattle.mt_formula.specs.Atoms.{nucleus_atom, nucleus_of, with_script}
+use Rattle.mt_formula.specs.machine.Carried.{put_atom, put_script}
 use Rattle.mt_formula.specs.machine.OpenLists.{last_atom_of}
 use Rattle.mt_formula.specs.machine.Frames.{left_after}
 use Rattle.mt_formula.specs.machine.Remaining.{remaining}
@@ -37,7 +37,7 @@ module _ (tables : CodeTables) (units : Units) where
     pub nucleus_closed : (kind : FieldKind) (after : List Token) → after ≡ drop 1 ts → length after ≤ length ts → ResumesNucleus kind all l new → Resuming tables units whole (record { owner = Nucleus kind; list = l }) outer all ts → Stands tables units whole outer new after
     nucleus_closed kind after is low b u =
         resumed_put tables units whole (record { owner = Nucleus kind; list = l }) outer all ts after new _ _ _ u
-        (λ k again. ap (put_atom tables units again l.level l.family (last_atom_of l.last) (nucleus_atom (nucleus_kind kind) (InGroup all))) (sym is)) b low
+        (λ k again. ap (put_atom tables units again l.level l.family (last_atom_of l.last) (nucleus_atom (nucleus_kind kind) all)) (sym is)) b low
 
     pub script_closed : (side : Side) (after : List Token) → after ≡ drop 1 ts → length after ≤ length ts → ResumesScript side all l new → Resuming tables units whole (record { owner = Script side; list = l }) outer all ts → Stands tables units whole outer new after
     script_closed side after is low b u =

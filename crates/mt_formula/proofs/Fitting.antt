@@ -1,7 +1,7 @@
 -- Lists whose nesting is at most a bound and whose amounts are below 2^30 in size (`Fits`).
 use Rattle.std.proofs.Common.{◌≡◌, ℕ, zero, suc, ◌+◌, ◌*◌, ◌≤◌, refl, sym, Bool, true, false, true≢false, List, length, Option, Some, None, arith}
 use Rattle.std.proofs.lemmas.Int.{ints}
-use Rattle.std.specs.Prelude.{ℤ, pos, negsuc, nat_abs, nat_le, ◌==◌, ◌&&◌, ◌||◌, max, ⊤, if◌then◌else◌, codes}
+use Rattle.std.specs.Prelude.{ℤ, pos, negsuc, nat_abs, nat_le, ◌==◌, ◌&&◌, max, ⊤, if◌then◌else◌, codes}
 use Rattle.mt_token.specs.declared.token.Token.{Token}
 use Rattle.mt_token.specs.declared.token.TokenKind.{TokenKind}
 use Rattle.mt_token.specs.declared.token.TokenKind.TheVariants.{Control, Char, Space as SpaceKind}
@@ -13,8 +13,8 @@ use Rattle.mt_rules.specs.declared.kind.Kind.TheVariants.{Plain}
 use Rattle.mt_rules.specs.declared.kind.Limits.{Limits as WhereLimits}
 use Rattle.mt_rules.specs.declared.symbol.Delim.{Delim}
 use Rattle.mt_rules.specs.declared.symbol.Glue.{Glue}
-use Rattle.mt_rules.specs.Sequence.{Sequence, Element, Part, Rows, End, More, AtomElement, FractionElement, LeftElement, MiddleElement, RightElement, StyleElement, ChoiceElement, MuSpaceElement, SpaceElement, MuKernElement, KernElement, NonscriptElement, EmptyPart, SymbolPart, ListPart, RowsPart, NoRows, MoreRows}
-use Rattle.mt_rules.specs.Modest.{list_items, element_items, part_items, rows_items, list_nesting, element_nesting, part_nesting, rows_nesting, IsAmount, GlueAmounts, ThicknessAmount, ListAmounts, ElementAmounts, PartAmounts, RowsAmounts}
+use Rattle.mt_rules.specs.Sequence.{Sequence, Element, Part, Rows, End, More, AtomElement, FractionElement, LeftElement, MiddleElement, RightElement, StyleElement, ChoiceElement, MuSpaceElement, SpaceElement, MuKernElement, KernElement, NonscriptElement, EmptyPart, SymbolPart, ListPart, RowsPart, TablePart, NoRows, MoreRows, TableGrid, NoTableRows, MoreTableRows}
+use Rattle.mt_rules.specs.Modest.{list_items, element_items, part_items, rows_items, grid_items, list_nesting, element_nesting, part_nesting, rows_nesting, grid_nesting, IsAmount, GlueAmounts, ThicknessAmount, ListAmounts, ElementAmounts, PartAmounts, RowsAmounts, GridAmounts}
 use Rattle.mt_plain.specs.CodeTables.{CodeTables, math_code_of}
 use Rattle.mt_plain.specs.Limits.{max_math_code}
 use Rattle.mt_plain.specs.Names.{control}
@@ -24,7 +24,7 @@ use Rattle.mt_plain.specs.declared.meaning.Meaning.{Meaning}
 use Rattle.mt_plain.specs.declared.meaning.Meaning.TheVariants.{MathChar as CodeMeaning, Command as CommandMeaning}
 use Rattle.mt_scan.specs.declared.fault.ReadCause.TheVariants.{BadDimension}
 use Rattle.mt_scan.specs.declared.role.Role.{Role}
-use Rattle.mt_scan.specs.declared.role.Role.TheVariants.{MathCode, Prime, Script, OpenBrace, CloseBrace, Dollar, Misplaced, ItemWord, Unknown}
+use Rattle.mt_scan.specs.declared.role.Role.TheVariants.{MathCode, Prime, Script, OpenBrace, CloseBrace, Dollar, Misplaced, Tab, ItemWord, Unknown}
 use Rattle.mt_scan.specs.Role.{role_of, kind_role, meaning_role, command_role, code_role, character_role, simple_element}
 use Rattle.mt_scan.specs.declared.role.Side.{Side}
 use Rattle.mt_scan.specs.declared.role.Side.TheVariants.{Up, Down}
@@ -37,7 +37,7 @@ use Rattle.mt_scan.specs.Numbers.{signs, with_sign}
 use Rattle.mt_scan.specs.Dimensions.{measure, factor, length_of, is_dimension, dimension_in_range, dimension_of, dimension_from, dimension, after_letters, amount_after, amount, glue}
 use Rattle.mt_scan.specs.Symbols.{null_delim}
 use Rattle.mt_scan.specs.Delimiters.{scan_delimiter}
-use Rattle.mt_formula.specs.Atoms.{AtomValue, element_of_atom, last_atom_items, append, plain_atom, is_bare_ord, is_accent_kind, Filling, InSymbol, InGroup, nucleus_of, nucleus_of_atom, filling_part, group_atom, group_atom_of, nucleus_atom, with_script, with_limits, prime_items}
+use Rattle.mt_formula.specs.Atoms.{AtomValue, element_of_atom, last_atom_items, append, plain_atom, is_bare_ord, is_accent_kind, nucleus_of, nucleus_of_atom, group_atom, group_atom_of, nucleus_atom, with_script, with_limits, prime_items}
 use Rattle.mt_formula.specs.Lists.{fraction_list, bar_thickness, with_bar, fraction_head}
 use Rattle.mt_formula.proofs.Short.{Within}
 use Rattle.mt_formula.proofs.Inside.{second_true}
@@ -91,12 +91,12 @@ pub record RowsFit (n : ℕ) (rows : Rows) : Type 0 where
   pub nesting : rows_nesting rows ≤ n
   pub amounts : RowsAmounts rows
 
+pub record GridFits (n : ℕ) (grid : TableGrid) : Type 0 where
+  pub nesting : grid_nesting grid ≤ n
+  pub amounts : GridAmounts grid
+
 abbrev pub AtomFits : ℕ → AtomValue → Type 0
 AtomFits n a = ElementFits n (element_of_atom a)
-
-abbrev pub FillingFits : ℕ → Filling → Type 0
-FillingFits n (InSymbol symbol) = ⊤
-FillingFits n (InGroup list) = Fits n list
 
 pub fits_more : (n m : ℕ) (list : Sequence) → n ≤ m → Fits n list → Fits m list
 fits_more n m list h f = record { nesting = omega (arith, h, f.nesting); amounts = f.amounts }
@@ -147,10 +147,15 @@ mutual
   part_counted (SymbolPart symbol) = omega arith
   part_counted (ListPart list) = list_counted list
   part_counted (RowsPart rows) = rows_counted rows
+  part_counted (TablePart look grid) = grid_counted grid
 
   rows_counted : (r : Rows) → rows_nesting r ≤ rows_items r + 1
   rows_counted NoRows = omega arith
   rows_counted (MoreRows first rest) = omega (arith, list_counted first, rows_counted rest)
+
+  grid_counted : (g : TableGrid) → grid_nesting g ≤ grid_items g + 1
+  grid_counted NoTableRows = omega arith
+  grid_counted (MoreTableRows cells rest) = omega (arith, rows_counted cells, grid_counted rest)
 
 -- groups and fields
 nucleus_fits_of : (n : ℕ) (list : Sequence) (a : AtomValue) → PartFits n a.nucleus → PartFits n (ListPart list) → PartFits n (nucleus_of_atom (Some a) list)
@@ -163,7 +168,7 @@ nucleus_fits_of n list a f g = by_bare (is_bare_ord a)
 list_part_fits : (n : ℕ) (list : Sequence) → Fits n list → PartFits n (ListPart list)
 list_part_fits n list f = record { nesting = f.nesting; amounts = f.amounts }
 
-nucleus_fits : (n : ℕ) (list : Sequence) → Fits n list → PartFits n (nucleus_of list)
+pub nucleus_fits : (n : ℕ) (list : Sequence) → Fits n list → PartFits n (nucleus_of list)
 nucleus_fits n (More (AtomElement kind limits nucleus sup sub) End) f = nucleus_fits_of n (More (AtomElement kind limits nucleus sup sub) End) (record { kind = kind; limits = limits; nucleus = nucleus; sup = sup; sub = sub }) (record { nesting = omega (arith, f.nesting); amounts = f.amounts.0.0 }) (list_part_fits n (More (AtomElement kind limits nucleus sup sub) End) f)
 nucleus_fits n list f = list_part_fits n list f
 
@@ -184,13 +189,9 @@ group_fits n s f = others s f
     others : (list : Sequence) → Fits n list → AtomFits (n + 1) (group_atom_of None list)
     others list g = plain_fits n (Plain Ord) (nucleus_of list) (nucleus_fits n list g)
 
-pub filling_fits : (n : ℕ) (f : Filling) → FillingFits n f → PartFits n (filling_part f)
-filling_fits n (InSymbol symbol) h = record { nesting = omega arith; amounts = tt }
-filling_fits n (InGroup list) h = nucleus_fits n list h
-
-pub nucleus_atom_fits : (n : ℕ) (kind : Kind) (f : Filling) → FillingFits n f → AtomFits (n + 1) (nucleus_atom kind f)
-nucleus_atom_fits n (Plain Ord) (InGroup list) h = group_fits n list h
-nucleus_atom_fits n kind f h = plain_fits n kind (filling_part f) (filling_fits n f h)
+pub nucleus_atom_fits : (n : ℕ) (kind : Kind) (list : Sequence) → Fits n list → AtomFits (n + 1) (nucleus_atom kind list)
+nucleus_atom_fits n (Plain Ord) list f = group_fits n list f
+nucleus_atom_fits n kind list f = plain_fits n kind (nucleus_of list) (nucleus_fits n list f)
 
 -- the last atom
 abbrev pub LastAtomFits : ℕ → Option AtomValue → Type 0
@@ -303,7 +304,8 @@ character_fits tables c =
     (role_if (c == 94) (Script Up) _ tt
     (role_if (c == 95) (Script Down) _ tt
     (role_if (c == 36) Dollar _ tt
-    (role_if ((c == 38) || (c == 35)) Misplaced (code_role c (math_code_of tables c)) tt (code_fits c (math_code_of tables c)))))))
+    (role_if (c == 38) Tab _ tt
+    (role_if (c == 35) Misplaced (code_role c (math_code_of tables c)) tt (code_fits c (math_code_of tables c))))))))
 
 kind_fits : (tables : CodeTables) (kind : TokenKind) → RoleFits (kind_role tables kind)
 kind_fits tables (Control name) = meaning_fits (control name)

@@ -4,7 +4,7 @@ use Rattle.std.specs.Prelude.{is_some}
 use Rattle.mt_rules.specs.declared.kind.Kind.{Kind}
 use Rattle.mt_rules.specs.declared.kind.Kind.TheVariants.{Plain, Radical, Accent, Over, Under, Vcenter}
 use Rattle.mt_rules.specs.declared.list.Item.{Item}
-use Rattle.mt_rules.specs.Sequence.{Sequence, Element, Part, End, More, AtomElement, FractionElement, LeftElement, MiddleElement, RightElement, StyleElement, ChoiceElement, MuSpaceElement, SpaceElement, MuKernElement, KernElement, NonscriptElement, EmptyPart, SymbolPart, ListPart, RowsPart}
+use Rattle.mt_rules.specs.Sequence.{Sequence, Element, Part, End, More, AtomElement, FractionElement, LeftElement, MiddleElement, RightElement, StyleElement, ChoiceElement, MuSpaceElement, SpaceElement, MuKernElement, KernElement, NonscriptElement, EmptyPart, SymbolPart, ListPart, RowsPart, TablePart}
 use Rattle.mt_rules.specs.Facts.{HoldsRows, HoldsNoRows, NucleusFits, NoBoundary, StandsInside, Inside, IsMathList}
 use Rattle.mt_rules.specs.View.{element_of, sequence_of}
 use Rattle.mt_formula.specs.Atoms.{append, only_atom}
@@ -50,12 +50,14 @@ no_rows EmptyPart h = tt
 no_rows (SymbolPart symbol) h = tt
 no_rows (ListPart list) h = tt
 no_rows (RowsPart rows) h = true≢false (sym h)
+no_rows (TablePart look grid) h = true≢false (sym h)
 
 some_rows : (p : Part) → holds_rows p ≡ true → HoldsRows p
 some_rows EmptyPart h = true≢false (sym h)
 some_rows (SymbolPart symbol) h = true≢false (sym h)
 some_rows (ListPart list) h = true≢false (sym h)
 some_rows (RowsPart rows) h = tt
+some_rows (TablePart look grid) h = tt
 
 fits : (kind : Kind) (nucleus : Part) → nucleus_fits kind nucleus ≡ true → NucleusFits kind nucleus
 fits (Plain class) nucleus h = no_rows nucleus h

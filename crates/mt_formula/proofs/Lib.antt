@@ -14,10 +14,11 @@ mod Turning
 mod Remaining
 -- actions that open a list
 mod Opening
--- lists between boundaries open and end; what a list that is read leaves: of a choice, a row, and any other
+-- lists between boundaries open and end; what a list that is read leaves: of a choice, a row, a cell of a table, and any other
 mod Boundaries
 mod Choosing
 mod Rowing
+mod Tabling
 mod Closing
 -- primes, and the argument after them
 mod Priming
@@ -27,14 +28,22 @@ mod Proceeding
 mod Short
 -- a formula has at most four items for each of its tokens: lists, and then all else
 mod Bounds
+mod TableBounds
+mod DisplayBounds
 pub mod ItemBounds
 -- and its nesting and its amounts are bounded
 mod Fitting
 -- what an action takes and carries
 mod Acting
 pub mod Nesting
+-- what is read by fewer turns is read by more
+mod Below
+-- runs that carry their last atom read what items with their tails read
+mod Carrying
 -- the reading of a formula, of a list and perhaps of another one at its side
 mod FormulaReading
+-- the reading of displays of several lines
+mod DisplayReading
 -- what worked formulas are written with
 pub mod Writing
 -- worked formulas
@@ -43,6 +52,8 @@ mod GroupCases
 mod ScriptCases
 mod DelimiterCases
 mod MiddleCases
+mod TableCases
+mod DisplayCases
 mod SpaceCases
 -- formulas at fault
 mod NameFaults
@@ -51,3 +62,4 @@ mod FieldFaults
 mod NumberFaults
 mod LevelFaults
 mod MiddleFaults
+mod TableFaults

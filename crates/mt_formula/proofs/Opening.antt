@@ -12,8 +12,9 @@ use Rattle.mt_scan.specs.Limits.{max_groups}
 use Rattle.mt_scan.specs.Parts.{Read, Got, then_read}
 use Rattle.mt_formula.specs.Atoms.{AtomValue}
 use Rattle.mt_formula.specs.Lists.{ItemRunReader, list}
+use Rattle.mt_formula.specs.machine.Carried.{follows}
 use Rattle.mt_formula.specs.machine.OpenLists.{last_atom_of, Begins}
-use Rattle.mt_formula.specs.Items.{action_here, follows}
+use Rattle.mt_formula.specs.Items.{action_here}
 use Rattle.mt_formula.specs.machine.Frames.{owned, tokens_after, left_after, shifted}
 use Rattle.mt_formula.specs.declared.open.open_list.Ending.TheVariants.{AtBrace}
 use Rattle.mt_formula.specs.machine.Openings.{opens_list, opens_braces, opened_owner}

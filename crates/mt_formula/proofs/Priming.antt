@@ -12,7 +12,7 @@ use Rattle.mt_rules.specs.Sequence.{Sequence, More, End, Part, ListPart}
 use Rattle.mt_plain.specs.CodeTables.{CodeTables}
 use Rattle.mt_formula.specs.declared.forms.primes.ScriptArgument.{ScriptArgument}
 use Rattle.mt_formula.specs.declared.open.open_list.Owner.{Owner}
-use Rattle.mt_formula.specs.declared.open.open_list.Owner.TheVariants.{Nucleus, Script, LeftRight, Choice, Row, Argument as ArgumentOwner, OpenArgument}
+use Rattle.mt_formula.specs.declared.open.open_list.Owner.TheVariants.{Nucleus, Script, LeftRight, Choice, Row, Cell, Argument as ArgumentOwner, OpenArgument}
 use Rattle.mt_formula.specs.declared.open.open_list.Ending.{Ending}
 use Rattle.mt_formula.specs.declared.open.open_list.Ending.TheVariants.{AtEnd}
 use Rattle.mt_formula.specs.declared.open.open_list.OpenList.{OpenList}
@@ -29,8 +29,8 @@ use Rattle.mt_scan.specs.Parts.{Read, Got, Fault, NoTurn, then_read, after_space
 use Rattle.mt_formula.specs.Atoms.{AtomValue, append, element_of_atom, prime_atom, prime_items, last_atom_items, with_script}
 use Rattle.mt_formula.specs.Lists.{ItemRunReader, ItemRun}
 use Rattle.mt_formula.specs.Primes.{followed_by, after_primes, braced_argument, argument_at, argument_after, primes, prime_script, prime_script_of, prime_script_at}
+use Rattle.mt_formula.specs.machine.Carried.{follows}
 use Rattle.mt_formula.specs.machine.Arguments.{put_superscript, opened_argument, GivesArgument, GivesBraced, after_superscript}
-use Rattle.mt_formula.specs.Items.{follows}
 use Rattle.mt_formula.specs.machine.Stands.{Stands, tokens_after_all}
 use Rattle.mt_formula.specs.machine.Turned.{Performing}
 use Rattle.mt_macro.proofs.Taking.{onto_all, onto_more}
@@ -171,6 +171,7 @@ left_least (Script side) left = omega arith
 left_least (LeftRight fence) left = omega arith
 left_least (Choice lists) left = omega arith
 left_least (Row rows) left = omega arith
+left_least (Cell table) left = omega arith
 left_least OpenArgument left = omega arith
 
 -- a prime, and those after it

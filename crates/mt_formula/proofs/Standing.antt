@@ -7,15 +7,14 @@ use Rattle.mt_plain.specs.CodeTables.{CodeTables}
 use Rattle.mt_formula.specs.declared.open.open_list.Ending.{Ending}
 use Rattle.mt_formula.specs.declared.open.open_list.Frame.{Frame}
 use Rattle.mt_formula.specs.declared.open.open_list.Owner.{Owner}
-use Rattle.mt_formula.specs.declared.open.open_list.Owner.TheVariants.{Nucleus, Script, LeftRight, Choice, Row, Argument, OpenArgument}
+use Rattle.mt_formula.specs.declared.open.open_list.Owner.TheVariants.{Nucleus, Script, LeftRight, Choice, Row, Cell, Argument, OpenArgument}
 use Rattle.mt_formula.specs.declared.open.open_list.OpenList.{OpenList}
 use Rattle.mt_scan.specs.declared.fault.ReadCause.{ReadCause}
 use Rattle.mt_scan.specs.Parts.{Read, Got, Fault, NoTurn, then_read}
 use Rattle.mt_formula.specs.Atoms.{AtomValue, append, last_atom_items}
 use Rattle.mt_formula.specs.declared.open.open_list.FractionHead.{FractionHead}
 use Rattle.mt_formula.specs.Lists.{ItemRunReader, ItemRun, items_before, list_after, after_item_run, list_end, fraction_list, denominator}
-use Rattle.mt_formula.specs.Items.{turn}
-use Rattle.mt_formula.specs.Formulas.{item_run}
+use Rattle.mt_formula.specs.machine.Carried.{carried_run, carried_turn}
 use Rattle.mt_formula.specs.machine.OpenLists.{items_of, last_atom_of, numerator_of, Begins, Becomes, Divides}
 use Rattle.mt_formula.specs.machine.Frames.{owned, tokens_after, left_after, shifted}
 use Rattle.mt_formula.specs.machine.Stands.{finished, list_with, listed, Unwinds, Stands, tokens_after_all}
@@ -46,6 +45,7 @@ left_lower (Script side) left less h = h
 left_lower (LeftRight fence) left less h = h
 left_lower (Choice lists) left less h = h
 left_lower (Row rows) left less h = h
+left_lower (Cell table) left less h = h
 left_lower OpenArgument left less h = h
 
 module _ (tables : CodeTables) (units : Units) where
@@ -61,13 +61,13 @@ module _ (tables : CodeTables) (units : Units) where
   faulted [] left cause at whole u = u ∙ ap (λ x. Fault cause x) (omega arith)
   faulted (f ∷ fs) left cause at whole u = faulted fs (left_after f.owner left) cause (at + tokens_after f.owner) whole u.6 ∙ ap (λ x. Fault cause x) (omega arith)
 
-  item_run_turn : (n : ℕ) → item_run tables units (suc n) ≡ turn tables units (item_run tables units n)
-  unfolding item_run
-  item_run_turn n = refl
+  carried_run_turn : (n : ℕ) → carried_run tables units (suc n) ≡ carried_turn tables units (carried_run tables units n)
+  unfolding carried_run
+  carried_run_turn n = refl
 
   -- what becomes of a list at these tokens
   abbrev pub turned : ℕ → ℕ → OpenList → List Token → Read Sequence
-  turned n m l ts = then_read (turn tables units (item_run tables units n) l.level l.family (last_atom_of l.last) ts) (list_with tables units (item_run tables units m) l)
+  turned n m l ts = then_read (carried_turn tables units (carried_run tables units n) l.level l.family (last_atom_of l.last) ts) (list_with tables units (carried_run tables units m) l)
 
   -- a turn is taken: as many are left as there are tokens
   pub record Turning (whole : Read Sequence) (frames : List Frame) (l : OpenList) (ts : List Token) : Type 0 where
@@ -84,7 +84,7 @@ module _ (tables : CodeTables) (units : Units) where
     m = m;
     enough = omega (arith, low);
     enough_later = lowm;
-    is = subst (λ (again : ItemRunReader). Unwinds tables units frames (length ts) (then_read (again l.level l.family (last_atom_of l.last) ts) (list_with tables units (item_run tables units m) l)) whole) (item_run_turn n) u;
+    is = subst (λ (again : ItemRunReader). Unwinds tables units frames (length ts) (then_read (again l.level l.family (last_atom_of l.last) ts) (list_with tables units (carried_run tables units m) l)) whole) (carried_run_turn n) u;
   }
 
   pub turning : (whole : Read Sequence) (frames : List Frame) (l : OpenList) (ts : List Token) → Stands tables units whole frames l ts → Turning whole frames l ts
@@ -103,13 +103,13 @@ module _ (tables : CodeTables) (units : Units) where
       ∙ (ap (λ d. finished tables units again new.ending d (numerator_of l) (record { items = append (items_of new) s.items; family = s.family }) rest) (sym b.is_level)
       ∙ ap (λ n. finished tables units again new.ending new.level n (record { items = append (items_of new) s.items; family = s.family }) rest) (sym b.is_numerator)))
 
-  pub becomes_list : (n m : ℕ) (items : Sequence) (last : Option AtomValue) (family : Option ℕ) (l new : OpenList) (rest : List Token) → Becomes items last family l new → then_read (items_before items (item_run tables units n l.level family last rest)) (list_with tables units (item_run tables units m) l) ≡ listed tables units n m new rest
+  pub becomes_list : (n m : ℕ) (items : Sequence) (last : Option AtomValue) (family : Option ℕ) (l new : OpenList) (rest : List Token) → Becomes items last family l new → then_read (items_before items (carried_run tables units n l.level family last rest)) (list_with tables units (carried_run tables units m) l) ≡ listed tables units n m new rest
   becomes_list n m items last family l new rest b =
-      items_then (item_run tables units m) l items (item_run tables units n l.level family last rest)
-      ∙ (then_same (item_run tables units n l.level family last rest) _ _ (list_same (item_run tables units m) items last family l new b)
-      ∙ (ap (λ d. then_read (item_run tables units n d family last rest) (list_with tables units (item_run tables units m) new)) (sym b.is_level)
-      ∙ (ap (λ f. then_read (item_run tables units n new.level f last rest) (list_with tables units (item_run tables units m) new)) (sym b.is_family)
-      ∙ ap (λ h. then_read (item_run tables units n new.level new.family h rest) (list_with tables units (item_run tables units m) new)) (sym b.is_last_atom))))
+      items_then (carried_run tables units m) l items (carried_run tables units n l.level family last rest)
+      ∙ (then_same (carried_run tables units n l.level family last rest) _ _ (list_same (carried_run tables units m) items last family l new b)
+      ∙ (ap (λ d. then_read (carried_run tables units n d family last rest) (list_with tables units (carried_run tables units m) new)) (sym b.is_level)
+      ∙ (ap (λ f. then_read (carried_run tables units n new.level f last rest) (list_with tables units (carried_run tables units m) new)) (sym b.is_family)
+      ∙ ap (λ h. then_read (carried_run tables units n new.level new.family h rest) (list_with tables units (carried_run tables units m) new)) (sym b.is_last_atom))))
 
   -- a reading of what is left
   pub stood : (whole : Read Sequence) (frames : List Frame) (new : OpenList) (n m left : ℕ) (rest : List Token) (r : Read Sequence) → length rest < n → length rest < m → Unwinds tables units frames left r whole → r ≡ listed tables units n m new rest → length rest ≤ left → Stands tables units whole frames new rest
@@ -122,10 +122,10 @@ module _ (tables : CodeTables) (units : Units) where
   }
 
   -- a token at fault
-  pub fault_at : (whole : Read Sequence) (frames : List Frame) (l : OpenList) (ts : List Token) (cause : ReadCause) (at : ℕ) → Stands tables units whole frames l ts → ((again : ItemRunReader) → turn tables units again l.level l.family (last_atom_of l.last) ts ≡ Fault cause at) → whole ≡ Fault cause (at + tokens_after_all frames)
+  pub fault_at : (whole : Read Sequence) (frames : List Frame) (l : OpenList) (ts : List Token) (cause : ReadCause) (at : ℕ) → Stands tables units whole frames l ts → ((again : ItemRunReader) → carried_turn tables units again l.level l.family (last_atom_of l.last) ts ≡ Fault cause at) → whole ≡ Fault cause (at + tokens_after_all frames)
   fault_at whole frames l ts cause at g e =
       let u = turning whole frames l ts g in
-      faulted frames (length ts) cause at whole (subst (λ (r : Read ItemRun). Unwinds tables units frames (length ts) (then_read r (list_with tables units (item_run tables units u.m) l)) whole) (e (item_run tables units u.n)) u.is)
+      faulted frames (length ts) cause at whole (subst (λ (r : Read ItemRun). Unwinds tables units frames (length ts) (then_read r (list_with tables units (carried_run tables units u.m) l)) whole) (e (carried_run tables units u.n)) u.is)
 
   new_same : (again : ItemRunReader) (items : Sequence) (last : Option AtomValue) (level : ℕ) (family : Option ℕ) (ending : Ending) (new : OpenList) → Begins items last level family ending new → (s : ItemRun) (rest : List Token) → after_item_run tables units again ending level (record { items = append items s.items; family = s.family }) rest ≡ list_with tables units again new s rest
   new_same again items last level family ending new b s rest =
@@ -134,24 +134,24 @@ module _ (tables : CodeTables) (units : Units) where
       ∙ (ap (λ d. finished tables units again new.ending d None (record { items = append (items_of new) s.items; family = s.family }) rest) (sym b.is_level)
       ∙ ap (λ n. finished tables units again new.ending new.level n (record { items = append (items_of new) s.items; family = s.family }) rest) (sym b.is_numerator)))
 
-  pub begun_list : (n : ℕ) (items : Sequence) (last : Option AtomValue) (level : ℕ) (family : Option ℕ) (ending : Ending) (new : OpenList) (ts : List Token) → Begins items last level family ending new → list_after tables units (item_run tables units n) items last ending level family ts ≡ listed tables units n n new ts
+  pub begun_list : (n : ℕ) (items : Sequence) (last : Option AtomValue) (level : ℕ) (family : Option ℕ) (ending : Ending) (new : OpenList) (ts : List Token) → Begins items last level family ending new → list_after tables units (carried_run tables units n) items last ending level family ts ≡ listed tables units n n new ts
   begun_list n items last level family ending new ts b =
-      then_same (item_run tables units n level family last ts) _ _ (new_same (item_run tables units n) items last level family ending new b)
-      ∙ (ap (λ d. then_read (item_run tables units n d family last ts) (list_with tables units (item_run tables units n) new)) (sym b.is_level)
-      ∙ (ap (λ f. then_read (item_run tables units n new.level f last ts) (list_with tables units (item_run tables units n) new)) (sym b.is_family)
-      ∙ ap (λ h. then_read (item_run tables units n new.level new.family h ts) (list_with tables units (item_run tables units n) new)) (sym b.is_last_atom)))
+      then_same (carried_run tables units n level family last ts) _ _ (new_same (carried_run tables units n) items last level family ending new b)
+      ∙ (ap (λ d. then_read (carried_run tables units n d family last ts) (list_with tables units (carried_run tables units n) new)) (sym b.is_level)
+      ∙ (ap (λ f. then_read (carried_run tables units n new.level f last ts) (list_with tables units (carried_run tables units n) new)) (sym b.is_family)
+      ∙ ap (λ h. then_read (carried_run tables units n new.level new.family h ts) (list_with tables units (carried_run tables units n) new)) (sym b.is_last_atom)))
 
   -- a list ends where no item stands
   pub finish_fault : (whole : Read Sequence) (frames : List Frame) (l : OpenList) (ts : List Token) (cause : ReadCause) (at : ℕ) → Finishing tables units whole frames l ts → Finishes tables units l ts (λ again. Fault cause at) → whole ≡ Fault cause (at + tokens_after_all frames)
-  finish_fault whole frames l ts cause at u e = faulted frames (length ts) cause at whole (subst (λ (r : Read Sequence). Unwinds tables units frames (length ts) r whole) (e (item_run tables units u.m)) u.is)
+  finish_fault whole frames l ts cause at u e = faulted frames (length ts) cause at whole (subst (λ (r : Read Sequence). Unwinds tables units frames (length ts) r whole) (e (carried_run tables units u.m)) u.is)
 
   pub finish_whole : (whole : Read Sequence) (l : OpenList) (ts : List Token) (all : Sequence) → Finishing tables units whole [] l ts → Finishes tables units l ts (λ again. Got all ts) → whole ≡ Got all ts
-  finish_whole whole l ts all u e = u.is ∙ e (item_run tables units u.m)
+  finish_whole whole l ts all u e = u.is ∙ e (carried_run tables units u.m)
 
   -- a list is read, and the list of its frame goes on
   pub resuming : (whole : Read Sequence) (f : Frame) (fs : List Frame) (l : OpenList) (ts : List Token) (all : Sequence) → Finishing tables units whole (f ∷ fs) l ts → Finishes tables units l ts (λ again. Got all ts) → Resuming tables units whole f fs all ts
   resuming whole f fs l ts all u e =
-      let v = subst (λ (r : Read Sequence). Unwinds tables units (f ∷ fs) (length ts) r whole) (e (item_run tables units u.m)) u.is in
+      let v = subst (λ (r : Read Sequence). Unwinds tables units (f ∷ fs) (length ts) r whole) (e (carried_run tables units u.m)) u.is in
       record { n = v.0; m = v.2; k = v.4; enough = v.1; enough_later = v.3; enough_rows = v.5; is = v.6 }
 
   -- what a list that is read gives in the list of its frame
@@ -162,20 +162,20 @@ module _ (tables : CodeTables) (units : Units) where
       → ((k : ℕ) → Gives f k all ts (λ again. items_before items (again f.list.level family last after))) → Becomes items last family f.list new → length after ≤ left_after f.owner (length ts) → Stands tables units whole fs new after
   resumed_put whole f fs all ts after new items last family u e b h =
       stood whole fs new u.n u.m (left_after f.owner (length ts)) after _ (omega (arith, h, u.enough)) (omega (arith, h, u.enough_later)) u.is
-      (ap (λ r. then_read r (list_with tables units (item_run tables units u.m) f.list)) (e u.k (item_run tables units u.n)) ∙ becomes_list u.n u.m items last family f.list new after b) h
+      (ap (λ r. then_read r (list_with tables units (carried_run tables units u.m) f.list)) (e u.k (carried_run tables units u.n)) ∙ becomes_list u.n u.m items last family f.list new after b) h
 
   pub resumed_fault : (whole : Read Sequence) (f : Frame) (fs : List Frame) (all : Sequence) (ts : List Token) (cause : ReadCause) (at : ℕ) → Resuming tables units whole f fs all ts → ((k : ℕ) → left_after f.owner (length ts) < k → Gives f k all ts (λ again. Fault cause at)) → whole ≡ Fault cause (at + tokens_after_all fs)
   resumed_fault whole f fs all ts cause at u e =
-      faulted fs (left_after f.owner (length ts)) cause at whole (subst (λ (r : Read ItemRun). Unwinds tables units fs (left_after f.owner (length ts)) (then_read r (list_with tables units (item_run tables units u.m) f.list)) whole) (e u.k u.enough_rows (item_run tables units u.n)) u.is)
+      faulted fs (left_after f.owner (length ts)) cause at whole (subst (λ (r : Read ItemRun). Unwinds tables units fs (left_after f.owner (length ts)) (then_read r (list_with tables units (carried_run tables units u.m) f.list)) whole) (e u.k u.enough_rows (carried_run tables units u.n)) u.is)
 
   -- a fraction word divides a list
   divided_list : (m : ℕ) (head : FractionHead) (l new : OpenList) (rest : List Token) → Divides head l new
-      → denominator tables units (item_run tables units m) l.ending l.level (record { items = append (items_of l) (last_atom_items (last_atom_of l.last)); family = l.family }) head rest ≡ listed tables units m m new rest
+      → denominator tables units (carried_run tables units m) l.ending l.level (record { items = append (items_of l) (last_atom_items (last_atom_of l.last)); family = l.family }) head rest ≡ listed tables units m m new rest
   divided_list m head l new rest d =
-      then_same (item_run tables units m l.level l.family None rest) _ _ (den_same (item_run tables units m))
-      ∙ (ap (λ d. then_read (item_run tables units m d l.family None rest) (list_with tables units (item_run tables units m) new)) (sym d.is_level)
-      ∙ (ap (λ f. then_read (item_run tables units m new.level f None rest) (list_with tables units (item_run tables units m) new)) (sym d.is_family)
-      ∙ ap (λ h. then_read (item_run tables units m new.level new.family h rest) (list_with tables units (item_run tables units m) new)) (sym d.is_last_atom)))
+      then_same (carried_run tables units m l.level l.family None rest) _ _ (den_same (carried_run tables units m))
+      ∙ (ap (λ d. then_read (carried_run tables units m d l.family None rest) (list_with tables units (carried_run tables units m) new)) (sym d.is_level)
+      ∙ (ap (λ f. then_read (carried_run tables units m new.level f None rest) (list_with tables units (carried_run tables units m) new)) (sym d.is_family)
+      ∙ ap (λ h. then_read (carried_run tables units m new.level new.family h rest) (list_with tables units (carried_run tables units m) new)) (sym d.is_last_atom)))
     where
       den_same : (again : ItemRunReader) (s : ItemRun) (after : List Token) → list_end tables units l.ending (fraction_list head (append (items_of l) (last_atom_items (last_atom_of l.last))) s.items) after ≡ list_with tables units again new s after
       den_same again s after =
@@ -188,7 +188,7 @@ module _ (tables : CodeTables) (units : Units) where
       → Divides head l new → length after ≤ length ts → Stands tables units whole frames new after
   divides whole frames l new ts after head u e d h =
       stood whole frames new u.m u.m (length ts) after _ (omega (arith, h, u.enough)) (omega (arith, h, u.enough)) u.is
-      (e (item_run tables units u.m) ∙ divided_list u.m head l new after d) h
+      (e (carried_run tables units u.m) ∙ divided_list u.m head l new after d) h
 
 -- no items before those of a run of items
 pub no_items : (r : Read ItemRun) → items_before End r ≡ r

@@ -12,17 +12,17 @@ use Rattle.mt_scan.specs.declared.role.FieldKind.TheVariants.{Radical, Accent}
 use Rattle.mt_scan.specs.declared.role.Amount.{Amount}
 use Rattle.mt_scan.specs.declared.role.Amount.TheVariants.{MuSkip, MuKern, Skip, Kern}
 use Rattle.mt_scan.specs.declared.role.Role.{Role}
-use Rattle.mt_scan.specs.declared.role.Role.TheVariants.{Blank, MathCode, CharWord, DelimiterWord, Prime as PrimeRole, Script as ScriptRole, OpenBrace, Nucleus, RadicalWord, AccentWord, VcenterWord, HboxWord, LeftWord, LimitsWord, ChoiceWord, AmountWord, ItemWord, FamilyWord, Unknown}
+use Rattle.mt_scan.specs.declared.role.Role.TheVariants.{Blank, MathCode, CharWord, DelimiterWord, Prime as PrimeRole, Script as ScriptRole, OpenBrace, Nucleus, RadicalWord, AccentWord, VcenterWord, HboxWord, TableWord, PmatrixWord, LeftWord, LimitsWord, ChoiceWord, AmountWord, ItemWord, FamilyWord, Unknown}
 use Rattle.mt_formula.specs.declared.step.action.FieldStart.{FieldStart}
 use Rattle.mt_formula.specs.declared.step.action.FieldStart.TheVariants.{Symbol as SymbolStart, Group as GroupStart}
 use Rattle.mt_formula.specs.declared.step.action.Action.{Action}
 use Rattle.mt_formula.specs.declared.step.action.Action.TheVariants.{Prime as PrimeAction, Limits as LimitsAction, Stop}
-use Rattle.mt_scan.specs.Role.{role_of, is_open_brace, is_left}
+use Rattle.mt_scan.specs.Role.{role_of, is_open_brace, is_left, is_pmatrix}
 use Rattle.mt_scan.specs.Parts.{Read, Got, Fault, NoTurn, then_read, opening}
 use Rattle.mt_scan.specs.Numbers.{math_code, delimiter_number, whole_number}
 use Rattle.mt_scan.specs.Dimensions.{dimension, glue}
 use Rattle.mt_scan.specs.Symbols.{code_symbol, delim_of}
-use Rattle.mt_scan.specs.Delimiters.{scan_delimiter}
+use Rattle.mt_scan.specs.Delimiters.{character_delimiter, scan_delimiter}
 use Rattle.mt_formula.specs.Atoms.{AtomValue, is_free, is_op}
 use Rattle.mt_formula.specs.Fields.{field_start}
 use Rattle.mt_formula.specs.Items.{filled, script_filled, nucleus_action, script_action, amount_action, action, action_here}
@@ -73,6 +73,10 @@ module _ (tables : CodeTables) (units : Units) (level : ℕ) (family : Option �
   action_stays t rest AccentWord = stays_after (t ∷ rest) (math_code rest) _ (λ code after. nucleus_stays (t ∷ rest) (Accent (code_symbol family code)) after)
   action_stays t rest VcenterWord = stays_after (t ∷ rest) (opening tables is_open_brace level rest) _ (λ here inside. tt)
   action_stays t rest LeftWord = stays_after (t ∷ rest) (opening tables is_left level (t ∷ rest)) _ (λ here after. stays_after (t ∷ rest) (scan_delimiter tables after) _ (λ left inside. tt))
+  action_stays t rest (TableWord preamble) = tt
+  action_stays t rest PmatrixWord =
+      stays_after (t ∷ rest) (opening tables is_pmatrix level (t ∷ rest)) _
+      (λ here after. stays_after (t ∷ rest) (character_delimiter tables 40 after) _ (λ left same. stays_after (t ∷ rest) (character_delimiter tables 41 same) _ (λ right last. tt)))
   action_stays t rest (ScriptRole side) = stays_if (t ∷ rest) (is_free side last) (script_action tables level family side rest) (Fault DoubleScript (length rest + 1)) (script_stays (t ∷ rest) side rest) tt
   action_stays t rest PrimeRole = stays_if (t ∷ rest) (is_free Up last) (Got PrimeAction rest) (Fault DoubleScript (length rest + 1)) tt tt
   action_stays t rest (LimitsWord limits) = stays_if (t ∷ rest) (is_op last) (Got (LimitsAction limits) rest) (Fault MisplacedLimits (length rest + 1)) tt tt

@@ -5,11 +5,9 @@ use Rattle.mt_rules.specs.declared.kind.Limits.{Limits}
 use Rattle.mt_rules.specs.declared.kind.Limits.TheVariants.{Default}
 use Rattle.mt_rules.specs.declared.kind.Kind.{Kind}
 use Rattle.mt_rules.specs.declared.kind.Kind.TheVariants.{Plain, Accent}
-use Rattle.mt_rules.specs.declared.symbol.Symbol.{Symbol}
 use Rattle.mt_rules.specs.Sequence.{Sequence, Element, End, More, AtomElement, Part, EmptyPart, SymbolPart, ListPart}
 use Rattle.mt_scan.specs.declared.role.Side.{Side}
 use Rattle.mt_scan.specs.declared.role.Side.TheVariants.{Up, Down}
-use Rattle.mt_scan.specs.Symbols.{code_symbol, class_of}
 
 -- an atom that may still get scripts
 pub record AtomValue : Type 0 where
@@ -34,10 +32,6 @@ append (More item rest) more = More item (append rest more)
 abbrev pub plain_atom : Kind → Part → AtomValue
 plain_atom kind nucleus =
     record { kind = kind; limits = Default; nucleus = nucleus; sup = EmptyPart; sub = EmptyPart }
-
--- the atom of a math code, with the current family
-abbrev pub coded_atom : Option ℕ → ℕ → AtomValue
-coded_atom family code = plain_atom (Plain (class_of code)) (SymbolPart (code_symbol family code))
 
 -- the atom that scripts here belong to: the last one, or else a new one with an empty nucleus
 abbrev pub scripted_atom : Option AtomValue → AtomValue
@@ -66,11 +60,6 @@ abbrev pub is_accent_kind : Kind → Bool
 is_accent_kind (Accent symbol) = true
 is_accent_kind _ = false
 
--- what a field holds: a character, or the list of a group
-pub data Filling : Type 0 where
-  InSymbol : (symbol : Symbol) → Filling
-  InGroup : (list : Sequence) → Filling
-
 -- the atom that a list consists of
 abbrev pub only_atom : Sequence → Option AtomValue
 only_atom (More (AtomElement kind limits nucleus sup sub) End) =
@@ -88,10 +77,6 @@ nucleus_of_atom (Some a) list = if is_bare_ord a then a.nucleus else ListPart li
 abbrev pub nucleus_of : Sequence → Part
 nucleus_of list = nucleus_of_atom (only_atom list) list
 
-abbrev pub filling_part : Filling → Part
-filling_part (InSymbol symbol) = SymbolPart symbol
-filling_part (InGroup list) = nucleus_of list
-
 abbrev pub group_atom_of : Option AtomValue → Sequence → AtomValue
 group_atom_of None list = plain_atom (Plain Ord) (nucleus_of list)
 group_atom_of (Some a) list = if is_accent_kind a.kind then a else plain_atom (Plain Ord) (nucleus_of list)
@@ -100,9 +85,10 @@ group_atom_of (Some a) list = if is_accent_kind a.kind then a else plain_atom (P
 abbrev pub group_atom : Sequence → AtomValue
 group_atom list = group_atom_of (only_atom list) list
 
-abbrev pub nucleus_atom : Kind → Filling → AtomValue
-nucleus_atom (Plain Ord) (InGroup list) = group_atom list
-nucleus_atom kind filling = plain_atom kind (filling_part filling)
+-- an atom of this kind with a group as its nucleus
+abbrev pub nucleus_atom : Kind → Sequence → AtomValue
+nucleus_atom (Plain Ord) list = group_atom list
+nucleus_atom kind list = plain_atom kind (nucleus_of list)
 
 abbrev pub with_script : Side → Part → Option AtomValue → AtomValue
 with_script Up part last = record (scripted_atom last) { sup = part }

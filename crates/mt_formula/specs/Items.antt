@@ -1,5 +1,5 @@
--- The items of a list (The TeXbook, chapter 26): what a token does in a list (`action`), and what is read and put to the list then (`follows`).
-use Rattle.std.specs.Prelude.{ℕ, ◌+◌, ◌/◌, ℤ, Bool, true, false, List, [], ◌∷◌, length, drop, Option, Some, None, ⊤, if◌then◌else◌}
+-- The items of a list (The TeXbook, chapter 26): what a token does in a list (`action`), and what is read then (`action_then`).
+use Rattle.std.specs.Prelude.{ℕ, ◌+◌, ◌/◌, ℤ, Bool, true, false, List, [], ◌∷◌, length, drop, Option, ⊤, if◌then◌else◌}
 use Rattle.mt_token.specs.declared.token.Token.{Token}
 use Rattle.mt_scaled.specs.declared.unit.Units.{Units}
 use Rattle.mt_rules.specs.declared.class.Class.TheVariants.{Ord, Inner}
@@ -7,7 +7,7 @@ use Rattle.mt_rules.specs.declared.kind.Kind.TheVariants.{Plain, Vcenter}
 use Rattle.mt_rules.specs.declared.kind.Limits.{Limits as WhereLimits}
 use Rattle.mt_rules.specs.declared.symbol.Delim.{Delim}
 use Rattle.mt_rules.specs.declared.symbol.Glue.{Glue}
-use Rattle.mt_rules.specs.Sequence.{Sequence, Element, Part, Rows, End, More, LeftElement, SymbolPart, ListPart, RowsPart, ChoiceElement}
+use Rattle.mt_rules.specs.Sequence.{Sequence, Element, Part, Rows, TableGrid, More, LeftElement, SymbolPart, ListPart, RowsPart, ChoiceElement}
 use Rattle.mt_plain.specs.CodeTables.{CodeTables}
 use Rattle.mt_scan.specs.declared.fault.ReadCause.TheVariants.{UnknownName, DoubleScript, MisplacedLimits}
 use Rattle.mt_scan.specs.declared.role.Side.{Side}
@@ -18,24 +18,27 @@ use Rattle.mt_scan.specs.declared.role.Simple.TheVariants.{MuSpace, Space, MuKer
 use Rattle.mt_scan.specs.declared.role.Amount.{Amount}
 use Rattle.mt_scan.specs.declared.role.Amount.TheVariants.{MuSkip, MuKern, Skip, Kern}
 use Rattle.mt_scan.specs.declared.role.Role.{Role}
-use Rattle.mt_scan.specs.declared.role.Role.TheVariants.{Blank, MathCode, CharWord, DelimiterWord, Prime as PrimeRole, Script as ScriptRole, OpenBrace, Nucleus, RadicalWord, AccentWord, VcenterWord, HboxWord, LeftWord, LimitsWord, ChoiceWord, AmountWord, ItemWord, FamilyWord, Unknown}
-use Rattle.mt_scan.specs.Role.{role_of, nucleus_kind, simple_element, is_open_brace, is_left}
+use Rattle.mt_scan.specs.declared.role.Role.TheVariants.{Blank, MathCode, CharWord, DelimiterWord, Prime as PrimeRole, Script as ScriptRole, OpenBrace, Nucleus, RadicalWord, AccentWord, VcenterWord, HboxWord, TableWord, PmatrixWord, LeftWord, LimitsWord, ChoiceWord, AmountWord, ItemWord, FamilyWord, Unknown}
+use Rattle.mt_scan.specs.Role.{role_of, nucleus_kind, simple_element, is_open_brace, is_left, is_pmatrix}
 use Rattle.mt_scan.specs.Parts.{Read, Got, Fault, then_read, after_spaces, opening}
 use Rattle.mt_scan.specs.Numbers.{math_code, delimiter_number, whole_number}
 use Rattle.mt_scan.specs.Dimensions.{dimension, glue}
 use Rattle.mt_scan.specs.Symbols.{code_symbol, class_of, delim_of, current_family}
-use Rattle.mt_scan.specs.Delimiters.{scan_delimiter}
+use Rattle.mt_scan.specs.Delimiters.{scan_delimiter, character_delimiter}
 use Rattle.mt_formula.specs.declared.step.action.FieldStart.{FieldStart}
 use Rattle.mt_formula.specs.declared.step.action.FieldStart.TheVariants.{Symbol as SymbolStart, Group as GroupStart}
 use Rattle.mt_formula.specs.declared.step.action.Action.{Action}
-use Rattle.mt_formula.specs.declared.step.action.Action.TheVariants.{Nothing, Atom, Script, Item, Family, Limits, Prime, Rows as RowsAction, Group, ScriptGroup, LeftRight, Choice, Stop}
+use Rattle.mt_formula.specs.declared.step.action.Action.TheVariants.{Nothing, Atom, Script, Item, Family, Limits, Prime, Rows as RowsAction, Group, ScriptGroup, LeftRight, Choice, Table, Stop}
 use Rattle.mt_formula.specs.declared.open.open_list.Ending.TheVariants.{AtBrace}
-use Rattle.mt_formula.specs.Atoms.{AtomValue, InGroup, append, last_atom_items, plain_atom, is_free, is_op, with_limits, with_script, nucleus_atom, nucleus_of}
-use Rattle.mt_formula.specs.Lists.{ItemRunReader, ItemRun, items_before, list}
+use Rattle.mt_formula.specs.declared.open.table.TableForm.{TableForm}
+use Rattle.mt_formula.specs.declared.open.table.TableForm.TheVariants.{Spaced, Enclosed}
+use Rattle.mt_formula.specs.Atoms.{AtomValue, plain_atom, is_free, is_op, nucleus_atom, nucleus_of}
+use Rattle.mt_formula.specs.Lists.{ItemRunReader, list}
 use Rattle.mt_formula.specs.Groups.{brace_group, segments}
 use Rattle.mt_formula.specs.Fields.{field_start}
 use Rattle.mt_formula.specs.Primes.{prime_script}
 use Rattle.mt_formula.specs.Rows.{rows}
+use Rattle.mt_formula.specs.Tables.{look_of, table_items, enclosed_atom, table}
 
 -- what a field does that begins so, as a nucleus and as a script
 abbrev pub filled : FieldKind → FieldStart → Action
@@ -48,6 +51,26 @@ script_filled side GroupStart = ScriptGroup side
 
 abbrev pub coded_action : Option ℕ → ℕ → Action
 coded_action family code = Atom (Class (class_of code)) (code_symbol family code)
+
+-- what an action gives: nothing, a new atom, another item, some items of which the last one is no atom, a script or limits of an atom, a family, or that there is no item
+pub data Given : Type 0 where
+  GivesNothing : Given
+  GivesAtom : (atom : AtomValue) → Given
+  GivesItem : (item : Element) → Given
+  GivesItems : (items : Sequence) → Given
+  GivesScript : (side : Side) (part : Part) → Given
+  GivesLimits : (limits : WhereLimits) → Given
+  GivesFamily : (family : Option ℕ) → Given
+  GivesNoItem : Given
+
+-- a table with all its rows
+abbrev pub table_given : TableForm → TableGrid → Given
+table_given (Spaced preamble) rows = GivesItems (table_items (look_of preamble) rows)
+table_given (Enclosed left right) rows = GivesAtom (enclosed_atom left right rows)
+
+-- a choice with all its lists
+abbrev pub choice_with_three : {R : Type 0} → (Given → List Token → Read R) → Sequence → Sequence → Sequence → Sequence → List Token → Read R
+choice_with_three next display text script small rest = next (GivesItem (ChoiceElement display text script small)) rest
 
 -- a script that is there already is not put again
 abbrev pub free_action : Bool → ℕ → Read Action → Read Action
@@ -80,6 +103,12 @@ module _ (tables : CodeTables) where
   abbrev pub left_action : List Token → Read Action
   left_action tokens = then_read (scan_delimiter tables tokens) (λ (left : Delim) (inside : List Token). Got (LeftRight left) inside)
 
+  -- a matrix between the delimiters that ( and ) have, after its \pmatrix
+  abbrev pub pmatrix_action : List Token → Read Action
+  pmatrix_action rest =
+      then_read (character_delimiter tables 40 rest) (λ (left : Delim) (same : List Token).
+      then_read (character_delimiter tables 41 same) (λ (right : Delim) (after : List Token). Got (Table (Enclosed left right)) after))
+
 module _ (tables : CodeTables) (units : Units) where
   -- what a token does, and the tokens after what was read of it
   abbrev pub action : ℕ → Option ℕ → Option AtomValue → Token → List Token → Role → Read Action
@@ -100,6 +129,9 @@ module _ (tables : CodeTables) (units : Units) where
       then_read (opening tables is_open_brace level rest) (λ (here : ⊤) (inside : List Token). Got RowsAction inside)
   action level family last t rest LeftWord =
       then_read (opening tables is_left level (t ∷ rest)) (λ (here : ⊤) (after : List Token). left_action tables after)
+  action level family last t rest (TableWord preamble) = Got (Table (Spaced preamble)) rest
+  action level family last t rest PmatrixWord =
+      then_read (opening tables is_pmatrix level (t ∷ rest)) (λ (here : ⊤) (after : List Token). pmatrix_action tables after)
   action level family last t rest (ScriptRole side) = free_action (is_free side last) (length rest + 1) (script_action tables level family side rest)
   action level family last t rest PrimeRole = free_action (is_free Up last) (length rest + 1) (Got Prime rest)
   action level family last t rest (LimitsWord limits) = limits_action (is_op last) limits rest
@@ -119,65 +151,47 @@ module _ (tables : CodeTables) (units : Units) where
   action_here level family last (t ∷ rest) = action level family last t rest (role_of tables t)
 
   module _ (again : ItemRunReader) where
-    -- the last atom is closed, and a new one is the last
-    abbrev pub put_atom : ℕ → Option ℕ → Option AtomValue → AtomValue → List Token → Read ItemRun
-    put_atom level family last new rest = items_before (last_atom_items last) (again level family (Some new) rest)
-
-    -- the last atom is closed, and another item follows it
-    abbrev pub put_item : ℕ → Option ℕ → Option AtomValue → Element → List Token → Read ItemRun
-    put_item level family last item rest =
-        items_before (append (last_atom_items last) (More item End)) (again level family None rest)
-
-    -- a script of the last atom, or of a new one
-    abbrev pub put_script : ℕ → Option ℕ → Option AtomValue → Side → Part → List Token → Read ItemRun
-    put_script level family last side part rest = again level family (Some (with_script side part last)) rest
-
     -- the lists of a choice after its first ones: a group after Spaces is the next one
-    abbrev pub choice_with_three : ℕ → Option ℕ → Option AtomValue → Sequence → Sequence → Sequence → Sequence → List Token → Read ItemRun
-    choice_with_three level family last display text script small rest = put_item level family last (ChoiceElement display text script small) rest
+    abbrev pub choice_with_two : {R : Type 0} → ℕ → Option ℕ → (Given → List Token → Read R) → Sequence → Sequence → Sequence → List Token → Read R
+    choice_with_two level family next display text script rest =
+        then_read (brace_group tables units again level family (after_spaces rest)) (choice_with_three next display text script)
 
-    abbrev pub choice_with_two : ℕ → Option ℕ → Option AtomValue → Sequence → Sequence → Sequence → List Token → Read ItemRun
-    choice_with_two level family last display text script rest =
-        then_read (brace_group tables units again level family (after_spaces rest)) (choice_with_three level family last display text script)
+    abbrev pub choice_with_one : {R : Type 0} → ℕ → Option ℕ → (Given → List Token → Read R) → Sequence → Sequence → List Token → Read R
+    choice_with_one level family next display text rest =
+        then_read (brace_group tables units again level family (after_spaces rest)) (choice_with_two level family next display text)
 
-    abbrev pub choice_with_one : ℕ → Option ℕ → Option AtomValue → Sequence → Sequence → List Token → Read ItemRun
-    choice_with_one level family last display text rest =
-        then_read (brace_group tables units again level family (after_spaces rest)) (choice_with_two level family last display text)
+    abbrev pub choice_with_none : {R : Type 0} → ℕ → Option ℕ → (Given → List Token → Read R) → Sequence → List Token → Read R
+    choice_with_none level family next display rest =
+        then_read (brace_group tables units again level family (after_spaces rest)) (choice_with_one level family next display)
 
-    abbrev pub choice_with_none : ℕ → Option ℕ → Option AtomValue → Sequence → List Token → Read ItemRun
-    choice_with_none level family last display rest =
-        then_read (brace_group tables units again level family (after_spaces rest)) (choice_with_one level family last display)
-
-    -- what is read after an action, and what it puts to the list
-    abbrev pub follows : ℕ → Option ℕ → Option AtomValue → Action → List Token → Read ItemRun
-    follows level family last Nothing rest = again level family last rest
-    follows level family last (Atom kind symbol) rest = put_atom level family last (plain_atom (nucleus_kind kind) (SymbolPart symbol)) rest
-    follows level family last (Script side symbol) rest = put_script level family last side (SymbolPart symbol) rest
-    follows level family last (Item item) rest = put_item level family last (simple_element item) rest
-    follows level family last (Family other) rest = again level other last rest
-    follows level family last (Limits limits) rest = again level family (with_limits limits last) rest
+    -- what is read after an action, and then what comes of what it gives
+    abbrev pub action_then : {R : Type 0} → ℕ → Option ℕ → Action → List Token → (Given → List Token → Read R) → Read R
+    action_then level family Nothing rest next = next GivesNothing rest
+    action_then level family (Atom kind symbol) rest next = next (GivesAtom (plain_atom (nucleus_kind kind) (SymbolPart symbol))) rest
+    action_then level family (Script side symbol) rest next = next (GivesScript side (SymbolPart symbol)) rest
+    action_then level family (Item item) rest next = next (GivesItem (simple_element item)) rest
+    action_then level family (Family other) rest next = next (GivesFamily other) rest
+    action_then level family (Limits limits) rest next = next (GivesLimits limits) rest
     -- primes, and perhaps ^ with its argument, are one superscript
-    follows level family last Prime rest =
+    action_then level family Prime rest next =
         then_read (prime_script tables units again level family rest)
-        (λ (script : Sequence) (after : List Token). put_script level family last Up (ListPart script) after)
-    follows level family last RowsAction inside =
+        (λ (script : Sequence) (after : List Token). next (GivesScript Up (ListPart script)) after)
+    action_then level family RowsAction inside next =
         then_read (rows tables units again level inside)
-        (λ (inner : Rows) (after : List Token). put_atom level family last (plain_atom Vcenter (RowsPart inner)) after)
-    follows level family last (Group kind) inside =
+        (λ (inner : Rows) (after : List Token). next (GivesAtom (plain_atom Vcenter (RowsPart inner))) after)
+    action_then level family (Group kind) inside next =
         then_read (list tables units again AtBrace (level + 1) family inside)
-        (λ (inner : Sequence) (brace : List Token). put_atom level family last (nucleus_atom (nucleus_kind kind) (InGroup inner)) (drop 1 brace))
-    follows level family last (ScriptGroup side) inside =
+        (λ (inner : Sequence) (brace : List Token). next (GivesAtom (nucleus_atom (nucleus_kind kind) inner)) (drop 1 brace))
+    action_then level family (ScriptGroup side) inside next =
         then_read (list tables units again AtBrace (level + 1) family inside)
-        (λ (inner : Sequence) (brace : List Token). put_script level family last side (nucleus_of inner) (drop 1 brace))
+        (λ (inner : Sequence) (brace : List Token). next (GivesScript side (nucleus_of inner)) (drop 1 brace))
     -- the lists between boundaries and the middles that part them are an Inner atom
-    follows level family last (LeftRight left) inside =
+    action_then level family (LeftRight left) inside next =
         then_read (segments tables units again (level + 1) family inside)
-        (λ (inner : Sequence) (rest : List Token). put_atom level family last (plain_atom (Plain Inner) (ListPart (More (LeftElement left) inner))) rest)
-    follows level family last Choice inside =
+        (λ (inner : Sequence) (rest : List Token). next (GivesAtom (plain_atom (Plain Inner) (ListPart (More (LeftElement left) inner)))) rest)
+    action_then level family Choice inside next =
         then_read (list tables units again AtBrace (level + 1) family inside)
-        (λ (display : Sequence) (brace : List Token). choice_with_none level family last display (drop 1 brace))
-    -- a run of items ends at a token that is no item
-    follows level family last Stop rest = Got (record { items = last_atom_items last; family = family }) rest
-
-    abbrev pub turn : ℕ → Option ℕ → Option AtomValue → List Token → Read ItemRun
-    turn level family last tokens = then_read (action_here level family last tokens) (follows level family last)
+        (λ (display : Sequence) (brace : List Token). choice_with_none level family next display (drop 1 brace))
+    action_then level family (Table form) rest next =
+        then_read (table tables units again form level rest) (λ (rows : TableGrid) (after : List Token). next (table_given form rows) after)
+    action_then level family Stop rest next = next GivesNoItem rest

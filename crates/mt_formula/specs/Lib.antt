@@ -10,8 +10,14 @@ pub mod Fields
 pub mod Primes
 -- the rows of a vcenter atom
 pub mod Rows
--- items
+-- tables
+pub mod Tables
+-- displays of several lines
+pub mod Displays
+-- what a token does in a list
 pub mod Items
+-- items one after the other
+pub mod Runs
 -- the reading of a formula
 pub mod Formulas
 -- the numbers and places of errors

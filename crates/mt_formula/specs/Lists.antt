@@ -10,9 +10,9 @@ use Rattle.mt_scan.specs.declared.fault.ReadCause.TheVariants.{TwoFractions, Unb
 use Rattle.mt_scan.specs.declared.role.Role.{Role}
 use Rattle.mt_scan.specs.declared.role.Bar.{Bar}
 use Rattle.mt_scan.specs.declared.role.Bar.TheVariants.{Own as OwnBar, None as NoBar, Given as GivenBar}
-use Rattle.mt_scan.specs.declared.role.Role.TheVariants.{CloseBrace, MiddleWord, RightWord, Dollar, NumberWord, FractionWord}
+use Rattle.mt_scan.specs.declared.role.Role.TheVariants.{CloseBrace, MiddleWord, RightWord, Dollar, Tab, CrWord, DisplayWord, NumberWord, FractionWord}
 use Rattle.mt_formula.specs.declared.open.open_list.Ending.{Ending}
-use Rattle.mt_formula.specs.declared.open.open_list.Ending.TheVariants.{AtEnd, AtNumber, AtBrace, AtRight, AtDollar}
+use Rattle.mt_formula.specs.declared.open.open_list.Ending.TheVariants.{AtEnd, AtNumber, AtBrace, AtRight, AtDollar, AtCell}
 use Rattle.mt_formula.specs.declared.open.open_list.FractionHead.{FractionHead}
 use Rattle.mt_scan.specs.Role.{role_of}
 use Rattle.mt_scan.specs.Parts.{Read, Got, Fault, NoTurn, then_read}
@@ -32,12 +32,16 @@ ends_at AtBrace CloseBrace = true
 ends_at AtRight MiddleWord = true
 ends_at AtRight RightWord = true
 ends_at AtDollar Dollar = true
+ends_at AtCell Tab = true
+ends_at AtCell CrWord = true
+ends_at AtCell CloseBrace = true
 ends_at _ _ = false
 
 -- the cause of a fault at a token that is no item and does not end the list
 abbrev pub misplaced_cause : Role → ReadCause
 misplaced_cause (FractionWord delims bar) = TwoFractions
 misplaced_cause (NumberWord left) = MisplacedNumber
+misplaced_cause (DisplayWord preamble left) = MisplacedNumber
 misplaced_cause _ = Unbalanced
 
 abbrev pub fraction_list : FractionHead → Sequence → Sequence → Sequence

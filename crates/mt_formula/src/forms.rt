@@ -1,4 +1,4 @@
-//! What groups, primes, boundaries, choices, rows and fractions make of the list in which they stand.
+//! What groups, primes, boundaries, choices, rows, tables and fractions make of the list in which they stand.
 
 pub mod choices;
 pub mod fraction;
@@ -6,3 +6,4 @@ pub mod left_right;
 pub mod primes;
 pub mod resume;
 pub mod rows;
+pub mod tables;

@@ -2,20 +2,22 @@
 ghost use Rattle.std.specs.Prelude.{◌≡◌, ◌≤◌, ◌^◌, ◌+◌, ◌*◌, length, IfOk};
 ghost use Rattle.mt_scaled.specs.Number.{Within};
 ghost use Rattle.mt_macro.specs.Limits.{max_tokens};
-ghost use Rattle.mt_scan.specs.Parts.{Read};
+ghost use Rattle.mt_scan.specs.Parts.{Read, after_blanks};
 ghost use Rattle.mt_formula.specs.Answers.{IsFault, ReadsAs};
-ghost use Rattle.mt_formula.specs.Counts.{formula_items, IsModestFormula};
+ghost use Rattle.mt_formula.specs.Counts.{body_rows, formula_items, IsModestFormula};
 ghost use Rattle.mt_formula.specs.Formulas.{FormulaParts, ReadFault, reading_of, is_at_left, body_ending};
-ghost use Rattle.mt_formula.specs.Formulas.{item_run, formula, reading};
+ghost use Rattle.mt_formula.specs.Formulas.{display_here, formula, list_formula, reading};
+ghost use Rattle.mt_formula.specs.machine.Carried.{carried_run};
 ghost use Rattle.mt_formula.specs.machine.Reads.{HasFault, ReadsFormula};
 
 use crate::open::open_list::{Ending, Stop};
 use crate::read_error::ReadError;
+use crate::step::displays::read_display;
 use crate::step::reading::read_list;
 use mt_plain::Codes;
-use mt_rules::{MathList, Tag};
+use mt_rules::{Body, Tag};
 use mt_scaled::Units;
-use mt_scan::{ReadCause, Role, role_of};
+use mt_scan::{ReadCause, Role, after_blanks, role_of};
 use mt_token::Token;
 use std::alloc::Global;
 
@@ -39,18 +41,18 @@ fn is_at_left(role: Role) -> bool
     }
 }
 
-// The body of a formula, and its number.
-fn formula_parts(
+// A list, and its number.
+fn list_parts(
     alloc: Global,
     codes: &Codes,
     units: Units,
     display: bool,
     tokens: &[Token],
-) -> Result<(MathList, Option<Tag>), Stop>
+) -> Result<(Body, Option<Tag>), Stop>
     requires em { Within (2 ^ 31) units.em }
     requires ex { Within (2 ^ 31) units.ex }
     ensures { ReadsFormula result
-        (formula codes.now units (item_run codes.now units (length tokens.now + 1)) display tokens.now) }
+        (list_formula codes.now units (carried_run codes.now units (length tokens.now + 1)) display tokens.now) }
 {
     let body = read_list(alloc, codes, units, body_ending(display), tokens)?;
     match body.rest {
@@ -61,9 +63,53 @@ fn formula_parts(
                 body: side.value,
                 left,
             };
-            Ok((body.value, Some(tag)))
+            Ok((Body::List(body.value), Some(tag)))
         }
-        [] => Ok((body.value, None)),
+        [] => Ok((Body::List(body.value), None)),
+    }
+}
+
+// The body of a display, and its number.
+fn display_parts(
+    alloc: Global,
+    codes: &Codes,
+    units: Units,
+    tokens: &[Token],
+) -> Result<(Body, Option<Tag>), Stop>
+    requires em { Within (2 ^ 31) units.em }
+    requires ex { Within (2 ^ 31) units.ex }
+    ensures { ReadsFormula result (display_here codes.now units
+        (carried_run codes.now units (length tokens.now + 1)) tokens.now (after_blanks codes.now tokens.now)) }
+{
+    match after_blanks(codes, tokens) {
+        [token, rest @ ..] => match role_of(codes, token) {
+            Role::DisplayWord(preamble, left) => {
+                let body = read_display(alloc, codes, units, preamble, left, rest)?;
+                Ok((body, None))
+            }
+            _ => list_parts(alloc, codes, units, true, tokens),
+        },
+        [] => list_parts(alloc, codes, units, true, tokens),
+    }
+}
+
+// The body of a formula, and its number.
+fn formula_parts(
+    alloc: Global,
+    codes: &Codes,
+    units: Units,
+    display: bool,
+    tokens: &[Token],
+) -> Result<(Body, Option<Tag>), Stop>
+    requires em { Within (2 ^ 31) units.em }
+    requires ex { Within (2 ^ 31) units.ex }
+    ensures { ReadsFormula result
+        (formula codes.now units (carried_run codes.now units (length tokens.now + 1)) display tokens.now) }
+{
+    if display {
+        display_parts(alloc, codes, units, tokens)
+    } else {
+        list_parts(alloc, codes, units, false, tokens)
     }
 }
 
@@ -82,6 +128,7 @@ fn error_at(cause: ReadCause, place: u32) -> ReadError
         ReadCause::BadDimension => ReadError::BadDimension(place),
         ReadCause::MisplacedNumber => ReadError::MisplacedNumber(place),
         ReadCause::TooDeep => ReadError::TooDeep(place),
+        ReadCause::ExtraCell => ReadError::ExtraCell(place),
     }
 }
 
@@ -111,12 +158,13 @@ pub fn read_formula(
     units: Units,
     display: bool,
     list: &[Token],
-) -> Result<(MathList, Option<Tag>), ReadError>
+) -> Result<(Body, Option<Tag>), ReadError>
     requires length { length list.now ≤ 2 ^ 31 }
     requires em { Within (2 ^ 31) units.em }
     requires ex { Within (2 ^ 31) units.ex }
     ensures is { ReadsAs result (reading codes.now units display list.now) }
     ensures items { IfOk result (λ formula. formula_items formula ≤ 4 * length list.now + 8) }
+    ensures rows { IfOk result (λ formula. body_rows formula.0 ≤ length list.now) }
     ensures modest { length list.now ≤ max_tokens → IfOk result IsModestFormula }
 {
     match formula_parts(alloc, codes, units, display, list) {

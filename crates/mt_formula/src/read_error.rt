@@ -47,6 +47,9 @@ pub enum ReadError {
     /// Memory ran out.
     #[error("out of memory")]
     OutOfMemory,
+    /// A cell of a table in a column that it does not have.
+    #[error("extra cell at {0}")]
+    ExtraCell(u32),
 }
 
 impl ReadError {
@@ -67,6 +70,7 @@ impl ReadError {
             ReadError::MisplacedNumber(place) => Some((ReadCause::MisplacedNumber, place)),
             ReadError::TooDeep(place) => Some((ReadCause::TooDeep, place)),
             ReadError::OutOfMemory => None,
+            ReadError::ExtraCell(place) => Some((ReadCause::ExtraCell, place)),
         }
     }
 

@@ -1,7 +1,7 @@
 //! Documents, as they are read.
 use crate::units::UNITS;
 use mt_reader::{DocError, OutsideCause, read_document};
-use mt_rules::Document;
+use mt_rules::{Body, Document};
 use std::alloc::Global;
 use std::process::Abort;
 use std::test::Fail;
@@ -14,11 +14,14 @@ fn fault(alloc: Global, source: &[u8]) -> Option<DocError> {
     read_document(alloc, UNITS, source).err()
 }
 
-// How many items the first formula of the first page has.
+// How many items the first formula of the first page has, which is a list.
 fn first_items(document: &Document) -> Option<usize> {
     let page = document.get(0)?;
     let formula = page.get(0)?;
-    Some(formula.body.len())
+    match &formula.body {
+        Body::List(list) => Some(list.len()),
+        Body::Equations { .. } | Body::Lines(_) => None,
+    }
 }
 
 #[test]

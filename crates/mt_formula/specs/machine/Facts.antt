@@ -1,11 +1,13 @@
--- What items keep, as tests: they have no boundaries and no middles, the nucleus of a vcenter atom is rows, and rows stand nowhere else.
+-- What items keep, as tests: they have no boundaries and no middles, the nucleus of a vcenter atom is rows
+-- or a table, and these stand nowhere else.
 use Rattle.std.specs.Prelude.{Bool, true, false, not, ◌&&◌}
 use Rattle.mt_rules.specs.declared.kind.Kind.{Kind}
 use Rattle.mt_rules.specs.declared.kind.Kind.TheVariants.{Vcenter}
-use Rattle.mt_rules.specs.Sequence.{Sequence, Element, Part, End, More, AtomElement, LeftElement, MiddleElement, RightElement, ChoiceElement, RowsPart}
+use Rattle.mt_rules.specs.Sequence.{Sequence, Element, Part, End, More, AtomElement, LeftElement, MiddleElement, RightElement, ChoiceElement, RowsPart, TablePart}
 
 abbrev pub holds_rows : Part → Bool
 holds_rows (RowsPart rows) = true
+holds_rows (TablePart look grid) = true
 holds_rows _ = false
 
 abbrev pub nucleus_fits : Kind → Part → Bool

@@ -9,8 +9,8 @@ use Rattle.mt_formula.specs.declared.step.action.Action.TheVariants.{Nothing, At
 use Rattle.mt_formula.specs.declared.open.open_list.OpenList.{OpenList}
 use Rattle.mt_formula.specs.Atoms.{AtomValue}
 use Rattle.mt_formula.specs.Lists.{ItemRunReader, items_before}
+use Rattle.mt_formula.specs.machine.Carried.{follows}
 use Rattle.mt_formula.specs.machine.OpenLists.{last_atom_of, Becomes}
-use Rattle.mt_formula.specs.Items.{follows}
 
 abbrev pub is_plain_action : Action → Bool
 is_plain_action Nothing = true

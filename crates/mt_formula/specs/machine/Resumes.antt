@@ -8,11 +8,11 @@ use Rattle.mt_scan.specs.declared.role.FieldKind.{FieldKind}
 use Rattle.mt_scan.specs.declared.role.Side.{Side}
 use Rattle.mt_scan.specs.declared.role.Side.TheVariants.{Up}
 use Rattle.mt_scan.specs.Role.{nucleus_kind}
-use Rattle.mt_formula.specs.Atoms.{InGroup, append, last_atom_items, nucleus_atom, nucleus_of, plain_atom, with_script}
+use Rattle.mt_formula.specs.Atoms.{append, last_atom_items, nucleus_atom, nucleus_of, plain_atom, with_script}
 use Rattle.mt_formula.specs.machine.OpenLists.{last_atom_of, Becomes}
 
 abbrev pub ResumesNucleus : FieldKind → Sequence → OpenList → OpenList → Type 0
-ResumesNucleus kind all l new = Becomes (last_atom_items (last_atom_of l.last)) (Some (nucleus_atom (nucleus_kind kind) (InGroup all))) l.family l new
+ResumesNucleus kind all l new = Becomes (last_atom_items (last_atom_of l.last)) (Some (nucleus_atom (nucleus_kind kind) all)) l.family l new
 
 abbrev pub ResumesScript : Side → Sequence → OpenList → OpenList → Type 0
 ResumesScript side all l new = Becomes End (Some (with_script side (nucleus_of all) (last_atom_of l.last))) l.family l new

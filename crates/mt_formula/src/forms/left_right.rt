@@ -38,11 +38,10 @@ fn left_fence(alloc: Global, left: Delim, level: usize) -> Result<Fence, AllocEr
 }
 
 // Puts all these items to others, and another one after them.
-fn push_all(items: &mut Vec<Item>, more: Vec<Item>, last: Item) -> Result<(), AllocError>
+fn push_all(items: &mut Vec<Item>, mut more: Vec<Item>, last: Item) -> Result<(), AllocError>
     ensures { OnOk result (sequence_of items.new.items ≡ append (sequence_of items.old.items)
         (append (sequence_of more.items) (More (element_of last) End))) }
 {
-    let mut more = more;
     items.append(&mut more)?;
     items.push(last)?;
     Ok(())

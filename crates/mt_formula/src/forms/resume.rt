@@ -3,7 +3,7 @@ ghost use Rattle.std.specs.Prelude.{◌≡◌, ◌≤◌, true, false, drop, len
 ghost use Rattle.mt_rules.specs.Sequence.{ChoiceElement};
 ghost use Rattle.mt_rules.specs.View.{element_of, part_of_field};
 ghost use Rattle.mt_scan.specs.Role.{nucleus_kind};
-ghost use Rattle.mt_formula.specs.Atoms.{nucleus_of, group_atom, nucleus_atom, InGroup};
+ghost use Rattle.mt_formula.specs.Atoms.{nucleus_of, group_atom, nucleus_atom};
 ghost use Rattle.mt_formula.specs.machine.Facts.{holds_rows, no_boundary, stands_inside};
 ghost use Rattle.mt_formula.specs.machine.OpenLists.{inner_sequence, last_atom_value, is_only_bare};
 ghost use Rattle.mt_formula.specs.machine.Resumes.{ResumesNucleus, ResumesScript, ResumesChoice};
@@ -48,7 +48,8 @@ fn nucleus_of(items: InnerItems) -> Field
     }
 }
 
-fn group_last_atom(alloc: Global, items: InnerItems) -> Result<LastAtom, AllocError>
+/// The atom that a group makes: its one accent atom, or an Ord.
+pub fn group_last_atom(alloc: Global, items: InnerItems) -> Result<LastAtom, AllocError>
     ensures { IfOk result (λ last. last_atom_value last ≡ group_atom (inner_sequence items)) }
 {
     if is_only_accent(&items) {
@@ -65,7 +66,7 @@ fn nucleus_last_atom(
     items: InnerItems,
 ) -> Result<LastAtom, AllocError>
     ensures { IfOk result (λ last. last_atom_value last
-        ≡ nucleus_atom (nucleus_kind kind) (InGroup (inner_sequence items))) }
+        ≡ nucleus_atom (nucleus_kind kind) (inner_sequence items)) }
 {
     match kind {
         FieldKind::Class(Class::Ord) => group_last_atom(alloc, items),

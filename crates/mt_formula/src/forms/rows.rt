@@ -126,7 +126,8 @@ fn row_ends<'a>(codes: &Codes, tokens: &'a [Token]) -> Result<Scanned<'a, bool>,
     later_row_begins(codes, close_brace(codes, tokens)?)
 }
 
-fn push_row(rows: &mut Vec<MathList>, row: MathList) -> Result<(), AllocError>
+/// Puts a row, or a cell of one, to others.
+pub fn push_row(rows: &mut Vec<MathList>, row: MathList) -> Result<(), AllocError>
     ensures { OnOk result (rows_of rows.new.items ≡ append_rows (rows_of rows.old.items) (MoreRows row NoRows)) }
 {
     rows.push(row)?;

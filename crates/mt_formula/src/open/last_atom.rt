@@ -1,6 +1,6 @@
 //! The last atom: how it is made, and what it becomes.
 ghost use Rattle.std.specs.Prelude.{◌≡◌, true, false, Some, IfOk, OnOk};
-ghost use Rattle.mt_rules.specs.Sequence.{RowsPart};
+ghost use Rattle.mt_rules.specs.Sequence.{RowsPart, TablePart};
 ghost use Rattle.mt_rules.specs.declared.kind.Kind.TheVariants.{Vcenter};
 ghost use Rattle.mt_rules.specs.View.{element_of, part_of_field};
 ghost use Rattle.mt_scan.specs.Role.{nucleus_kind};
@@ -10,7 +10,7 @@ ghost use Rattle.mt_formula.specs.machine.Facts.{stands_inside, holds_rows};
 ghost use Rattle.mt_formula.specs.machine.OpenLists.{atom_value, last_atom_value, last_atom_of};
 
 use crate::open::open_list::LastAtom;
-use mt_rules::{Atom, Class, Field, Item, Kind, Limits, RowList};
+use mt_rules::{Atom, Class, Field, Item, Kind, Limits, Look, RowList, Table, TableRows};
 use mt_scan::{FieldKind, Side};
 use std::alloc::{AllocError, Global};
 
@@ -65,6 +65,15 @@ pub fn vcenter_last_atom(alloc: Global, rows: RowList) -> Result<LastAtom, Alloc
     ensures { IfOk result (λ last. last_atom_value last ≡ plain_atom Vcenter (RowsPart rows)) }
 {
     let atom = Box::new(alloc, plain_atom(Kind::Vcenter, Field::Rows(rows)))?;
+    Ok(LastAtom { atom })
+}
+
+/// A vcenter atom of a table without scripts, as the last atom.
+pub fn table_last_atom(alloc: Global, look: Look, rows: TableRows) -> Result<LastAtom, AllocError>
+    ensures { IfOk result (λ last. last_atom_value last ≡ plain_atom Vcenter (TablePart look rows)) }
+{
+    let table = Table { look, rows };
+    let atom = Box::new(alloc, plain_atom(Kind::Vcenter, Field::Table(table)))?;
     Ok(LastAtom { atom })
 }
 

@@ -5,7 +5,8 @@ ghost use Rattle.mt_formula.specs.machine.Facts.{is_inside, atom_fits, begins_wi
 ghost use Rattle.mt_formula.specs.declared.open.open_list.Stop.TheVariants.{Fault as AtFault, OutOfMemory};
 ghost use Rattle.mt_scan.specs.Limits.{max_groups};
 
-use mt_rules::{Atom, Delim, Item, MathList};
+use crate::open::table::{Column, TableForm};
+use mt_rules::{Atom, Delim, Item, MathList, TableRow};
 use mt_scan::{Fault, FieldKind, Side};
 use mt_token::Token;
 use std::alloc::AllocError;
@@ -23,6 +24,8 @@ pub enum Ending {
     AtRight,
     /// At `$`.
     AtDollar,
+    /// At `&`, `\cr` or `}`.
+    AtCell,
 }
 
 /// Items between which no boundary stands.
@@ -104,6 +107,22 @@ pub struct Fence {
     ghost few_groups: { level ≤ max_groups },
 }
 
+/// A table of which a cell is open.
+#[derive(Drop)]
+pub struct OpenTable {
+    /// How it stands in its list.
+    pub form: TableForm,
+    /// The rows before the one that is open.
+    pub rows: Vec<TableRow>,
+    /// The cells before the one that is open, in its row.
+    pub cells: Vec<MathList>,
+    /// The column of the cell that is open.
+    pub column: Column,
+    /// How many groups are open in each cell, at most 150.
+    pub level: usize,
+    ghost few_groups: { level ≤ max_groups },
+}
+
 /// What a list is read for.
 #[derive(Drop)]
 pub enum Owner<'a> {
@@ -117,6 +136,8 @@ pub enum Owner<'a> {
     Choice(ChoiceLists),
     /// A row of a vcenter atom, after these rows.
     Row(Vec<MathList>),
+    /// A cell of this table.
+    Cell(OpenTable),
     /// The argument of a superscript that primes begin, with the tokens after it and their number,
     /// with the brace.
     Argument(&'a [Token], usize),

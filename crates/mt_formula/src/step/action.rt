@@ -5,6 +5,7 @@ ghost use Rattle.mt_formula.specs.Fields.{field_start_here, field_start};
 ghost use Rattle.mt_formula.specs.Items.{coded_action, nucleus_action, script_action};
 
 use crate::open::groups::{check_level, missing_field};
+use crate::open::table::TableForm;
 use mt_plain::Codes;
 use mt_rules::{Delim, Limits, Symbol};
 use mt_scan::{
@@ -49,6 +50,8 @@ pub enum Action {
     LeftRight(Delim),
     /// It begins the first list of a choice.
     Choice,
+    /// It is the word of a table.
+    Table(TableForm),
     /// It is no item.
     Stop,
 }

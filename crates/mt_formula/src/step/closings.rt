@@ -14,6 +14,7 @@ use crate::forms::choices::close_choice;
 use crate::forms::left_right::close_left_right;
 use crate::forms::resume::{after_first, resume_nucleus, resume_script};
 use crate::forms::rows::close_row;
+use crate::forms::tables::close_cell;
 use crate::open::items::into_list;
 use crate::open::lists::put_script;
 use crate::open::open_list::{Frame, InnerItems, OpenList, Owner, Stop};
@@ -96,6 +97,7 @@ pub fn close_list<'a>(
         }
         Owner::Choice(lists) => close_choice(alloc, codes, frames, list, lists, all, tokens),
         Owner::Row(done) => close_row(alloc, codes, frames, list, done, all, tokens),
+        Owner::Cell(table) => close_cell(alloc, codes, frames, list, table, all, tokens),
         Owner::Argument(after, _) => Ok(close_argument(alloc, list, all, after)?),
         Owner::OpenArgument => Err(Stop::Fault(Fault {
             cause: ReadCause::Unbalanced,

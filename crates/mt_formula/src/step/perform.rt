@@ -16,6 +16,7 @@ ghost use Rattle.mt_scan.specs.Limits.{max_groups};
 use crate::forms::left_right::open_left_right;
 use crate::forms::primes::put_primes;
 use crate::forms::rows::open_rows;
+use crate::forms::tables::open_table;
 use crate::open::last_atom::plain_last_atom;
 use crate::open::lists::{put_family, put_item, put_last_atom, put_limits, put_script};
 use crate::open::open_list::{Frame, OpenList, Stop};
@@ -104,6 +105,7 @@ pub fn perform<'a>(
         Action::Prime => put_primes(alloc, codes, frames, list, tokens),
         Action::Rows => open_rows(alloc, codes, frames, list, tokens),
         Action::LeftRight(left) => open_left_right(alloc, frames, list, left, tokens),
+        Action::Table(form) => open_table(alloc, codes, frames, list, form, tokens),
         Action::Group(_) | Action::ScriptGroup(_) | Action::Choice => {
             open_list(alloc, frames, list, action, tokens)
         }

@@ -4,14 +4,14 @@ ghost use Rattle.mt_scaled.specs.Number.{Within};
 ghost use Rattle.mt_rules.specs.Sequence.{Sequence};
 ghost use Rattle.mt_scan.specs.Parts.{Read};
 ghost use Rattle.mt_formula.specs.Lists.{list};
-ghost use Rattle.mt_formula.specs.Formulas.{item_run};
+ghost use Rattle.mt_formula.specs.machine.Carried.{carried_run};
 ghost use Rattle.mt_formula.specs.machine.Frames.{tokens_after};
 ghost use Rattle.mt_formula.specs.machine.Stands.{Stands, tokens_after_all};
-ghost use Rattle.mt_formula.specs.machine.Reads.{fitting, ReadsPart, IsWholeStop};
+ghost use Rattle.mt_formula.specs.machine.Reads.{fitting, ReadsItems, ReadsPart, IsWholeStop};
 
 use crate::open::items::into_list;
 use crate::open::lists::{new_list, pop_frame};
-use crate::open::open_list::{Ending, Frame, OpenList, Owner, Stop};
+use crate::open::open_list::{Ending, Frame, InnerItems, OpenList, Owner, Stop};
 use crate::step::turn::{Progress, turn};
 use mt_plain::Codes;
 use mt_rules::MathList;
@@ -55,17 +55,17 @@ fn whole_stop(frames: Vec<Frame>, stop: Stop) -> Stop
     }
 }
 
-// All that this list has, and the tokens after it.
-fn read_open<'a>(
+/// All that this list has, and the tokens after it.
+pub fn read_open<'a>(
     alloc: Global,
     codes: &Codes,
     units: Units,
     list: OpenList,
     tokens: &'a [Token],
-) -> Result<Scanned<'a, MathList>, Stop>
+) -> Result<Scanned<'a, InnerItems>, Stop>
     requires em { Within (2 ^ 31) units.em }
     requires ex { Within (2 ^ 31) units.ex }
-    ensures { (whole : Read Sequence) → Stands codes.now units whole [] list tokens.now → ReadsPart result whole }
+    ensures { (whole : Read Sequence) → Stands codes.now units whole [] list tokens.now → ReadsItems result whole }
 {
     let mut frames: Vec<Frame<'a>> = Vec::new(alloc);
     let mut list = list;
@@ -74,12 +74,7 @@ fn read_open<'a>(
         match turn(alloc, codes, units, &mut frames, &mut list, rest) {
             Ok(progress) => match progress {
                 Progress::Open(left) => rest = left,
-                Progress::Whole(part) => {
-                    return Ok(Scanned {
-                        value: into_list(part.value),
-                        rest: part.rest,
-                    });
-                }
+                Progress::Whole(part) => return Ok(part),
             },
             Err(stop) => return Err(whole_stop(frames, stop)),
         }
@@ -97,13 +92,12 @@ pub fn read_list<'a>(
     requires em { Within (2 ^ 31) units.em }
     requires ex { Within (2 ^ 31) units.ex }
     ensures { (n : ℕ) → length tokens.now < n → ReadsPart result
-        (list codes.now units (item_run codes.now units n) ending 0 None tokens.now) }
+        (list codes.now units (carried_run codes.now units n) ending 0 None tokens.now) }
 {
-    read_open(
-        alloc,
-        codes,
-        units,
-        new_list(alloc, 0, None, ending),
-        tokens,
-    )
+    let list = new_list(alloc, 0, None, ending);
+    let part = read_open(alloc, codes, units, list, tokens)?;
+    Ok(Scanned {
+        value: into_list(part.value),
+        rest: part.rest,
+    })
 }

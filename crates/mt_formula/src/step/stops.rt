@@ -34,6 +34,7 @@ fn ends_at(ending: Ending, role: Role) -> bool
         Ending::AtBrace => matches!(role, Role::CloseBrace),
         Ending::AtRight => matches!(role, Role::MiddleWord | Role::RightWord),
         Ending::AtDollar => matches!(role, Role::Dollar),
+        Ending::AtCell => matches!(role, Role::Tab | Role::CrWord | Role::CloseBrace),
     }
 }
 
@@ -43,7 +44,7 @@ fn misplaced_cause(role: Role) -> ReadCause
 {
     match role {
         Role::FractionWord(_, _) => ReadCause::TwoFractions,
-        Role::NumberWord(_) => ReadCause::MisplacedNumber,
+        Role::NumberWord(_) | Role::DisplayWord(_, _) => ReadCause::MisplacedNumber,
         _ => ReadCause::Unbalanced,
     }
 }

@@ -14,10 +14,11 @@ ghost use Rattle.mt_formula.specs.machine.Stops.{front_role};
 
 use crate::open::last_atom::{is_free, is_op};
 use crate::open::open_list::OpenList;
+use crate::open::table::TableForm;
 use crate::step::action::{Action, coded_action, nucleus_action, script_action};
 use crate::step::words::{
     accent_word, amount_action, char_word, choice_word, delimiter_word, family_word, left_word,
-    open_group, radical_word, vcenter_word,
+    open_group, pmatrix_word, radical_word, vcenter_word,
 };
 use mt_plain::Codes;
 use mt_rules::Limits;
@@ -128,6 +129,11 @@ fn role_action<'a>(
         Role::LeftWord => left_word(codes, level, token, after),
         Role::VcenterWord => vcenter_word(codes, level, after),
         Role::ChoiceWord => choice_word(codes, level, after),
+        Role::TableWord(preamble) => Ok(Scanned {
+            value: Action::Table(TableForm::Spaced(preamble)),
+            rest: after,
+        }),
+        Role::PmatrixWord => pmatrix_word(codes, level, token, after),
         Role::Script(side) => script_word(codes, list, side, after),
         Role::Prime => prime_word(list, after),
         Role::LimitsWord(limits) => limits_word(list, limits, after),
@@ -135,10 +141,13 @@ fn role_action<'a>(
         Role::CloseBrace
         | Role::Dollar
         | Role::Misplaced
+        | Role::Tab
+        | Role::CrWord
         | Role::MiddleWord
         | Role::RightWord
         | Role::FractionWord(_, _)
-        | Role::NumberWord(_) => return Ok(None),
+        | Role::NumberWord(_)
+        | Role::DisplayWord(_, _) => return Ok(None),
     };
     // Not by `?`, which would move each action once more.
     match read {

@@ -6,22 +6,25 @@ ghost use Rattle.mt_scan.specs.Dimensions.{glue, dimension};
 ghost use Rattle.mt_scan.specs.Meets.{Meets};
 ghost use Rattle.mt_scan.specs.Numbers.{math_code, delimiter_number, whole_number};
 ghost use Rattle.mt_scan.specs.Parts.{then_read, opening, Got};
-ghost use Rattle.mt_scan.specs.Role.{role_of, is_open_brace, is_left};
+ghost use Rattle.mt_scan.specs.Role.{role_of, is_open_brace, is_left, is_pmatrix};
 ghost use Rattle.mt_scan.specs.Symbols.{code_symbol, delim_of, current_family};
 ghost use Rattle.mt_scan.specs.declared.role.FieldKind.TheVariants.{Radical, Accent, Class as OfClass};
-ghost use Rattle.mt_scan.specs.declared.role.Role.TheVariants.{OpenBrace, LeftWord};
+ghost use Rattle.mt_scan.specs.declared.role.Role.TheVariants.{OpenBrace, LeftWord, PmatrixWord};
 ghost use Rattle.mt_scan.specs.declared.role.Simple.TheVariants.{MuSpace, Space, MuKern, Kern};
-ghost use Rattle.mt_formula.specs.Items.{coded_action, nucleus_action, amount_action, left_action};
+ghost use Rattle.mt_formula.specs.Items.{coded_action, nucleus_action, amount_action};
+ghost use Rattle.mt_formula.specs.Items.{left_action, pmatrix_action};
 ghost use Rattle.mt_formula.specs.declared.step.action.Action.TheVariants.{Item, Family, Group, Rows, Choice};
 
 use crate::open::groups::{check_level, open_brace};
+use crate::open::table::TableForm;
 use crate::step::action::{Action, coded_action, nucleus_action};
 use mt_plain::Codes;
 use mt_rules::Class;
 use mt_scaled::Units;
 use mt_scan::{
-    Amount, Fault, FieldKind, MAX_DELIMITER, MAX_MATH_CHAR, Scanned, Simple, code_symbol,
-    current_family, delim_of, dimension, glue, number_to, scan_delimiter, whole_number,
+    Amount, Fault, FieldKind, MAX_DELIMITER, MAX_MATH_CHAR, Scanned, Simple, character_delimiter,
+    code_symbol, current_family, delim_of, dimension, glue, number_to, scan_delimiter,
+    whole_number,
 };
 use mt_token::Token;
 
@@ -177,6 +180,34 @@ pub fn left_word<'a>(
 {
     check_level(level, after.len() + 1)?;
     left_action(codes, after)
+}
+
+fn pmatrix_action<'a>(codes: &Codes, after: &'a [Token]) -> Result<Scanned<'a, Action>, Fault>
+    ensures is { Meets result (pmatrix_action codes.now after.now) }
+    ensures falls { IfOk result (λ action. length action.rest.now ≤ length after.now) }
+{
+    let left = character_delimiter(codes, b'(', after)?;
+    let right = character_delimiter(codes, b')', left.rest)?;
+    Ok(Scanned {
+        value: Action::Table(TableForm::Enclosed(left.value, right.value)),
+        rest: right.rest,
+    })
+}
+
+/// At a `\pmatrix`.
+pub fn pmatrix_word<'a>(
+    codes: &Codes,
+    level: usize,
+    token: &Token,
+    after: &'a [Token],
+) -> Result<Scanned<'a, Action>, Fault>
+    requires { role_of codes.now token.now ≡ PmatrixWord }
+    ensures is { Meets result (then_read (opening codes.now is_pmatrix level (token.now ∷ after.now))
+        (λ here rest. pmatrix_action codes.now rest)) }
+    ensures falls { IfOk result (λ action. length action.rest.now ≤ length after.now) }
+{
+    check_level(level, after.len() + 1)?;
+    pmatrix_action(codes, after)
 }
 
 fn glue_action<'a>(

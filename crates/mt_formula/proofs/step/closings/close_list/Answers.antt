@@ -1,5 +1,5 @@
 use Rattle.std.proofs.Common.{Ok, length, refl, reverse}
-use Rattle.mt_formula.specs.declared.open.open_list.Owner.TheVariants.{Nucleus, Script, LeftRight, Choice, Row, Argument}
+use Rattle.mt_formula.specs.declared.open.open_list.Owner.TheVariants.{Nucleus, Script, LeftRight, Choice, Row, Cell, Argument}
 use Rattle.mt_formula.specs.machine.OpenLists.{inner_sequence}
 use Rattle.mt_formula.proofs.Closing.{resumes_owner, argument_closed, argument_unclosed, falls_by, shortens_by, argument_falls}
 use Rattle.mt_formula.proofs.step.closings.close_list.Goals as goal
@@ -43,6 +43,14 @@ returns-in-Row-clause-is c = λ units.
 
 pub returns-in-Row-clause-falls : goal.returns-in-Row-clause-falls
 returns-in-Row-clause-falls c = falls_by c.close_row.result (reverse c.close_row.new.frames.items) (reverse c.args.frames.now.items) c.args.owner (Row c.in-Row.done) (length c.args.tokens.now) c.in-Row.is refl c.close_row.ensures.falls
+
+pub returns-in-Cell-clause-is : goal.returns-in-Cell-clause-is
+returns-in-Cell-clause-is c = λ units.
+    resumes_owner c.args.codes.now units c.args.owner (Cell c.in-Cell.table) c.args.list.now (reverse c.args.frames.now.items) (inner_sequence c.args.all) c.args.tokens.now c.close_cell.result (reverse c.close_cell.new.frames.items) c.close_cell.new.list c.in-Cell.is
+    (c.close_cell.ensures.is units)
+
+pub returns-in-Cell-clause-falls : goal.returns-in-Cell-clause-falls
+returns-in-Cell-clause-falls c = falls_by c.close_cell.result (reverse c.close_cell.new.frames.items) (reverse c.args.frames.now.items) c.args.owner (Cell c.in-Cell.table) (length c.args.tokens.now) c.in-Cell.is refl c.close_cell.ensures.falls
 
 pub returns-in_ok-close_argument-in-Argument-clause-is : goal.returns-in_ok-close_argument-in-Argument-clause-is
 returns-in_ok-close_argument-in-Argument-clause-is c = λ units.

@@ -1,7 +1,7 @@
 use Rattle.std.proofs.Common.{refl, sym, ap, ◌∙◌}
 use Rattle.mt_rules.specs.Sequence.{End}
+use Rattle.mt_formula.specs.machine.Carried.{follows}
 use Rattle.mt_formula.specs.machine.OpenLists.{last_atom_of}
-use Rattle.mt_formula.specs.Items.{follows}
 use Rattle.mt_formula.proofs.Inside.{append_end}
 use Rattle.mt_formula.proofs.Standing.{no_items}
 use Rattle.mt_formula.proofs.step.perform.put_action.Goals as goal
