@@ -7,6 +7,7 @@ use Rattle.mt_box.specs.declared.piece.Piece.TheVariants.{Glyph, Boxed, Kern, Sp
 use Rattle.mt_box.specs.Rows.{IsMeasurable, AllMeasurable, IsModest, AllModest, level_of_piece}
 use Rattle.mt_box.specs.Layout.{BoxValue}
 use Rattle.mt_parts.specs.LineColumns.{boxes_level}
+use Rattle.mt_align.specs.Cells.{boxes_level as cells_level, table_level}
 use Rattle.mt_convert.specs.Halfway.{RowFits}
 
 modest_piece : (p : Piece) (n : ℕ) → n < 2 ^ 20 → level_of_piece p ≤ n → IsMeasurable p → IsModest p
@@ -37,4 +38,20 @@ lines_low n [] h = omega arith
 lines_low n (b ∷ bs) h =
     let first : b.level ≤ n = All-head (λ (x : BoxValue). x.level ≤ n) b bs h in
     let rest : boxes_level bs ≤ n + 1 = lines_low n bs (All-tail (λ (x : BoxValue). x.level ≤ n) b bs h) in
+    omega (arith, first, rest)
+
+-- a row of cells likewise
+cells_low : (n : ℕ) (cells : List BoxValue) → All (λ (c : BoxValue). c.level ≤ n) cells → cells_level cells ≤ n + 1
+cells_low n [] h = omega arith
+cells_low n (c ∷ cs) h =
+    let first : c.level ≤ n = All-head (λ (x : BoxValue). x.level ≤ n) c cs h in
+    let rest : cells_level cs ≤ n + 1 = cells_low n cs (All-tail (λ (x : BoxValue). x.level ≤ n) c cs h) in
+    omega (arith, first, rest)
+
+-- a table of such cells
+pub table_low : (n : ℕ) (rows : List (List BoxValue)) → All (All (λ (c : BoxValue). c.level ≤ n)) rows → table_level rows ≤ n + 2
+table_low n [] h = omega arith
+table_low n (row ∷ rows) h =
+    let first : cells_level row ≤ n + 1 = cells_low n row (All-head (All (λ (c : BoxValue). c.level ≤ n)) row rows h) in
+    let rest : table_level rows ≤ n + 2 = table_low n rows (All-tail (All (λ (c : BoxValue). c.level ≤ n)) row rows h) in
     omega (arith, first, rest)

@@ -4,4 +4,5 @@ mod ListCases
 mod JoiningCases
 mod PartCases
 mod MiddleCases
+mod TableCases
 mod FaultCases

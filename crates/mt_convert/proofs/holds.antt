@@ -13,6 +13,8 @@ mod Nuclei
 mod Scripts
 -- fractions, radicals, lines, rows and accents
 mod Parts
+-- tables
+mod Tables
 -- the row of an atom, and that of a fraction
 mod Atoms
 -- the flat list and the first pass

@@ -13,5 +13,7 @@ pub mod Fractions
 pub mod Accents
 -- rows of a vcenter atom
 pub mod RowBoxes
+-- tables, cell by cell
+pub mod TableBoxes
 -- items of the flat list
 pub mod Items

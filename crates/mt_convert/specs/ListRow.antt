@@ -5,8 +5,8 @@ use Rattle.mt_family.specs.SetValue.{SetValue}
 use Rattle.mt_box.specs.Rows.{PieceValue}
 use Rattle.mt_rules.specs.declared.style.Style.{Style}
 use Rattle.mt_rules.specs.Setting.{Setting, ◌>>=◌}
-use Rattle.mt_rules.specs.Sequence.{Sequence, Element, Part, Rows, End, More, AtomElement, FractionElement, LeftElement, MiddleElement, RightElement, StyleElement, ChoiceElement, MuSpaceElement, SpaceElement, MuKernElement, KernElement, NonscriptElement, EmptyPart, SymbolPart, ListPart, RowsPart, NoRows, MoreRows, sequence_size}
-use Rattle.mt_rules.specs.Nuclei.{RowByStyle, Content, NoContent, SymbolContent, ListContent, RowsContent}
+use Rattle.mt_rules.specs.Sequence.{Sequence, Element, Part, Rows, End, More, AtomElement, FractionElement, LeftElement, MiddleElement, RightElement, StyleElement, ChoiceElement, MuSpaceElement, SpaceElement, MuKernElement, KernElement, NonscriptElement, EmptyPart, SymbolPart, ListPart, RowsPart, TablePart, NoRows, MoreRows, TableGrid, NoTableRows, MoreTableRows, sequence_size}
+use Rattle.mt_rules.specs.Nuclei.{RowByStyle, Content, NoContent, SymbolContent, ListContent, RowsContent, TableContent}
 use Rattle.mt_convert.specs.Contents.{ItemContent, AtomItem, FractionItem, LeftItem, MiddleItem, RightItem, StyleItem, ChoiceItem, MuSpaceItem, SpaceItem, MuKernItem, KernItem, NonscriptItem, ItemContents, NoItems, MoreItems}
 use Rattle.mt_convert.specs.Halves.{Halves}
 use Rattle.mt_convert.specs.FirstPass.{first_pass_of}
@@ -58,10 +58,15 @@ module _ (fonts : SetValue) where
     content_of (SymbolPart symbol) = SymbolContent symbol
     content_of (ListPart list) = ListContent (row_of_items fonts (sequence_size list) (items_of list))
     content_of (RowsPart rows) = RowsContent (rows_by_style rows)
+    content_of (TablePart look grid) = TableContent look (cells_by_style grid)
 
     pub rows_by_style : Rows → List RowByStyle
     rows_by_style NoRows = []
     rows_by_style (MoreRows s rows) = row_of_items fonts (sequence_size s) (items_of s) ∷ rows_by_style rows
+
+    pub cells_by_style : TableGrid → List (List RowByStyle)
+    cells_by_style NoTableRows = []
+    cells_by_style (MoreTableRows cells rows) = rows_by_style cells ∷ cells_by_style rows
 
 -- the items of a list between the passes, or the first fault of an item
 unfoldable pub halves_of : SetValue → Style → Sequence → Setting Halves

@@ -1,6 +1,6 @@
 -- lists that are made part by part
 pub mod Appending
--- what an item and a part of a modest list keep
+-- what an item, a part and a table of a modest list keep
 pub mod Modest
 -- the fields of atoms and fractions
 pub mod Fields
@@ -12,6 +12,8 @@ pub mod Boundaries
 pub mod Stack
 -- a nucleus of the code
 pub mod Nucleus
+-- the cells of a table that have a column
+pub mod Tables
 -- the clean box of a character
 pub mod Glyphs
 -- lists of one atom alone

@@ -6,10 +6,13 @@ ghost use Rattle.mt_rules.specs.declared.kind.Kind.TheVariants.{Plain};
 ghost use Rattle.mt_box.specs.Rows.{piece_values};
 ghost use Rattle.mt_scaled.specs.Number.{Within};
 ghost use Rattle.mt_tfm.specs.Font.{IsSoundFont};
-ghost use Rattle.mt_rules.specs.AtomRow.{accent_inside, overline_part, pack_rows, radical_part};
-ghost use Rattle.mt_rules.specs.AtomRow.{script_box, underline_part, vcenter_part};
+ghost use Rattle.mt_rules.specs.AtomRow.{accent_inside, overline_part, pack_cells, pack_rows};
+ghost use Rattle.mt_rules.specs.AtomRow.{radical_part, script_box, table_part, underline_part};
+ghost use Rattle.mt_rules.specs.AtomRow.{vcenter_part};
+ghost use Rattle.mt_rules.specs.declared.list.Look.TheVariants.{Equations};
 ghost use Rattle.mt_rules.specs.Modest.{IsModestList, element_nesting, list_nesting, part_nesting};
-ghost use Rattle.mt_rules.specs.Modest.{rows_nesting};
+ghost use Rattle.mt_rules.specs.Modest.{grid_nesting, rows_nesting};
+ghost use Rattle.mt_rules.specs.Sequence.{rows_length};
 ghost use Rattle.mt_rules.specs.Nuclei.{SymbolContent, SymbolRole, clean_field, clean_list, packed_list};
 ghost use Rattle.mt_rules.specs.View.{atom_element, fraction_element, part_of_field};
 ghost use Rattle.mt_scripts.specs.Levels.{script_level};
@@ -17,16 +20,16 @@ ghost use Rattle.mt_convert.specs.Calls.{SetsHalves, SetsRow};
 ghost use Rattle.mt_convert.specs.FirstPass;
 ghost use Rattle.mt_convert.specs.Halfway.{HalvesFit, HalfFits, RowFits, count_of};
 ghost use Rattle.mt_convert.specs.Holding.{RowHolds};
-ghost use Rattle.mt_convert.specs.ListRow.{halves_of, list_row, rows_by_style};
+ghost use Rattle.mt_convert.specs.ListRow.{cells_by_style, halves_of, list_row, rows_by_style};
 ghost use Rattle.mt_convert.specs.inner.Answers.{HalfReachInRange, ReachInRange, SetsBox};
-ghost use Rattle.mt_convert.specs.inner.Answers.{SetsBoxes, SetsHalf, SetsNucleus, SetsOperator};
+ghost use Rattle.mt_convert.specs.inner.Answers.{SetsBoxes, SetsCells, SetsHalf, SetsNucleus, SetsOperator};
 ghost use Rattle.mt_convert.specs.inner.Answers.{SetsScript};
 ghost use Rattle.mt_convert.specs.inner.Fields.{atom_row_of, field_content, fraction_row_of};
 ghost use Rattle.mt_convert.specs.inner.Fields.{list_content};
 ghost use Rattle.mt_convert.specs.inner.AtomSteps.{accent_part, class_nucleus, kind_nucleus};
 ghost use Rattle.mt_convert.specs.inner.AtomSteps.{operator_box, row_with_fields, row_with_limits};
 ghost use Rattle.mt_convert.specs.inner.AtomSteps.{under_limits};
-ghost use Rattle.mt_convert.specs.inner.Modest.{IsModestElement, IsModestPart, IsModestRows};
+ghost use Rattle.mt_convert.specs.inner.Modest.{IsModestElement, IsModestGrid, IsModestPart, IsModestRows};
 ghost use Rattle.mt_convert.specs.inner.Modest.{ScriptLevels};
 ghost use Rattle.mt_convert.specs.inner.Nucleus.{NucleusIsSmall, nucleus_value, operator_value};
 ghost use Rattle.mt_convert.specs.inner.Turns.{element_of_passed, flat_item, passed_value};
@@ -54,10 +57,13 @@ use crate::set::parts::{
 use crate::set::row::box_row;
 use crate::set::scripts::{with_limits, with_scripts, without_scripts};
 use crate::set::settle::finish;
+use crate::set::tables::{equations, in_columns, matrix, push_row, table_strut};
+use mt_align::CellRows;
 use mt_box::{Packed, Row};
 use mt_family::FontSet;
 use mt_rules::{
-    Atom, Class, Delim, Field, Fraction, Kind, MathList, PackedList, RowList, Style, Symbol,
+    Atom, Class, Delim, Field, Fraction, Kind, Look, MathList, PackedList, RowList, Style, Symbol,
+    Table, TableRows,
 };
 use mt_scaled::Length;
 use mt_spacing::forward;
@@ -337,7 +343,7 @@ fn clean_field(
     match field {
         Field::Sym(symbol) => clean_symbol(alloc, fonts, style, symbol),
         Field::List(list) => clean_list(alloc, fonts, style, list),
-        Field::Empty | Field::Rows(_) => empty_box(alloc),
+        Field::Empty | Field::Rows(_) | Field::Table(_) => empty_box(alloc),
     }
 }
 
@@ -430,7 +436,7 @@ fn set_plain(
             class_nucleus(alloc, fonts, style, class, role, symbol, has_subscript)
         }
         Field::List(list) => pack_list(alloc, fonts, style, list),
-        Field::Empty | Field::Rows(_) => Ok(empty_nucleus(alloc)),
+        Field::Empty | Field::Rows(_) | Field::Table(_) => Ok(empty_nucleus(alloc)),
     }
 }
 
@@ -468,7 +474,7 @@ fn set_operator(
     match field {
         Field::Sym(symbol) => symbol_operator(alloc, fonts, style, symbol),
         Field::List(list) => part_operator(clean_list(alloc, fonts, style, list)),
-        Field::Empty | Field::Rows(_) => part_operator(empty_box(alloc)),
+        Field::Empty | Field::Rows(_) | Field::Table(_) => part_operator(empty_box(alloc)),
     }
 }
 
@@ -619,6 +625,7 @@ fn set_vcenter(
             let rows = set_rows(alloc, fonts, rows)?;
             vcenter(alloc, fonts, style.size(), rows)
         }
+        Field::Table(table) => set_table(alloc, fonts, style, table),
         _ => vcenter(
             alloc,
             fonts,
@@ -634,6 +641,7 @@ fn set_rows(alloc: Global, fonts: &FontSet, rows: RowList) -> Result<PackedList,
     requires modest { IsModestRows rows }
     ensures is { SetsBoxes result (pack_rows (rows_by_style fonts.now rows)) }
     ensures few { IfOk result (λ boxes. length boxes ≤ 2 ^ 18) }
+    ensures count { IfOk result (λ boxes. length boxes ≡ rows_length rows) }
     ensures levels { IfOk result (λ boxes. All (λ b. b.level ≤ 12 * rows_nesting rows + 1) boxes) }
 {
     let mut boxes = Vec::new(alloc);
@@ -642,6 +650,51 @@ fn set_rows(alloc: Global, fonts: &FontSet, rows: RowList) -> Result<PackedList,
         push_box(&mut boxes, packed(alloc, row)?)?;
     }
     Ok(PackedList::from_vec(boxes))
+}
+
+// A table: for a matrix its strut, then the cells, then their box.
+#[cycle(setting)]
+#[inline(never)]
+fn set_table(alloc: Global, fonts: &FontSet, style: Style, table: Table) -> Result<Packed, SetFault>
+    requires modest { IsModestGrid table.rows }
+    ensures is { SetsBox result (table_part fonts.now style table.look (cells_by_style fonts.now table.rows)) }
+    ensures level { IfOk result (λ b. b.level ≤ 12 * grid_nesting table.rows + 3) }
+{
+    let Table { look, rows } = table;
+    match look {
+        Look::Matrix => {
+            let strut = table_strut(fonts)?;
+            let cells = set_cells(alloc, fonts, look, rows)?;
+            matrix(alloc, fonts, style.size(), strut, cells)
+        }
+        Look::Equations => {
+            let cells = set_cells(alloc, fonts, look, rows)?;
+            equations(alloc, fonts, style.size(), cells)
+        }
+    }
+}
+
+// The cells of a table, row by row.
+#[cycle(setting)]
+fn set_cells(
+    alloc: Global,
+    fonts: &FontSet,
+    look: Look,
+    rows: TableRows,
+) -> Result<CellRows, SetFault>
+    requires modest { IsModestGrid rows }
+    ensures is { SetsCells result (pack_cells look (cells_by_style fonts.now rows)) }
+    ensures few { IfOk result (λ cells. length cells ≤ 2 ^ 18) }
+    ensures columns { IfOk result (All (λ row. length row ≤ 2 ^ 18)) }
+    ensures sides { look ≡ Equations → IfOk result (All (λ row. length row ≤ 2)) }
+    ensures levels { IfOk result (All (All (λ b. b.level ≤ 12 * grid_nesting rows + 1))) }
+{
+    let mut done = Vec::new(alloc);
+    for row in rows.into_vec() {
+        let cells = set_rows(alloc, fonts, in_columns(look, row))?;
+        push_row(&mut done, cells)?;
+    }
+    Ok(CellRows::from_vec(done))
 }
 
 fn push_box(boxes: &mut Vec<Packed>, body: Packed) -> Result<(), AllocError>

@@ -9,3 +9,4 @@ pub mod parts;
 pub mod row;
 pub mod scripts;
 pub mod settle;
+pub mod tables;

@@ -9,6 +9,8 @@ use Rattle.mt_rules.specs.declared.class.Class.TheVariants as classes
 use Rattle.mt_rules.specs.declared.kind.Kind.{Kind}
 use Rattle.mt_rules.specs.declared.kind.Kind.TheVariants.{Plain, Radical, Accent, Over, Under, Vcenter}
 use Rattle.mt_rules.specs.declared.kind.Limits.{Limits}
+use Rattle.mt_rules.specs.declared.list.Look.{Look}
+use Rattle.mt_rules.specs.declared.list.Look.TheVariants.{Matrix, Equations}
 use Rattle.mt_rules.specs.declared.symbol.Symbol.{Symbol}
 use Rattle.mt_rules.specs.declared.symbol.Delim.{Delim}
 use Rattle.mt_rules.specs.declared.style.Style.{Style}
@@ -23,18 +25,20 @@ use Rattle.mt_rules.specs.Fractions.{fraction}
 use Rattle.mt_rules.specs.Radicals.{radical}
 use Rattle.mt_rules.specs.Lines.{overline, underline}
 use Rattle.mt_rules.specs.Vcenter.{vcenter}
+use Rattle.mt_rules.specs.Tables.{matrix_table, equations_table}
 use Rattle.mt_rules.specs.Accents.{accent}
-use Rattle.mt_rules.specs.Nuclei.{RowByStyle, Content, NoContent, SymbolContent, ListContent, RowsContent, is_empty, SymbolRole, OrdinarySymbol, Nucleus, nucleus_row, make_clean, clean_field, clean_list}
+use Rattle.mt_rules.specs.Nuclei.{RowByStyle, Content, NoContent, SymbolContent, ListContent, RowsContent, TableContent, is_empty, SymbolRole, OrdinarySymbol, Nucleus, nucleus_row, make_clean, clean_field, clean_list}
 use Rattle.mt_rules.specs.Operators.{uses_limits}
-use Rattle.mt_rules.specs.AtomRow.{AtomContent, script_box, some_box, nucleus_with_scripts, box_nucleus, part_with_scripts, row_of_list, nucleus_under_limits, operator_with_limits, nucleus_beside_scripts, operator_without_limits, operator_by_limits, ordinary_row, class_row, radical_part, overline_part, underline_part, pack_rows, content_rows, vcenter_part, content_skew, accent_outside, accent_inside, accent_by_scripts, is_symbol, accent_row, kind_row, atom_row, FractionContent, fraction_row}
+use Rattle.mt_rules.specs.AtomRow.{AtomContent, script_box, some_box, nucleus_with_scripts, box_nucleus, part_with_scripts, row_of_list, nucleus_under_limits, operator_with_limits, nucleus_beside_scripts, operator_without_limits, operator_by_limits, ordinary_row, class_row, radical_part, overline_part, underline_part, pack_rows, vcenter_rows, cells_in_columns, pack_cells, table_strut, table_part, vcenter_part, content_skew, accent_outside, accent_inside, accent_by_scripts, is_symbol, accent_row, kind_row, atom_row, FractionContent, fraction_row}
 use Rattle.mt_convert.specs.Holding.{LayoutHolds, RowHolds}
-use Rattle.mt_convert.proofs.holds.Steps.{step_holds, row_made}
+use Rattle.mt_convert.proofs.holds.Steps.{step_holds, next_holds, row_made}
 use Rattle.mt_convert.proofs.holds.Boxes.{packed_row, clean_box, SomeLayoutHolds, LayoutsHold}
 use Rattle.mt_convert.proofs.holds.Glyphs.{ExistsIn, symbol_found, accent_holds}
 use Rattle.mt_convert.proofs.holds.Delimiters.{AreSound}
-use Rattle.mt_convert.proofs.holds.Nuclei.{ListHolds, ListsHold, ContentHolds, NucleusHolds, clean_list_holds, clean_field_holds, packed_list_holds, nucleus_row_holds, operator_nucleus_holds}
+use Rattle.mt_convert.proofs.holds.Nuclei.{ListHolds, ListsHold, CellListsHold, ContentHolds, NucleusHolds, clean_list_holds, clean_field_holds, packed_list_holds, nucleus_row_holds, operator_nucleus_holds}
 use Rattle.mt_convert.proofs.holds.Scripts.{scripts_hold, limits_hold}
 use Rattle.mt_convert.proofs.holds.Parts.{fraction_holds, radical_holds, overline_holds, underline_holds, vcenter_holds}
+use Rattle.mt_convert.proofs.holds.Tables.{CellsHold, matrix_holds, equations_hold}
 
 module _ (fonts : SetValue) where
   -- ---- scripts
@@ -77,6 +81,7 @@ module _ (fonts : SetValue) where
   under_limits style (SymbolContent symbol) h = operator_nucleus_holds fonts style symbol false
   under_limits style (ListContent list) h = list_nucleus list style h
   under_limits style (RowsContent rows) h = tt
+  under_limits style (TableContent look rows) h = tt
 
   limits_row_holds : (style : Style) (field sup sub : Content) → ContentHolds fonts field → ContentHolds fonts sup → ContentHolds fonts sub → IfOk (operator_with_limits fonts style field sup sub) (RowHolds fonts)
   limits_row_holds style field sup sub h a b =
@@ -102,6 +107,7 @@ module _ (fonts : SetValue) where
   beside_scripts style (SymbolContent symbol) subscript h = operator_nucleus_holds fonts style symbol subscript
   beside_scripts style (ListContent list) subscript h = packed_list_holds fonts list style h
   beside_scripts style (RowsContent rows) subscript h = tt
+  beside_scripts style (TableContent look rows) subscript h = tt
 
   no_limits_row_holds : (style : Style) (field sup sub : Content) → ContentHolds fonts field → ContentHolds fonts sup → ContentHolds fonts sub → IfOk (operator_without_limits fonts style field sup sub) (RowHolds fonts)
   no_limits_row_holds style field sup sub h a b =
@@ -163,16 +169,41 @@ module _ (fonts : SetValue) where
       (λ box y. step_holds (LayoutsHold fonts) (LayoutsHold fonts) (pack_rows lists) (λ boxes. Ok (box ∷ boxes))
       (rows_hold lists h.1) (λ boxes z. (y, z))))
 
-  content_rows_hold : (nucleus : Content) → ContentHolds fonts nucleus → ListsHold fonts (content_rows nucleus)
-  content_rows_hold NoContent h = tt
-  content_rows_hold (SymbolContent symbol) h = tt
-  content_rows_hold (ListContent list) h = tt
-  content_rows_hold (RowsContent rows) h = h
+  vcenter_rows_hold : (style : Style) (rows : List RowByStyle) → ListsHold fonts rows → IfOk (vcenter_rows fonts style rows) (LayoutHolds fonts)
+  vcenter_rows_hold style rows h =
+      step_holds (LayoutsHold fonts) (LayoutHolds fonts) (pack_rows rows) (λ boxes. vcenter fonts (size_of style) boxes)
+      (rows_hold rows h) (λ boxes k. vcenter_holds fonts (size_of style) boxes k)
+
+  columns_hold : (look : Look) (cells : List RowByStyle) → ListsHold fonts cells → ListsHold fonts (cells_in_columns look cells)
+  columns_hold Matrix cells h = h
+  columns_hold Equations [] h = tt
+  columns_hold Equations (left ∷ []) h = h
+  columns_hold Equations (left ∷ right ∷ more) h = (h.0, (h.1.0, tt))
+
+  cells_hold : (look : Look) (rows : List (List RowByStyle)) → CellListsHold fonts rows → IfOk (pack_cells look rows) (CellsHold fonts)
+  cells_hold look [] h = tt
+  cells_hold look (row ∷ rows) h =
+      step_holds (LayoutsHold fonts) (CellsHold fonts) (pack_rows (cells_in_columns look row))
+      (λ cells. pack_cells look rows >>= (λ others. Ok (cells ∷ others)))
+      (rows_hold (cells_in_columns look row) (columns_hold look row h.0))
+      (λ cells x. step_holds (CellsHold fonts) (CellsHold fonts) (pack_cells look rows) (λ others. Ok (cells ∷ others))
+      (cells_hold look rows h.1) (λ others y. (x, y)))
+
+  table_part_holds : (style : Style) (look : Look) (rows : List (List RowByStyle)) → CellListsHold fonts rows → IfOk (table_part fonts style look rows) (LayoutHolds fonts)
+  table_part_holds style Matrix rows h =
+      next_holds (LayoutHolds fonts) (table_strut fonts) (λ strut. pack_cells Matrix rows >>= (λ cells. matrix_table fonts (size_of style) strut cells))
+      (λ strut. step_holds (CellsHold fonts) (LayoutHolds fonts) (pack_cells Matrix rows) (λ cells. matrix_table fonts (size_of style) strut cells)
+      (cells_hold Matrix rows h) (λ cells k. matrix_holds fonts (size_of style) strut cells k))
+  table_part_holds style Equations rows h =
+      step_holds (CellsHold fonts) (LayoutHolds fonts) (pack_cells Equations rows) (λ cells. equations_table fonts (size_of style) cells)
+      (cells_hold Equations rows h) (λ cells k. equations_hold fonts (size_of style) cells k)
 
   vcenter_part_holds : (style : Style) (nucleus : Content) → ContentHolds fonts nucleus → IfOk (vcenter_part fonts style nucleus) (LayoutHolds fonts)
-  vcenter_part_holds style nucleus h =
-      step_holds (LayoutsHold fonts) (LayoutHolds fonts) (pack_rows (content_rows nucleus)) (λ rows. vcenter fonts (size_of style) rows)
-      (rows_hold (content_rows nucleus) (content_rows_hold nucleus h)) (λ rows k. vcenter_holds fonts (size_of style) rows k)
+  vcenter_part_holds style NoContent h = vcenter_rows_hold style [] tt
+  vcenter_part_holds style (SymbolContent symbol) h = vcenter_rows_hold style [] tt
+  vcenter_part_holds style (ListContent list) h = vcenter_rows_hold style [] tt
+  vcenter_part_holds style (RowsContent rows) h = vcenter_rows_hold style rows h
+  vcenter_part_holds style (TableContent look rows) h = table_part_holds style look rows h
 
   -- ---- accents
 

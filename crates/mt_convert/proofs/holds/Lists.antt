@@ -7,17 +7,17 @@ use Rattle.mt_box.specs.declared.piece.Piece.{Piece}
 use Rattle.mt_box.specs.Rows.{PieceValue, piece_values}
 use Rattle.mt_rules.specs.declared.style.Style.{Style}
 use Rattle.mt_rules.specs.Setting.{◌>>=◌}
-use Rattle.mt_rules.specs.Sequence.{Sequence, Element, Part, Rows, End, More, AtomElement, FractionElement, LeftElement, MiddleElement, RightElement, StyleElement, ChoiceElement, MuSpaceElement, SpaceElement, MuKernElement, KernElement, NonscriptElement, EmptyPart, SymbolPart, ListPart, RowsPart, NoRows, MoreRows, sequence_size}
+use Rattle.mt_rules.specs.Sequence.{Sequence, Element, Part, Rows, End, More, AtomElement, FractionElement, LeftElement, MiddleElement, RightElement, StyleElement, ChoiceElement, MuSpaceElement, SpaceElement, MuKernElement, KernElement, NonscriptElement, EmptyPart, SymbolPart, ListPart, RowsPart, TablePart, TableGrid, NoTableRows, MoreTableRows, NoRows, MoreRows, sequence_size}
 use Rattle.mt_convert.specs.declared.fault.SetFault.{SetFault}
 use Rattle.mt_convert.specs.Calls.{SetsRow}
 use Rattle.mt_convert.specs.Contents.{ItemContents}
 use Rattle.mt_convert.specs.Halves.{Halves}
 use Rattle.mt_convert.specs.FirstPass.{first_pass_of}
 use Rattle.mt_convert.specs.SecondPass.{second_pass_of}
-use Rattle.mt_convert.specs.ListRow.{items_of, item_of, content_of, rows_by_style, halves_of, list_row}
+use Rattle.mt_convert.specs.ListRow.{items_of, item_of, content_of, rows_by_style, cells_by_style, halves_of, list_row}
 use Rattle.mt_convert.specs.Holding.{RowHolds}
 use Rattle.mt_convert.proofs.holds.Steps.{step_holds, answer_holds}
-use Rattle.mt_convert.proofs.holds.Nuclei.{ListsHold, ContentHolds}
+use Rattle.mt_convert.proofs.holds.Nuclei.{ListsHold, CellListsHold, ContentHolds}
 use Rattle.mt_convert.proofs.holds.FirstPass.{ItemHolds, ItemsHold, HalvesHold, first_pass_holds}
 use Rattle.mt_convert.proofs.holds.SecondPass.{second_pass_holds}
 
@@ -57,10 +57,15 @@ module _ (fonts : SetValue) (sound : All IsSoundFont fonts.fonts) where
     content_holds (SymbolPart symbol) = tt
     content_holds (ListPart list) = λ style. two_passes (sequence_size list) style (items_of fonts list) (items_hold list)
     content_holds (RowsPart rows) = each_row_holds rows
+    content_holds (TablePart look grid) = each_cell_holds grid
 
     each_row_holds : (rows : Rows) → ListsHold fonts (rows_by_style fonts rows)
     each_row_holds NoRows = tt
     each_row_holds (MoreRows s rows) = (λ style. two_passes (sequence_size s) style (items_of fonts s) (items_hold s), each_row_holds rows)
+
+    each_cell_holds : (grid : TableGrid) → CellListsHold fonts (cells_by_style fonts grid)
+    each_cell_holds NoTableRows = tt
+    each_cell_holds (MoreTableRows cells rows) = (each_row_holds cells, each_cell_holds rows)
 
   setting_holds : (style : Style) (list : Sequence) → IfOk (list_row fonts style list) (RowHolds fonts)
   unfolding list_row halves_of

@@ -13,7 +13,7 @@ use Rattle.mt_rules.specs.Styles.{size_of}
 use Rattle.mt_rules.specs.Setting.{◌>>=◌, ◌>>◌, make_box, make_row, pack_row}
 use Rattle.mt_rules.specs.Symbols.{font_of_number, find_symbol, extents_without_italic}
 use Rattle.mt_rules.specs.Delimiters.{piece_on_axis}
-use Rattle.mt_rules.specs.Nuclei.{RowByStyle, Content, NoContent, SymbolContent, ListContent, RowsContent, SymbolRole, OrdinarySymbol, Nucleus, test_role, role_italic, nucleus_with_italic, glyph_nucleus, symbol_nucleus, make_clean, clean_symbol, clean_list, clean_field, packed_list, nucleus_row}
+use Rattle.mt_rules.specs.Nuclei.{RowByStyle, Content, NoContent, SymbolContent, ListContent, RowsContent, TableContent, SymbolRole, OrdinarySymbol, Nucleus, test_role, role_italic, nucleus_with_italic, glyph_nucleus, symbol_nucleus, make_clean, clean_symbol, clean_list, clean_field, packed_list, nucleus_row}
 use Rattle.mt_rules.specs.Operators.{operator_code, box_without_italic, nucleus_on_axis, operator_nucleus}
 use Rattle.mt_convert.specs.Holding.{LayoutHolds, RowHolds}
 use Rattle.mt_convert.proofs.holds.Steps.{step_holds, next_holds, after_extents, box_made, row_made}
@@ -31,11 +31,17 @@ module _ (fonts : SetValue) where
   ListsHold [] = ⊤
   ListsHold (list ∷ lists) = ListHolds list × ListsHold lists
 
+  -- of each row of a table
+  abbrev pub CellListsHold : List (List RowByStyle) → Type 0
+  CellListsHold [] = ⊤
+  CellListsHold (row ∷ rows) = ListsHold row × CellListsHold rows
+
   abbrev pub ContentHolds : Content → Type 0
   ContentHolds NoContent = ⊤
   ContentHolds (SymbolContent symbol) = ⊤
   ContentHolds (ListContent list) = ListHolds list
   ContentHolds (RowsContent rows) = ListsHold rows
+  ContentHolds (TableContent look rows) = CellListsHold rows
 
   abbrev pub NucleusHolds : Nucleus → Type 0
   NucleusHolds n = RowHolds fonts n.row
@@ -87,6 +93,7 @@ module _ (fonts : SetValue) where
   clean_field_holds style (SymbolContent symbol) h = clean_symbol_holds style symbol
   clean_field_holds style (ListContent list) h = clean_list_holds list style h
   clean_field_holds style (RowsContent rows) h = tt
+  clean_field_holds style (TableContent look rows) h = tt
 
   -- ---- nuclei
 
@@ -104,6 +111,7 @@ module _ (fonts : SetValue) where
   nucleus_row_holds style (SymbolContent symbol) role subscript h = symbol_nucleus_holds (size_of style) symbol role subscript
   nucleus_row_holds style (ListContent list) role subscript h = packed_list_holds list style h
   nucleus_row_holds style (RowsContent rows) role subscript h = tt
+  nucleus_row_holds style (TableContent look rows) role subscript h = tt
 
   -- ---- large operators
 

@@ -13,7 +13,7 @@ use Rattle.mt_rules.specs.declared.symbol.Symbol.{Symbol}
 use Rattle.mt_rules.specs.Styles.{size_of, cramped_of}
 use Rattle.mt_rules.specs.Setting.{Setting, ◌>>=◌}
 use Rattle.mt_rules.specs.Symbols.{find_symbol}
-use Rattle.mt_rules.specs.Sequence.{Part, EmptyPart, SymbolPart, ListPart, RowsPart}
+use Rattle.mt_rules.specs.Sequence.{Part, EmptyPart, SymbolPart, ListPart, RowsPart, TablePart}
 use Rattle.mt_rules.specs.Nuclei.{Content, SymbolContent, SymbolRole, Nucleus, is_empty, clean_field, make_clean}
 use Rattle.mt_rules.specs.Operators.{uses_limits}
 use Rattle.mt_rules.specs.Accents.{accent}
@@ -76,6 +76,7 @@ limits_row fonts style role (Accent a) limits EmptyPart q r e = absurd (cc)
 limits_row fonts style role (Accent a) limits (SymbolPart s) q r e = absurd (never_limits a s (is_empty_part q && is_empty_part r) e)
 limits_row fonts style role (Accent a) limits (ListPart l) q r e = absurd (cc)
 limits_row fonts style role (Accent a) limits (RowsPart rows) q r e = absurd (cc)
+limits_row fonts style role (Accent a) limits (TablePart look grid) q r e = absurd (cc)
 limits_row fonts style role Over limits p q r e = absurd (cc)
 limits_row fonts style role Under limits p q r e = absurd (cc)
 limits_row fonts style role Vcenter limits p q r e = absurd (cc)
@@ -118,6 +119,7 @@ beside_content fonts style role (Accent a) limits (SymbolPart s) q r e =
     ∙ by_accent (is_empty_part q && is_empty_part r) fonts style role a s (content_of fonts q) (content_of fonts r) e
 beside_content fonts style role (Accent a) limits (ListPart l) q r e = over_nucleus fonts style role a (content_of fonts (ListPart l)) (content_of fonts q) (content_of fonts r)
 beside_content fonts style role (Accent a) limits (RowsPart rows) q r e = over_nucleus fonts style role a (content_of fonts (RowsPart rows)) (content_of fonts q) (content_of fonts r)
+beside_content fonts style role (Accent a) limits (TablePart look grid) q r e = over_nucleus fonts style role a (content_of fonts (TablePart look grid)) (content_of fonts q) (content_of fonts r)
 beside_content fonts style role Over limits p q r e = part_kept _ (λ n. row_with_fields fonts style n (content_of fonts q) (content_of fonts r))
 beside_content fonts style role Under limits p q r e = part_kept _ (λ n. row_with_fields fonts style n (content_of fonts q) (content_of fonts r))
 beside_content fonts style role Vcenter limits p q r e = part_kept _ (λ n. row_with_fields fonts style n (content_of fonts q) (content_of fonts r))
@@ -157,6 +159,7 @@ inside_row fonts style role (Accent b) limits (SymbolPart t) q r a s e =
     ∙ by_inside (is_empty_part q && is_empty_part r) fonts style b a t s (content_of fonts q) (content_of fonts r) e
 inside_row fonts style role (Accent b) limits (ListPart l) q r a s e = absurd (cc)
 inside_row fonts style role (Accent b) limits (RowsPart rows) q r a s e = absurd (cc)
+inside_row fonts style role (Accent b) limits (TablePart look grid) q r a s e = absurd (cc)
 inside_row fonts style role Over limits p q r a s e = absurd (cc)
 inside_row fonts style role Under limits p q r a s e = absurd (cc)
 inside_row fonts style role Vcenter limits p q r a s e = absurd (cc)

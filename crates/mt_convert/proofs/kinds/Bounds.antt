@@ -4,12 +4,13 @@ use Rattle.mt_box.specs.declared.piece.Piece.{Piece}
 use Rattle.std.specs.Prelude.{List, ℤ}
 use Rattle.mt_rules.specs.declared.kind.Kind.{Kind}
 use Rattle.mt_rules.specs.declared.kind.Limits.{Limits}
+use Rattle.mt_rules.specs.declared.list.Look.{Look}
 use Rattle.mt_rules.specs.declared.symbol.Delim.{Delim}
-use Rattle.mt_rules.specs.Sequence.{Sequence, Part, Rows, AtomElement, FractionElement, ListPart, RowsPart, MoreRows}
+use Rattle.mt_rules.specs.Sequence.{Sequence, Part, Rows, AtomElement, FractionElement, ListPart, RowsPart, TablePart, MoreRows, TableGrid, MoreTableRows}
 use Rattle.mt_rules.specs.Modest.{IsModestList, ThicknessAmount}
 use Rattle.mt_convert.specs.declared.set.nucleus.SetNucleus.{SetNucleus}
 use Rattle.mt_convert.specs.Halfway.{RowFits}
-use Rattle.mt_convert.specs.inner.Modest.{IsModestElement, IsModestPart, IsModestRows}
+use Rattle.mt_convert.specs.inner.Modest.{IsModestElement, IsModestGrid, IsModestPart, IsModestRows}
 use Rattle.mt_convert.specs.inner.Nucleus.{NucleusIsSmall}
 
 -- ---- modest parts
@@ -21,6 +22,11 @@ list_of_part p l e h =
 
 pub rows_of_part : (p : Part) (rows : Rows) → p ≡ RowsPart rows → IsModestPart p → IsModestRows rows
 rows_of_part p rows e h =
+    let g = subst IsModestPart e h in
+    record { nesting = g.nesting; items = g.items; amounts = g.amounts }
+
+pub grid_of_part : (p : Part) (look : Look) (grid : TableGrid) → p ≡ TablePart look grid → IsModestPart p → IsModestGrid grid
+grid_of_part p look grid e h =
     let g = subst IsModestPart e h in
     record { nesting = g.nesting; items = g.items; amounts = g.amounts }
 
@@ -47,6 +53,12 @@ first_row s rows h = record { nesting = omega (arith, h.nesting); items = omega 
 
 pub other_rows : (s : Sequence) (rows : Rows) → IsModestRows (MoreRows s rows) → IsModestRows rows
 other_rows s rows h = record { nesting = omega (arith, h.nesting); items = omega (arith, h.items); amounts = h.amounts.1 }
+
+pub first_cells : (cells : Rows) (rows : TableGrid) → IsModestGrid (MoreTableRows cells rows) → IsModestRows cells
+first_cells cells rows h = record { nesting = omega (arith, h.nesting); items = omega (arith, h.items); amounts = h.amounts.0 }
+
+pub other_cells : (cells : Rows) (rows : TableGrid) → IsModestGrid (MoreTableRows cells rows) → IsModestGrid rows
+other_cells cells rows h = record { nesting = omega (arith, h.nesting); items = omega (arith, h.items); amounts = h.amounts.1 }
 
 -- ---- levels
 

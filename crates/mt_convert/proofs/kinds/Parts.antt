@@ -12,8 +12,9 @@ use Rattle.mt_rules.specs.Styles.{size_of, sup_of, sub_of}
 use Rattle.mt_rules.specs.Setting.{Setting, ◌>>=◌, pack_row, empty_layout}
 use Rattle.mt_rules.specs.View.{part_of_field}
 use Rattle.mt_rules.specs.declared.list.Field.{Field}
-use Rattle.mt_rules.specs.declared.list.Field.TheVariants.{Empty, Rows as OfRows}
-use Rattle.mt_rules.specs.Sequence.{Sequence, Rows, Part, EmptyPart, SymbolPart, ListPart, RowsPart}
+use Rattle.mt_rules.specs.declared.list.Field.TheVariants.{Empty, Rows as OfRows, Table as OfTable}
+use Rattle.mt_rules.specs.declared.list.Table.{Table}
+use Rattle.mt_rules.specs.Sequence.{Sequence, Rows, Part, EmptyPart, SymbolPart, ListPart, RowsPart, TablePart}
 use Rattle.mt_rules.specs.Nuclei.{Content, SymbolContent, SymbolRole, Nucleus, clean_symbol, clean_list, clean_field, make_clean, packed_list, nucleus_row, empty_nucleus, symbol_nucleus}
 use Rattle.mt_rules.specs.AtomRow.{box_nucleus, script_box, some_box}
 use Rattle.mt_convert.specs.declared.fault.SetFault.{SetFault}
@@ -54,6 +55,7 @@ HasNoBox EmptyPart = ⊤
 HasNoBox (SymbolPart symbol) = ⊥
 HasNoBox (ListPart list) = ⊥
 HasNoBox (RowsPart rows) = ⊤
+HasNoBox (TablePart look grid) = ⊤
 
 pub clean_empty_is : (fonts : SetValue) (style : Style) (p : Part) → HasNoBox p → clean_field fonts style (content_of fonts p) ≡ Ok empty_layout
 unfolding clean_field
@@ -61,10 +63,12 @@ clean_empty_is fonts style EmptyPart h = refl
 clean_empty_is fonts style (SymbolPart symbol) h = absurd h
 clean_empty_is fonts style (ListPart list) h = absurd h
 clean_empty_is fonts style (RowsPart rows) h = refl
+clean_empty_is fonts style (TablePart look grid) h = refl
 
-pub has_no_box : (f : Field) → (f ≡ Empty) ⊎ ((rows : Rows) × (f ≡ OfRows rows)) → HasNoBox (part_of_field f)
+pub has_no_box : (f : Field) → (f ≡ Empty) ⊎ (((rows : Rows) × (f ≡ OfRows rows)) ⊎ ((table : Table) × (f ≡ OfTable table))) → HasNoBox (part_of_field f)
 has_no_box f (inl e) = subst (λ x. HasNoBox (part_of_field x)) (sym e) tt
-has_no_box f (inr h) = subst (λ x. HasNoBox (part_of_field x)) (sym h.1) tt
+has_no_box f (inr (inl h)) = subst (λ x. HasNoBox (part_of_field x)) (sym h.1) tt
+has_no_box f (inr (inr h)) = subst (λ x. HasNoBox (part_of_field x)) (sym h.1) tt
 
 -- ---- a script
 
@@ -153,6 +157,14 @@ empty_nucleus_is Open fonts style role (RowsPart rows) has_subscript h = refl
 empty_nucleus_is Close fonts style role (RowsPart rows) has_subscript h = refl
 empty_nucleus_is Punct fonts style role (RowsPart rows) has_subscript h = refl
 empty_nucleus_is Inner fonts style role (RowsPart rows) has_subscript h = refl
+empty_nucleus_is Ord fonts style role (TablePart look grid) has_subscript h = refl
+empty_nucleus_is Op fonts style role (TablePart look grid) has_subscript h = refl
+empty_nucleus_is Bin fonts style role (TablePart look grid) has_subscript h = refl
+empty_nucleus_is Rel fonts style role (TablePart look grid) has_subscript h = refl
+empty_nucleus_is Open fonts style role (TablePart look grid) has_subscript h = refl
+empty_nucleus_is Close fonts style role (TablePart look grid) has_subscript h = refl
+empty_nucleus_is Punct fonts style role (TablePart look grid) has_subscript h = refl
+empty_nucleus_is Inner fonts style role (TablePart look grid) has_subscript h = refl
 
 -- the row of a list, packed
 pub packed_made : (P : Setting Nucleus → Type 0) (fonts : SetValue) (list : Sequence) (style : Style) (row : List PieceValue) (box : Layout) → list_row fonts style list ≡ Ok row → pack_row row ≡ Ok box → P (Ok (box_nucleus box)) → P (packed_list (list_content fonts list) style)
@@ -188,6 +200,7 @@ empty_operator_is fonts style EmptyPart h = refl
 empty_operator_is fonts style (SymbolPart symbol) h = absurd h
 empty_operator_is fonts style (ListPart list) h = absurd h
 empty_operator_is fonts style (RowsPart rows) h = refl
+empty_operator_is fonts style (TablePart look grid) h = refl
 
 -- ---- a symbol in an atom that is no operator
 

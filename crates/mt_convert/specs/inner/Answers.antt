@@ -1,12 +1,14 @@
 -- What the calls inside the crate answer, beside what setting answers (`SetsBox`, `SetsScript`, `SetsBoxes`,
--- `SetsNucleus`, `SetsHalf`): the same value, or the same fault. Want of memory may come in its place.
+-- `SetsCells`, `SetsExtents`, `SetsNucleus`, `SetsHalf`): the same value, or the same fault. Want of memory may come in its place.
 use Rattle.std.specs.Prelude.{◌≡◌, ℕ, ◌≤ℤ◌, pos, List, map, Option, Result, Ok, Err}
 use Rattle.std.specs.Option.{option_map}
 use Rattle.mt_scaled.specs.Number.{max_dimen}
+use Rattle.mt_box.specs.declared.extents.Extents.{Extents}
 use Rattle.mt_box.specs.declared.piece.Piece.{Piece}
 use Rattle.mt_box.specs.Layout.{BoxValue, Layout, layout_of}
 use Rattle.mt_box.specs.Rows.{piece_values, row_height, row_depth}
 use Rattle.mt_rules.specs.Setting.{Setting}
+use Rattle.mt_align.specs.Cells.{cells_of}
 use Rattle.mt_rules.specs.Nuclei.{Nucleus}
 use Rattle.mt_convert.specs.declared.fault.SetFault.{SetFault}
 use Rattle.mt_convert.specs.declared.half.Half.{Half}
@@ -29,6 +31,16 @@ SetsScript (Err fault) setting = SetFails fault setting
 abbrev pub SetsBoxes : Result (List BoxValue) SetFault → Setting (List Layout) → Type 0
 SetsBoxes (Ok boxes) setting = setting ≡ Ok (map layout_of boxes)
 SetsBoxes (Err fault) setting = SetFails fault setting
+
+-- the boxes of each row of a table
+abbrev pub SetsCells : Result (List (List BoxValue)) SetFault → Setting (List (List Layout)) → Type 0
+SetsCells (Ok rows) setting = setting ≡ Ok (cells_of rows)
+SetsCells (Err fault) setting = SetFails fault setting
+
+-- the extents of a strut, which were tested
+abbrev pub SetsExtents : Result Extents SetFault → Setting Extents → Type 0
+SetsExtents (Ok extents) setting = setting ≡ Ok extents
+SetsExtents (Err fault) setting = SetFails fault setting
 
 abbrev pub SetsNucleus : Result SetNucleus SetFault → Setting Nucleus → Type 0
 SetsNucleus (Ok nucleus) setting = setting ≡ Ok (nucleus_value nucleus)

@@ -5,31 +5,33 @@ use Rattle.std.proofs.lemmas.Result.{err_from_is_err_and}
 use Rattle.mt_box.specs.Layout.{layout_of}
 use Rattle.mt_box.specs.Rows.{piece_values}
 use Rattle.mt_box.proofs.Lists.{no_more}
-use Rattle.mt_rules.specs.AtomRow.{overline_part, radical_part, underline_part, vcenter_part}
+use Rattle.mt_rules.specs.AtomRow.{overline_part, pack_rows, radical_part, underline_part, vcenter_part}
 use Rattle.mt_rules.specs.Lines
 use Rattle.mt_scaled.specs.Number.{Within, max_dimen}
 use Rattle.mt_rules.specs.Classes.{forward_of}
-use Rattle.mt_rules.specs.Modest.{element_nesting, list_nesting, part_nesting, rows_nesting}
+use Rattle.mt_rules.specs.Modest.{element_nesting, grid_nesting, list_nesting, part_nesting, rows_nesting}
 use Rattle.mt_rules.specs.Nuclei.{clean_field, clean_list, make_clean}
 use Rattle.mt_rules.specs.Radicals
-use Rattle.mt_rules.specs.Sequence.{element_size, part_size}
+use Rattle.mt_rules.specs.Sequence.{element_size, part_size, rows_length, rows_size}
 use Rattle.mt_rules.specs.Setting.{empty_layout}
 use Rattle.mt_rules.specs.Styles.{cramped_of, size_of}
 use Rattle.mt_rules.specs.Symbols.{find_symbol}
 use Rattle.mt_rules.specs.View.{part_of_field}
 use Rattle.mt_convert.specs.Calls.{SetFails, SetsRow}
 use Rattle.mt_convert.specs.FirstPass
+use Rattle.mt_align.specs.Cells.{cells_of}
+use Rattle.mt_convert.specs.ListRow.{rows_by_style}
 use Rattle.mt_convert.specs.Halfway.{HalfFits, RowFits, count_of}
 use Rattle.mt_convert.specs.inner.Answers.{HalfReachInRange, SetsBox, SetsHalf, SetsNucleus, SetsOperator}
 use Rattle.mt_convert.specs.inner.Fields.{field_content, list_content}
 use Rattle.mt_convert.specs.inner.AtomSteps.{accent_part, kind_nucleus, operator_box, row_beside, row_between, row_with_fields, row_with_limits}
-use Rattle.mt_convert.specs.inner.Modest.{IsModestElement, ScriptLevels}
+use Rattle.mt_convert.specs.inner.Modest.{IsModestElement, IsModestRows, ScriptLevels}
 use Rattle.mt_convert.specs.inner.Nucleus.{NucleusIsSmall, nucleus_value, operator_value}
 use Rattle.mt_convert.specs.inner.Turns.{atom_passed, element_of_passed, flat_item, fraction_passed, passed_value, role_value}
 use Rattle.mt_convert.proofs.Appending.{fails_then}
 use Rattle.mt_convert.proofs.kinds.Accents.{accent_given, accent_part_made, finding_fails, inside_finding_fails, inside_nucleus_fails, inside_plain_fails, inside_row_fails, inside_row_here, over_row_fails, over_row_made, plain_fails, row_packing_fails}
 use Rattle.mt_convert.proofs.kinds.Atoms.{beside_row, inside_row, limits_row}
-use Rattle.mt_convert.proofs.kinds.Bounds.{den_of_fraction, row_fits_more, list_of_part, nucleus_fits_more, modest_nucleus, num_of_fraction, rows_of_part, modest_sub, modest_sup, thickness_of_fraction}
+use Rattle.mt_convert.proofs.kinds.Bounds.{den_of_fraction, row_fits_more, grid_of_part, list_of_part, nucleus_fits_more, modest_nucleus, num_of_fraction, rows_of_part, modest_sub, modest_sup, thickness_of_fraction}
 use Rattle.mt_convert.proofs.SetNuclei.{if_ok_map}
 use Rattle.mt_convert.proofs.kinds.Chains.{first_made}
 use Rattle.mt_convert.proofs.kinds.Fractions.{den_fails, fraction_made, num_fails}
@@ -37,7 +39,8 @@ use Rattle.mt_convert.proofs.Fitting.{kept_word}
 use Rattle.mt_convert.proofs.kinds.Items.{atom_item_fails, atom_item_made, fraction_item_fails, fraction_item_made, kern_few, kern_reach, row_reach, space_few, space_reach}
 use Rattle.mt_convert.proofs.Turning.{same_empty}
 use Rattle.mt_convert.proofs.kinds.Parts.{both_made, clean_empty_is, clean_list_is, clean_symbol_is, empty_nucleus_is, empty_operator_is, has_no_box, list_fails, list_made, list_nucleus_is, list_operator_is, no_script, no_scripts, packed_made, packing_fails, script_fails, script_made, sub_fails, sup_fails, symbol_nucleus_is, symbol_operator_is}
-use Rattle.mt_convert.proofs.kinds.RowBoxes.{all_of_none, box_fails, next_row, next_size, without_rows, row_fails, rows_end, rows_few, rows_start, rows_step, vcenter_empty, vcenter_fails, vcenter_made}
+use Rattle.mt_convert.proofs.kinds.RowBoxes.{all_of_none, box_fails, next_row, next_size, without_rows, row_fails, rows_count, rows_end, rows_few, rows_start, rows_step, vcenter_empty, vcenter_fails, vcenter_made}
+use Rattle.mt_convert.proofs.kinds.TableBoxes.{cells_end, cells_fail, cells_few, cells_start, cells_step, next_cells, next_cells_size, vcenter_table}
 use Rattle.mt_convert.proofs.BothPasses.{list_err, list_set, list_fits}
 use Rattle.mt_convert.proofs.Going.{going_start, next_fits, going_err, going_kern_err, going_pass, going_again, again_falls, going_end, going_settles, turned_some, turned_none, leaves_some, leaves_none}
 use Rattle.mt_convert.proofs.holds.Lists.{call_holds}
@@ -323,73 +326,49 @@ set_fraction-returns-clause-fits t c = if_ok_map c.fraction.result _ (RowFits (1
 pub set_nucleus-set_plain-requires : goal.set_nucleus-set_plain-requires
 set_nucleus-set_plain-requires t c = (omega (arith, c.decreases), c.requires.modest)
 
-pub set_nucleus-returns-in-Plain-clause-is : goal.set_nucleus-returns-in-Plain-clause-is
-set_nucleus-returns-in-Plain-clause-is t c = subst (λ k. SetsNucleus c.set_plain.result (kind_nucleus k c.args.fonts.now c.args.style (role_value c.args.role) (field_content c.args.fonts.now c.args.field) c.args.has_subscript)) (sym c.in-Plain.is) c.set_plain.ensures.is
-
-pub set_nucleus-returns-in-Plain-clause-fits : goal.set_nucleus-returns-in-Plain-clause-fits
-set_nucleus-returns-in-Plain-clause-fits t c = c.set_plain.ensures.fits
+pub set_nucleus-returns-in-Plain : goal.set_nucleus-returns-in-Plain
+set_nucleus-returns-in-Plain t c = record { is = subst (λ k. SetsNucleus c.set_plain.result (kind_nucleus k c.args.fonts.now c.args.style (role_value c.args.role) (field_content c.args.fonts.now c.args.field) c.args.has_subscript)) (sym c.in-Plain.is) c.set_plain.ensures.is; fits = c.set_plain.ensures.fits }
 
 pub set_nucleus-set_part-requires : goal.set_nucleus-set_part-requires
 set_nucleus-set_part-requires t c = (omega (arith, c.decreases), (c.requires.modest, c.in_default.not-Plain))
 
-pub set_nucleus-returns-in_default-clause-is : goal.set_nucleus-returns-in_default-clause-is
-set_nucleus-returns-in_default-clause-is t c = c.set_part.ensures.is (role_value c.args.role) c.args.has_subscript
-
-pub set_nucleus-returns-in_default-clause-fits : goal.set_nucleus-returns-in_default-clause-fits
-set_nucleus-returns-in_default-clause-fits t c = c.set_part.ensures.fits
+pub set_nucleus-returns-in_default : goal.set_nucleus-returns-in_default
+set_nucleus-returns-in_default t c = record { is = c.set_part.ensures.is (role_value c.args.role) c.args.has_subscript; fits = c.set_part.ensures.fits }
 
 pub set_part-set_radical-requires : goal.set_part-set_radical-requires
 set_part-set_radical-requires t c = (omega (arith, c.decreases), c.requires.modest)
 
-pub set_part-returns-in-Radical-clause-is : goal.set_part-returns-in-Radical-clause-is
-set_part-returns-in-Radical-clause-is t c = λ role has_subscript. subst (λ k. SetsNucleus c.part_nucleus.result (kind_nucleus k c.args.fonts.now c.args.style role (field_content c.args.fonts.now c.args.field) has_subscript)) (sym c.in-Radical.is) (c.part_nucleus.ensures.is (radical_part c.args.fonts.now c.args.style c.in-Radical.sign (field_content c.args.fonts.now c.args.field)) c.set_radical.ensures.is)
-
-pub set_part-returns-in-Radical-clause-fits : goal.set_part-returns-in-Radical-clause-fits
-set_part-returns-in-Radical-clause-fits t c = c.part_nucleus.ensures.fits (12 * part_nesting (part_of_field c.args.field) + 4) (if_ok_map c.set_radical.result _ (λ b. b.level ≤ 12 * part_nesting (part_of_field c.args.field) + 4) c.set_radical.ensures.level (λ b h. omega (arith, h)))
+pub set_part-returns-in-Radical : goal.set_part-returns-in-Radical
+set_part-returns-in-Radical t c = record { is = λ role has_subscript. subst (λ k. SetsNucleus c.part_nucleus.result (kind_nucleus k c.args.fonts.now c.args.style role (field_content c.args.fonts.now c.args.field) has_subscript)) (sym c.in-Radical.is) (c.part_nucleus.ensures.is (radical_part c.args.fonts.now c.args.style c.in-Radical.sign (field_content c.args.fonts.now c.args.field)) c.set_radical.ensures.is); fits = c.part_nucleus.ensures.fits (12 * part_nesting (part_of_field c.args.field) + 4) (if_ok_map c.set_radical.result _ (λ b. b.level ≤ 12 * part_nesting (part_of_field c.args.field) + 4) c.set_radical.ensures.level (λ b h. omega (arith, h))) }
 
 pub set_part-set_accent-requires : goal.set_part-set_accent-requires
 set_part-set_accent-requires t c = (omega (arith, c.decreases), c.requires.modest)
 
-pub set_part-returns-in-Accent-clause-is : goal.set_part-returns-in-Accent-clause-is
-set_part-returns-in-Accent-clause-is t c = λ role has_subscript. subst (λ k. SetsNucleus c.part_nucleus-in-Accent.result (kind_nucleus k c.args.fonts.now c.args.style role (field_content c.args.fonts.now c.args.field) has_subscript)) (sym c.in-Accent.is) (c.part_nucleus-in-Accent.ensures.is (accent_part c.args.fonts.now c.args.style c.in-Accent.accent (field_content c.args.fonts.now c.args.field)) c.set_accent.ensures.is)
-
-pub set_part-returns-in-Accent-clause-fits : goal.set_part-returns-in-Accent-clause-fits
-set_part-returns-in-Accent-clause-fits t c = c.part_nucleus-in-Accent.ensures.fits (12 * part_nesting (part_of_field c.args.field) + 4) (if_ok_map c.set_accent.result _ (λ b. b.level ≤ 12 * part_nesting (part_of_field c.args.field) + 4) c.set_accent.ensures.level (λ b h. omega (arith, h)))
+pub set_part-returns-in-Accent : goal.set_part-returns-in-Accent
+set_part-returns-in-Accent t c = record { is = λ role has_subscript. subst (λ k. SetsNucleus c.part_nucleus-in-Accent.result (kind_nucleus k c.args.fonts.now c.args.style role (field_content c.args.fonts.now c.args.field) has_subscript)) (sym c.in-Accent.is) (c.part_nucleus-in-Accent.ensures.is (accent_part c.args.fonts.now c.args.style c.in-Accent.accent (field_content c.args.fonts.now c.args.field)) c.set_accent.ensures.is); fits = c.part_nucleus-in-Accent.ensures.fits (12 * part_nesting (part_of_field c.args.field) + 4) (if_ok_map c.set_accent.result _ (λ b. b.level ≤ 12 * part_nesting (part_of_field c.args.field) + 4) c.set_accent.ensures.level (λ b h. omega (arith, h))) }
 
 pub set_part-set_overline-requires : goal.set_part-set_overline-requires
 set_part-set_overline-requires t c = (omega (arith, c.decreases), c.requires.modest)
 
-pub set_part-returns-in-Over-clause-is : goal.set_part-returns-in-Over-clause-is
-set_part-returns-in-Over-clause-is t c = λ role has_subscript. subst (λ k. SetsNucleus c.part_nucleus-in-Over.result (kind_nucleus k c.args.fonts.now c.args.style role (field_content c.args.fonts.now c.args.field) has_subscript)) (sym c.in-Over.is) (c.part_nucleus-in-Over.ensures.is (overline_part c.args.fonts.now c.args.style (field_content c.args.fonts.now c.args.field)) c.set_overline.ensures.is)
-
-pub set_part-returns-in-Over-clause-fits : goal.set_part-returns-in-Over-clause-fits
-set_part-returns-in-Over-clause-fits t c = c.part_nucleus-in-Over.ensures.fits (12 * part_nesting (part_of_field c.args.field) + 4) (if_ok_map c.set_overline.result _ (λ b. b.level ≤ 12 * part_nesting (part_of_field c.args.field) + 4) c.set_overline.ensures.level (λ b h. omega (arith, h)))
+pub set_part-returns-in-Over : goal.set_part-returns-in-Over
+set_part-returns-in-Over t c = record { is = λ role has_subscript. subst (λ k. SetsNucleus c.part_nucleus-in-Over.result (kind_nucleus k c.args.fonts.now c.args.style role (field_content c.args.fonts.now c.args.field) has_subscript)) (sym c.in-Over.is) (c.part_nucleus-in-Over.ensures.is (overline_part c.args.fonts.now c.args.style (field_content c.args.fonts.now c.args.field)) c.set_overline.ensures.is); fits = c.part_nucleus-in-Over.ensures.fits (12 * part_nesting (part_of_field c.args.field) + 4) (if_ok_map c.set_overline.result _ (λ b. b.level ≤ 12 * part_nesting (part_of_field c.args.field) + 4) c.set_overline.ensures.level (λ b h. omega (arith, h))) }
 
 pub set_part-set_underline-requires : goal.set_part-set_underline-requires
 set_part-set_underline-requires t c = (omega (arith, c.decreases), c.requires.modest)
 
-pub set_part-returns-in-Under-clause-is : goal.set_part-returns-in-Under-clause-is
-set_part-returns-in-Under-clause-is t c = λ role has_subscript. subst (λ k. SetsNucleus c.part_nucleus-in-Under.result (kind_nucleus k c.args.fonts.now c.args.style role (field_content c.args.fonts.now c.args.field) has_subscript)) (sym c.in-Under.is) (c.part_nucleus-in-Under.ensures.is (underline_part c.args.fonts.now c.args.style (field_content c.args.fonts.now c.args.field)) c.set_underline.ensures.is)
-
-pub set_part-returns-in-Under-clause-fits : goal.set_part-returns-in-Under-clause-fits
-set_part-returns-in-Under-clause-fits t c = c.part_nucleus-in-Under.ensures.fits (12 * part_nesting (part_of_field c.args.field) + 4) (if_ok_map c.set_underline.result _ (λ b. b.level ≤ 12 * part_nesting (part_of_field c.args.field) + 4) c.set_underline.ensures.level (λ b h. omega (arith, h)))
+pub set_part-returns-in-Under : goal.set_part-returns-in-Under
+set_part-returns-in-Under t c = record { is = λ role has_subscript. subst (λ k. SetsNucleus c.part_nucleus-in-Under.result (kind_nucleus k c.args.fonts.now c.args.style role (field_content c.args.fonts.now c.args.field) has_subscript)) (sym c.in-Under.is) (c.part_nucleus-in-Under.ensures.is (underline_part c.args.fonts.now c.args.style (field_content c.args.fonts.now c.args.field)) c.set_underline.ensures.is); fits = c.part_nucleus-in-Under.ensures.fits (12 * part_nesting (part_of_field c.args.field) + 4) (if_ok_map c.set_underline.result _ (λ b. b.level ≤ 12 * part_nesting (part_of_field c.args.field) + 4) c.set_underline.ensures.level (λ b h. omega (arith, h))) }
 
 pub set_part-set_vcenter-requires : goal.set_part-set_vcenter-requires
 set_part-set_vcenter-requires t c = (omega (arith, c.decreases), c.requires.modest)
 
-pub set_part-returns-in-Vcenter-clause-is : goal.set_part-returns-in-Vcenter-clause-is
-set_part-returns-in-Vcenter-clause-is t c = λ role has_subscript. subst (λ k. SetsNucleus c.part_nucleus-in-Vcenter.result (kind_nucleus k c.args.fonts.now c.args.style role (field_content c.args.fonts.now c.args.field) has_subscript)) (sym c.in-Vcenter.is) (c.part_nucleus-in-Vcenter.ensures.is (vcenter_part c.args.fonts.now c.args.style (field_content c.args.fonts.now c.args.field)) c.set_vcenter.ensures.is)
-
-pub set_part-returns-in-Vcenter-clause-fits : goal.set_part-returns-in-Vcenter-clause-fits
-set_part-returns-in-Vcenter-clause-fits t c = c.part_nucleus-in-Vcenter.ensures.fits (12 * part_nesting (part_of_field c.args.field) + 4) (if_ok_map c.set_vcenter.result _ (λ b. b.level ≤ 12 * part_nesting (part_of_field c.args.field) + 4) c.set_vcenter.ensures.level (λ b h. omega (arith, h)))
+pub set_part-returns-in-Vcenter : goal.set_part-returns-in-Vcenter
+set_part-returns-in-Vcenter t c = record { is = λ role has_subscript. subst (λ k. SetsNucleus c.part_nucleus-in-Vcenter.result (kind_nucleus k c.args.fonts.now c.args.style role (field_content c.args.fonts.now c.args.field) has_subscript)) (sym c.in-Vcenter.is) (c.part_nucleus-in-Vcenter.ensures.is (vcenter_part c.args.fonts.now c.args.style (field_content c.args.fonts.now c.args.field)) c.set_vcenter.ensures.is); fits = c.part_nucleus-in-Vcenter.ensures.fits (12 * part_nesting (part_of_field c.args.field) + 4) (if_ok_map c.set_vcenter.result _ (λ b. b.level ≤ 12 * part_nesting (part_of_field c.args.field) + 4) c.set_vcenter.ensures.level (λ b h. omega (arith, h))) }
 
 -- ---- `set_plain`
 
-pub set_plain-returns-in-Sym-clause-is : goal.set_plain-returns-in-Sym-clause-is
-set_plain-returns-in-Sym-clause-is t c = subst (SetsNucleus c.class_nucleus.result) (sym (symbol_nucleus_is c.args.class c.args.fonts.now c.args.style (role_value c.args.role) (part_of_field c.args.field) c.in-Sym.symbol c.args.has_subscript (ap part_of_field c.in-Sym.is))) c.class_nucleus.ensures.is
-
-pub set_plain-returns-in-Sym-clause-fits : goal.set_plain-returns-in-Sym-clause-fits
-set_plain-returns-in-Sym-clause-fits t c = if_ok_map c.class_nucleus.result _ (NucleusIsSmall (12 * part_nesting (part_of_field c.args.field) + 4)) c.class_nucleus.ensures.fits (λ n h. nucleus_fits_more 1 (12 * part_nesting (part_of_field c.args.field) + 4) n (omega arith) h)
+pub set_plain-returns-in-Sym : goal.set_plain-returns-in-Sym
+set_plain-returns-in-Sym t c = record { is = subst (SetsNucleus c.class_nucleus.result) (sym (symbol_nucleus_is c.args.class c.args.fonts.now c.args.style (role_value c.args.role) (part_of_field c.args.field) c.in-Sym.symbol c.args.has_subscript (ap part_of_field c.in-Sym.is))) c.class_nucleus.ensures.is; fits = if_ok_map c.class_nucleus.result _ (NucleusIsSmall (12 * part_nesting (part_of_field c.args.field) + 4)) c.class_nucleus.ensures.fits (λ n h. nucleus_fits_more 1 (12 * part_nesting (part_of_field c.args.field) + 4) n (omega arith) h) }
 
 pub set_plain-pack_list-requires : goal.set_plain-pack_list-requires
 set_plain-pack_list-requires t c =
@@ -397,17 +376,11 @@ set_plain-pack_list-requires t c =
     let s = ap part_size e in
     (omega (arith, s, c.decreases), list_of_part (part_of_field c.args.field) c.in-List.list e c.requires.modest)
 
-pub set_plain-returns-in-List-clause-is : goal.set_plain-returns-in-List-clause-is
-set_plain-returns-in-List-clause-is t c = subst (SetsNucleus c.pack_list.result) (sym (list_nucleus_is c.args.class c.args.fonts.now c.args.style (role_value c.args.role) (part_of_field c.args.field) c.in-List.list c.args.has_subscript (ap part_of_field c.in-List.is))) c.pack_list.ensures.is
+pub set_plain-returns-in-List : goal.set_plain-returns-in-List
+set_plain-returns-in-List t c = record { is = subst (SetsNucleus c.pack_list.result) (sym (list_nucleus_is c.args.class c.args.fonts.now c.args.style (role_value c.args.role) (part_of_field c.args.field) c.in-List.list c.args.has_subscript (ap part_of_field c.in-List.is))) c.pack_list.ensures.is; fits = subst (λ p. IfOk c.pack_list.result (NucleusIsSmall (12 * part_nesting p + 4))) (sym (ap part_of_field c.in-List.is)) (if_ok_map c.pack_list.result _ (NucleusIsSmall (12 * list_nesting c.in-List.list + 4)) c.pack_list.ensures.fits (λ n h. nucleus_fits_more (12 * list_nesting c.in-List.list + 1) (12 * list_nesting c.in-List.list + 4) n (omega arith) h)) }
 
-pub set_plain-returns-in-List-clause-fits : goal.set_plain-returns-in-List-clause-fits
-set_plain-returns-in-List-clause-fits t c = subst (λ p. IfOk c.pack_list.result (NucleusIsSmall (12 * part_nesting p + 4))) (sym (ap part_of_field c.in-List.is)) (if_ok_map c.pack_list.result _ (NucleusIsSmall (12 * list_nesting c.in-List.list + 4)) c.pack_list.ensures.fits (λ n h. nucleus_fits_more (12 * list_nesting c.in-List.list + 1) (12 * list_nesting c.in-List.list + 4) n (omega arith) h))
-
-pub set_plain-returns-clause-is : goal.set_plain-returns-clause-is
-set_plain-returns-clause-is t c = empty_nucleus_is c.args.class c.args.fonts.now c.args.style (role_value c.args.role) (part_of_field c.args.field) c.args.has_subscript (has_no_box c.args.field c.in-Empty.is) ∙ ap (λ n. Ok n) (sym c.empty_nucleus.ensures.is)
-
-pub set_plain-returns-clause-fits : goal.set_plain-returns-clause-fits
-set_plain-returns-clause-fits t c = nucleus_fits_more 0 (12 * part_nesting (part_of_field c.args.field) + 4) c.empty_nucleus.result (omega arith) c.empty_nucleus.ensures.fits
+pub set_plain-returns : goal.set_plain-returns
+set_plain-returns t c = record { is = empty_nucleus_is c.args.class c.args.fonts.now c.args.style (role_value c.args.role) (part_of_field c.args.field) c.args.has_subscript (has_no_box c.args.field c.in-Empty.is) ∙ ap (λ n. Ok n) (sym c.empty_nucleus.ensures.is); fits = nucleus_fits_more 0 (12 * part_nesting (part_of_field c.args.field) + 4) c.empty_nucleus.result (omega arith) c.empty_nucleus.ensures.fits }
 
 -- ---- `pack_list`
 
@@ -425,11 +398,8 @@ pub pack_list-returns-in_err-body-clause-is : goal.pack_list-returns-in_err-body
 pack_list-returns-in_err-body-clause-is t c =
     let p = err_from_is_err_and c.from_residual-in_err-body.result c.from_residual-in_err-body.ensures.1 in rw (p.1, p.2) (packing_fails _ c.args.fonts.now c.args.list c.args.style (piece_values c.in_ok-row.row) c.in_ok-row.ensures.is c.in_err-body.ensures.is)
 
-pub pack_list-returns-clause-is : goal.pack_list-returns-clause-is
-pack_list-returns-clause-is t c = packed_made (SetsNucleus c.box_nucleus.result) c.args.fonts.now c.args.list c.args.style (piece_values c.in_ok-row.row) (layout_of c.in_ok-body.body) c.in_ok-row.ensures.is c.in_ok-body.ensures.is c.box_nucleus.ensures.is
-
-pub pack_list-returns-clause-fits : goal.pack_list-returns-clause-fits
-pack_list-returns-clause-fits t c = if_ok_map c.box_nucleus.result _ (NucleusIsSmall (12 * list_nesting c.args.list + 1)) c.box_nucleus.ensures.fits (λ n h. nucleus_fits_more c.in_ok-body.body.level (12 * list_nesting c.args.list + 1) n (c.in_ok-body.ensures.level (12 * list_nesting c.args.list) c.in_ok-row.ensures.fits) h)
+pub pack_list-returns : goal.pack_list-returns
+pack_list-returns t c = record { is = packed_made (SetsNucleus c.box_nucleus.result) c.args.fonts.now c.args.list c.args.style (piece_values c.in_ok-row.row) (layout_of c.in_ok-body.body) c.in_ok-row.ensures.is c.in_ok-body.ensures.is c.box_nucleus.ensures.is; fits = if_ok_map c.box_nucleus.result _ (NucleusIsSmall (12 * list_nesting c.args.list + 1)) c.box_nucleus.ensures.fits (λ n h. nucleus_fits_more c.in_ok-body.body.level (12 * list_nesting c.args.list + 1) n (c.in_ok-body.ensures.level (12 * list_nesting c.args.list) c.in_ok-row.ensures.fits) h) }
 
 -- ---- `set_operator`
 
@@ -555,11 +525,8 @@ set_script-returns-clause-is t c = script_made c.args.fonts.now c.args.style (pa
 
 -- ---- `clean_field`
 
-pub clean_field-returns-in-Sym-clause-is : goal.clean_field-returns-in-Sym-clause-is
-clean_field-returns-in-Sym-clause-is t c = subst (SetsBox c.clean_symbol.result) (sym (clean_symbol_is c.args.fonts.now c.args.style (part_of_field c.args.field) c.in-Sym.symbol (ap part_of_field c.in-Sym.is))) c.clean_symbol.ensures.is
-
-pub clean_field-returns-in-Sym-clause-level : goal.clean_field-returns-in-Sym-clause-level
-clean_field-returns-in-Sym-clause-level t c = if_ok_map c.clean_symbol.result _ (λ b. b.level ≤ 12 * part_nesting (part_of_field c.args.field) + 1) c.clean_symbol.ensures.level (λ b h. omega (arith, h))
+pub clean_field-returns-in-Sym : goal.clean_field-returns-in-Sym
+clean_field-returns-in-Sym t c = record { is = subst (SetsBox c.clean_symbol.result) (sym (clean_symbol_is c.args.fonts.now c.args.style (part_of_field c.args.field) c.in-Sym.symbol (ap part_of_field c.in-Sym.is))) c.clean_symbol.ensures.is; level = if_ok_map c.clean_symbol.result _ (λ b. b.level ≤ 12 * part_nesting (part_of_field c.args.field) + 1) c.clean_symbol.ensures.level (λ b h. omega (arith, h)) }
 
 pub clean_field-clean_list-requires : goal.clean_field-clean_list-requires
 clean_field-clean_list-requires t c =
@@ -567,17 +534,11 @@ clean_field-clean_list-requires t c =
     let s = ap part_size e in
     (omega (arith, s, c.decreases), list_of_part (part_of_field c.args.field) c.in-List.list e c.requires.modest)
 
-pub clean_field-returns-in-List-clause-is : goal.clean_field-returns-in-List-clause-is
-clean_field-returns-in-List-clause-is t c = subst (SetsBox c.clean_list.result) (sym (clean_list_is c.args.fonts.now c.args.style (part_of_field c.args.field) c.in-List.list (ap part_of_field c.in-List.is))) c.clean_list.ensures.is
+pub clean_field-returns-in-List : goal.clean_field-returns-in-List
+clean_field-returns-in-List t c = record { is = subst (SetsBox c.clean_list.result) (sym (clean_list_is c.args.fonts.now c.args.style (part_of_field c.args.field) c.in-List.list (ap part_of_field c.in-List.is))) c.clean_list.ensures.is; level = subst (λ p. IfOk c.clean_list.result (λ b. b.level ≤ 12 * part_nesting p + 1)) (sym (ap part_of_field c.in-List.is)) c.clean_list.ensures.level }
 
-pub clean_field-returns-in-List-clause-level : goal.clean_field-returns-in-List-clause-level
-clean_field-returns-in-List-clause-level t c = subst (λ p. IfOk c.clean_list.result (λ b. b.level ≤ 12 * part_nesting p + 1)) (sym (ap part_of_field c.in-List.is)) c.clean_list.ensures.level
-
-pub clean_field-returns-clause-is : goal.clean_field-returns-clause-is
-clean_field-returns-clause-is t c = subst (SetsBox c.empty_box.result) (sym (clean_empty_is c.args.fonts.now c.args.style (part_of_field c.args.field) (has_no_box c.args.field c.in-Empty.is))) c.empty_box.ensures.is
-
-pub clean_field-returns-clause-level : goal.clean_field-returns-clause-level
-clean_field-returns-clause-level t c = if_ok_map c.empty_box.result _ (λ b. b.level ≤ 12 * part_nesting (part_of_field c.args.field) + 1) c.empty_box.ensures.level (λ b h. omega (arith, h))
+pub clean_field-returns : goal.clean_field-returns
+clean_field-returns t c = record { is = subst (SetsBox c.empty_box.result) (sym (clean_empty_is c.args.fonts.now c.args.style (part_of_field c.args.field) (has_no_box c.args.field c.in-Empty.is))) c.empty_box.ensures.is; level = if_ok_map c.empty_box.result _ (λ b. b.level ≤ 12 * part_nesting (part_of_field c.args.field) + 1) c.empty_box.ensures.level (λ b h. omega (arith, h)) }
 
 -- ---- `clean_list`
 
@@ -591,11 +552,8 @@ clean_list-returns-in_err-row-clause-is t c =
 pub clean_list-cleaned-requires-clause-fits : goal.clean_list-cleaned-requires-clause-fits
 clean_list-cleaned-requires-clause-fits t c = row_fits_more (12 * list_nesting c.args.list) 4000 c.in_ok-row.row (omega (arith, c.requires.modest.nesting)) c.in_ok-row.ensures.fits
 
-pub clean_list-returns-clause-is : goal.clean_list-returns-clause-is
-clean_list-returns-clause-is t c = list_made (SetsBox c.cleaned.result) c.args.fonts.now c.args.list c.args.style (piece_values c.in_ok-row.row) make_clean c.in_ok-row.ensures.is c.cleaned.ensures.is
-
-pub clean_list-returns-clause-level : goal.clean_list-returns-clause-level
-clean_list-returns-clause-level t c = if_ok_map c.cleaned.result _ (λ b. b.level ≤ 12 * list_nesting c.args.list + 1) c.cleaned.ensures.level (λ b f. f (12 * list_nesting c.args.list) c.in_ok-row.ensures.fits)
+pub clean_list-returns : goal.clean_list-returns
+clean_list-returns t c = record { is = list_made (SetsBox c.cleaned.result) c.args.fonts.now c.args.list c.args.style (piece_values c.in_ok-row.row) make_clean c.in_ok-row.ensures.is c.cleaned.ensures.is; level = if_ok_map c.cleaned.result _ (λ b. b.level ≤ 12 * list_nesting c.args.list + 1) c.cleaned.ensures.level (λ b f. f (12 * list_nesting c.args.list) c.in_ok-row.ensures.fits) }
 
 -- ---- `set_radical`
 
@@ -609,11 +567,8 @@ set_radical-returns-in_err-body-clause-is t c =
 pub set_radical-radical-requires : goal.set_radical-radical-requires
 set_radical-radical-requires t c = omega (arith, c.in_ok-body.ensures.level, c.requires.modest.nesting)
 
-pub set_radical-returns-clause-is : goal.set_radical-returns-clause-is
-set_radical-returns-clause-is t c = first_made (SetsBox c.radical.result) (clean_field c.args.fonts.now (cramped_of c.args.style) (field_content c.args.fonts.now c.args.field)) (layout_of c.in_ok-body.body) (λ b. Radicals.radical c.args.fonts.now c.args.style c.args.sign b) (ap (λ t. clean_field c.args.fonts.now t (field_content c.args.fonts.now c.args.field)) (sym c.cramped.ensures) ∙ c.in_ok-body.ensures.is) c.radical.ensures.is
-
-pub set_radical-returns-clause-level : goal.set_radical-returns-clause-level
-set_radical-returns-clause-level t c = if_ok_map c.radical.result _ (λ b. b.level ≤ 12 * part_nesting (part_of_field c.args.field) + 3) c.radical.ensures.level (λ b h. omega (arith, h, c.in_ok-body.ensures.level))
+pub set_radical-returns : goal.set_radical-returns
+set_radical-returns t c = record { is = first_made (SetsBox c.radical.result) (clean_field c.args.fonts.now (cramped_of c.args.style) (field_content c.args.fonts.now c.args.field)) (layout_of c.in_ok-body.body) (λ b. Radicals.radical c.args.fonts.now c.args.style c.args.sign b) (ap (λ t. clean_field c.args.fonts.now t (field_content c.args.fonts.now c.args.field)) (sym c.cramped.ensures) ∙ c.in_ok-body.ensures.is) c.radical.ensures.is; level = if_ok_map c.radical.result _ (λ b. b.level ≤ 12 * part_nesting (part_of_field c.args.field) + 3) c.radical.ensures.level (λ b h. omega (arith, h, c.in_ok-body.ensures.level)) }
 
 -- ---- `set_overline`
 
@@ -627,11 +582,8 @@ set_overline-returns-in_err-body-clause-is t c =
 pub set_overline-overline-requires : goal.set_overline-overline-requires
 set_overline-overline-requires t c = omega (arith, c.in_ok-body.ensures.level, c.requires.modest.nesting)
 
-pub set_overline-returns-clause-is : goal.set_overline-returns-clause-is
-set_overline-returns-clause-is t c = first_made (SetsBox c.overline.result) (clean_field c.args.fonts.now (cramped_of c.args.style) (field_content c.args.fonts.now c.args.field)) (layout_of c.in_ok-body.body) (λ b. Lines.overline c.args.fonts.now (size_of c.args.style) b) (ap (λ t. clean_field c.args.fonts.now t (field_content c.args.fonts.now c.args.field)) (sym c.cramped.ensures) ∙ c.in_ok-body.ensures.is) (subst (λ t. SetsBox c.overline.result (Lines.overline c.args.fonts.now t (layout_of c.in_ok-body.body))) c.size.ensures c.overline.ensures.is)
-
-pub set_overline-returns-clause-level : goal.set_overline-returns-clause-level
-set_overline-returns-clause-level t c = if_ok_map c.overline.result _ (λ b. b.level ≤ 12 * part_nesting (part_of_field c.args.field) + 3) c.overline.ensures.level (λ b h. omega (arith, h, c.in_ok-body.ensures.level))
+pub set_overline-returns : goal.set_overline-returns
+set_overline-returns t c = record { is = first_made (SetsBox c.overline.result) (clean_field c.args.fonts.now (cramped_of c.args.style) (field_content c.args.fonts.now c.args.field)) (layout_of c.in_ok-body.body) (λ b. Lines.overline c.args.fonts.now (size_of c.args.style) b) (ap (λ t. clean_field c.args.fonts.now t (field_content c.args.fonts.now c.args.field)) (sym c.cramped.ensures) ∙ c.in_ok-body.ensures.is) (subst (λ t. SetsBox c.overline.result (Lines.overline c.args.fonts.now t (layout_of c.in_ok-body.body))) c.size.ensures c.overline.ensures.is); level = if_ok_map c.overline.result _ (λ b. b.level ≤ 12 * part_nesting (part_of_field c.args.field) + 3) c.overline.ensures.level (λ b h. omega (arith, h, c.in_ok-body.ensures.level)) }
 
 -- ---- `set_underline`
 
@@ -645,11 +597,8 @@ set_underline-returns-in_err-body-clause-is t c =
 pub set_underline-underline-requires : goal.set_underline-underline-requires
 set_underline-underline-requires t c = omega (arith, c.in_ok-body.ensures.level, c.requires.modest.nesting)
 
-pub set_underline-returns-clause-is : goal.set_underline-returns-clause-is
-set_underline-returns-clause-is t c = first_made (SetsBox c.underline.result) (clean_field c.args.fonts.now c.args.style (field_content c.args.fonts.now c.args.field)) (layout_of c.in_ok-body.body) (λ b. Lines.underline c.args.fonts.now (size_of c.args.style) b) c.in_ok-body.ensures.is (subst (λ t. SetsBox c.underline.result (Lines.underline c.args.fonts.now t (layout_of c.in_ok-body.body))) c.size.ensures c.underline.ensures.is)
-
-pub set_underline-returns-clause-level : goal.set_underline-returns-clause-level
-set_underline-returns-clause-level t c = if_ok_map c.underline.result _ (λ b. b.level ≤ 12 * part_nesting (part_of_field c.args.field) + 3) c.underline.ensures.level (λ b h. omega (arith, h, c.in_ok-body.ensures.level))
+pub set_underline-returns : goal.set_underline-returns
+set_underline-returns t c = record { is = first_made (SetsBox c.underline.result) (clean_field c.args.fonts.now c.args.style (field_content c.args.fonts.now c.args.field)) (layout_of c.in_ok-body.body) (λ b. Lines.underline c.args.fonts.now (size_of c.args.style) b) c.in_ok-body.ensures.is (subst (λ t. SetsBox c.underline.result (Lines.underline c.args.fonts.now t (layout_of c.in_ok-body.body))) c.size.ensures c.underline.ensures.is); level = if_ok_map c.underline.result _ (λ b. b.level ≤ 12 * part_nesting (part_of_field c.args.field) + 3) c.underline.ensures.level (λ b h. omega (arith, h, c.in_ok-body.ensures.level)) }
 
 -- ---- `set_accent`
 
@@ -670,11 +619,8 @@ set_accent-accent-requires-clause-found t c = ap (λ t. find_symbol c.args.fonts
 pub set_accent-accent-requires-clause-level : goal.set_accent-accent-requires-clause-level
 set_accent-accent-requires-clause-level t c = omega (arith, c.in_ok-plain.ensures.level, c.requires.modest.nesting)
 
-pub set_accent-returns-clause-is : goal.set_accent-returns-clause-is
-set_accent-returns-clause-is t c = accent_part_made (SetsBox c.accent.result) c.args.fonts.now c.args.style c.cramped.result c.size.result c.size-2.result c.args.symbol (field_content c.args.fonts.now c.args.field) c.in_ok-number.number c.in_ok-plain.plain c.field_skew-skew.result.sp c.extents-extents.result c.size.ensures c.size-2.ensures c.cramped.ensures c.in_ok-number.ensures.is c.in_ok-plain.ensures.is c.field_skew-skew.ensures.is c.extents-extents.ensures.is c.accent.ensures.is
-
-pub set_accent-returns-clause-level : goal.set_accent-returns-clause-level
-set_accent-returns-clause-level t c = if_ok_map c.accent.result _ (λ b. b.level ≤ 12 * part_nesting (part_of_field c.args.field) + 3) c.accent.ensures.level (λ b h. omega (arith, h, c.in_ok-plain.ensures.level))
+pub set_accent-returns : goal.set_accent-returns
+set_accent-returns t c = record { is = accent_part_made (SetsBox c.accent.result) c.args.fonts.now c.args.style c.cramped.result c.size.result c.size-2.result c.args.symbol (field_content c.args.fonts.now c.args.field) c.in_ok-number.number c.in_ok-plain.plain c.field_skew-skew.result.sp c.extents-extents.result c.size.ensures c.size-2.ensures c.cramped.ensures c.in_ok-number.ensures.is c.in_ok-plain.ensures.is c.field_skew-skew.ensures.is c.extents-extents.ensures.is c.accent.ensures.is; level = if_ok_map c.accent.result _ (λ b. b.level ≤ 12 * part_nesting (part_of_field c.args.field) + 3) c.accent.ensures.level (λ b h. omega (arith, h, c.in_ok-plain.ensures.level)) }
 
 -- ---- `set_accent_inside`
 
@@ -740,13 +686,17 @@ set_vcenter-vcenter-requires-clause-levels t c =
     let m = rows_of_part (part_of_field c.args.field) c.in-Rows.rows (ap part_of_field c.in-Rows.is) c.requires.modest in
     λ k d lt. omega (arith, c.in_ok-rows-in-Rows.ensures.levels k d lt, m.nesting)
 
-pub set_vcenter-returns-in-Rows-clause-is : goal.set_vcenter-returns-in-Rows-clause-is
-set_vcenter-returns-in-Rows-clause-is t c = vcenter_made (SetsBox c.vcenter.result) c.args.fonts.now c.args.style c.size.result (part_of_field c.args.field) c.in-Rows.rows (map layout_of c.in_ok-rows-in-Rows.rows) (ap part_of_field c.in-Rows.is) c.size.ensures c.in_ok-rows-in-Rows.ensures.is c.vcenter.ensures.is
+pub set_vcenter-returns-in-Rows : goal.set_vcenter-returns-in-Rows
+set_vcenter-returns-in-Rows t c = record { is = vcenter_made (SetsBox c.vcenter.result) c.args.fonts.now c.args.style c.size.result (part_of_field c.args.field) c.in-Rows.rows (map layout_of c.in_ok-rows-in-Rows.rows) (ap part_of_field c.in-Rows.is) c.size.ensures c.in_ok-rows-in-Rows.ensures.is c.vcenter.ensures.is; level = let n = ap (λ f. part_nesting (part_of_field f)) c.in-Rows.is in if_ok_map c.vcenter.result _ (λ b. b.level ≤ 12 * part_nesting (part_of_field c.args.field) + 3) c.vcenter.ensures.level (λ b f. omega (arith, n, f (12 * rows_nesting c.in-Rows.rows + 1) c.in_ok-rows-in-Rows.ensures.levels)) }
 
-pub set_vcenter-returns-in-Rows-clause-level : goal.set_vcenter-returns-in-Rows-clause-level
-set_vcenter-returns-in-Rows-clause-level t c =
-    let n = ap (λ f. part_nesting (part_of_field f)) c.in-Rows.is in
-    if_ok_map c.vcenter.result _ (λ b. b.level ≤ 12 * part_nesting (part_of_field c.args.field) + 3) c.vcenter.ensures.level (λ b f. omega (arith, n, f (12 * rows_nesting c.in-Rows.rows + 1) c.in_ok-rows-in-Rows.ensures.levels))
+pub set_vcenter-set_table-requires : goal.set_vcenter-set_table-requires
+set_vcenter-set_table-requires t c =
+    let e = ap part_of_field c.in-Table.is in
+    let s = ap part_size e in
+    (omega (arith, s, c.decreases), grid_of_part (part_of_field c.args.field) c.in-Table.table.look c.in-Table.table.rows e c.requires.modest)
+
+pub set_vcenter-returns-in-Table : goal.set_vcenter-returns-in-Table
+set_vcenter-returns-in-Table t c = record { is = vcenter_table (SetsBox c.set_table.result) c.args.fonts.now c.args.style (part_of_field c.args.field) c.in-Table.table.look c.in-Table.table.rows (ap part_of_field c.in-Table.is) c.set_table.ensures.is; level = let n = ap (λ f. part_nesting (part_of_field f)) c.in-Table.is in if_ok_map c.set_table.result _ (λ b. b.level ≤ 12 * part_nesting (part_of_field c.args.field) + 3) c.set_table.ensures.level (λ b h. omega (arith, n, h)) }
 
 pub set_vcenter-vcenter-requires-in_default : goal.set_vcenter-vcenter-requires-in_default
 set_vcenter-vcenter-requires-in_default t c =
@@ -757,7 +707,7 @@ pub set_vcenter-returns : goal.set_vcenter-returns
 set_vcenter-returns t c =
     let e = c.from_vec.ensures ∙ c.new.ensures.items in
     record {
-      is = vcenter_empty (SetsBox c.vcenter-in_default.result) c.args.fonts.now c.args.style c.size-in_default.result (part_of_field c.args.field) (map layout_of c.from_vec.result) (without_rows c.args.field c.in_default.not-Rows) c.size-in_default.ensures (ap (map layout_of) e) c.vcenter-in_default.ensures.is;
+      is = vcenter_empty (SetsBox c.vcenter-in_default.result) c.args.fonts.now c.args.style c.size-in_default.result (part_of_field c.args.field) (map layout_of c.from_vec.result) (without_rows c.args.field c.in_default.not-Rows c.in_default.not-Table) c.size-in_default.ensures (ap (map layout_of) e) c.vcenter-in_default.ensures.is;
       level = if_ok_map c.vcenter-in_default.result _ (λ b. b.level ≤ 12 * part_nesting (part_of_field c.args.field) + 3) c.vcenter-in_default.ensures.level (λ b f. omega (arith, f 0 (all_of_none (λ r. r.level ≤ 0) c.from_vec.result e)));
     }
 
@@ -785,15 +735,62 @@ set_rows-returns-in_err-packed-clause-is t c =
 pub set_rows-loop-list-preserved : goal.set_rows-loop-list-preserved
 set_rows-loop-list-preserved t c = (tt, tt, rows_step _ _ _ _ _ c.in-Some.list _ (piece_values c.in_ok-row.row) c.in_ok-packed.field-0 c.loop-list.invariant.2 c.in-Some.ensures.steps.0 c.in_ok-row.ensures.is c.in_ok-packed.ensures.is (c.in_ok-packed.ensures.level (12 * list_nesting c.in-Some.list) c.in_ok-row.ensures.fits) c.in_ok-push_box.ensures)
 
-pub set_rows-returns-clause-is : goal.set_rows-returns-clause-is
-set_rows-returns-clause-is t c = rows_end _ _ _ _ c.loop-list.invariant.2 (no_more _ _ c.loop-list.list-iterator.rest.ok.0 c.in-None.ensures.steps.0) ∙ ap (λ b. Ok (map layout_of b)) (sym c.from_vec.ensures)
-
-pub set_rows-returns-clause-few : goal.set_rows-returns-clause-few
-set_rows-returns-clause-few t c = rw c.from_vec.ensures (rows_few _ _ _ _ c.requires.modest c.loop-list.invariant.2)
-
-pub set_rows-returns-clause-levels : goal.set_rows-returns-clause-levels
-set_rows-returns-clause-levels t c = subst (All (λ b. b.level ≤ 12 * rows_nesting c.args.rows + 1)) (sym c.from_vec.ensures) c.loop-list.invariant.2.levels
+pub set_rows-returns : goal.set_rows-returns
+set_rows-returns t c = record { is = rows_end _ _ _ _ c.loop-list.invariant.2 (no_more _ _ c.loop-list.list-iterator.rest.ok.0 c.in-None.ensures.steps.0) ∙ ap (λ b. Ok (map layout_of b)) (sym c.from_vec.ensures); few = rw c.from_vec.ensures (rows_few _ _ _ _ c.requires.modest c.loop-list.invariant.2); count = rw c.from_vec.ensures (rows_count _ _ _ _ c.loop-list.invariant.2 (no_more _ _ c.loop-list.list-iterator.rest.ok.0 c.in-None.ensures.steps.0)); levels = subst (All (λ b. b.level ≤ 12 * rows_nesting c.args.rows + 1)) (sym c.from_vec.ensures) c.loop-list.invariant.2.levels }
 
 pub set_rows-returns-in_err-push_box-clause-is : goal.set_rows-returns-in_err-push_box-clause-is
 set_rows-returns-in_err-push_box-clause-is t c =
     let p = err_from_is_err_and c.from_residual-in_err-push_box.result c.from_residual-in_err-push_box.ensures.1 in rw (p.1, p.2) tt
+
+-- ---- `set_table`
+
+pub set_table-returns-in_ok-cells-in-Matrix-clause-level : goal.set_table-returns-in_ok-cells-in-Matrix-clause-level
+set_table-returns-in_ok-cells-in-Matrix-clause-level t c =
+    if_ok_map c.matrix.result _ (λ b. b.level ≤ 12 * grid_nesting c.args.table.rows + 3) c.matrix.ensures.level (λ b f. omega (arith, f (12 * grid_nesting c.args.table.rows + 1) c.in_ok-cells-in-Matrix.ensures.levels))
+
+pub set_table-returns-in_ok-cells-in-Equations-clause-level : goal.set_table-returns-in_ok-cells-in-Equations-clause-level
+set_table-returns-in_ok-cells-in-Equations-clause-level t c =
+    if_ok_map c.equations.result _ (λ b. b.level ≤ 12 * grid_nesting c.args.table.rows + 3) c.equations.ensures.level (λ b f. omega (arith, f (12 * grid_nesting c.args.table.rows + 1) c.in_ok-cells-in-Equations.ensures.levels))
+
+-- ---- `set_cells`
+
+pub set_cells-loop-row-init : goal.set_cells-loop-row-init
+set_cells-loop-row-init t c = (tt, tt, cells_start c.args.fonts.now c.args.look c.args.rows _ _ _ c.requires.modest c.into_iter-row-iterator.ensures.into_iter_gives.0 c.into_vec-row-items.ensures c.new-done.ensures.items)
+
+pub set_cells-set_rows-requires : goal.set_cells-set_rows-requires
+set_cells-set_rows-requires t c =
+    let e = c.in_columns.ensures in
+    let h = next_cells _ _ _ _ _ _ _ c.loop-row.invariant.2 c.in-Some.ensures.steps.0 in
+    let s = next_cells_size _ _ _ _ _ _ _ c.loop-row.invariant.2 c.in-Some.ensures.steps.0 in
+    (omega (arith, ap rows_size e, s, c.decreases), subst IsModestRows (sym e) h)
+
+pub set_cells-returns-in_err-cells-clause-is : goal.set_cells-returns-in_err-cells-clause-is
+set_cells-returns-in_err-cells-clause-is t c =
+    let p = err_from_is_err_and c.from_residual.result c.from_residual.ensures.1 in
+    rw (p.1, p.2) (cells_fail _ _ _ _ _ _ c.in-Some.row _ c.loop-row.invariant.2 c.in-Some.ensures.steps.0 (subst (λ r. SetFails c.in_err-cells.field-0.0 (pack_rows (rows_by_style c.args.fonts.now r))) c.in_columns.ensures c.in_err-cells.ensures.is))
+
+pub set_cells-loop-row-preserved : goal.set_cells-loop-row-preserved
+set_cells-loop-row-preserved t c =
+    let e = c.in_columns.ensures in
+    let h = c.in_ok-cells.ensures in (
+      tt,
+      tt,
+      cells_step _ _ _ _ _ _ c.in-Some.row _ c.in_ok-cells.cells c.loop-row.invariant.2 c.in-Some.ensures.steps.0
+          (subst (λ r. pack_rows (rows_by_style c.args.fonts.now r) ≡ Ok (map layout_of c.in_ok-cells.cells)) e h.is) h.few
+          (h.count ∙ ap rows_length e) (subst (λ r. All (λ b. b.level ≤ 12 * rows_nesting r + 1) c.in_ok-cells.cells) e h.levels) c.in_ok-push_row.ensures,
+    )
+
+pub set_cells-returns : goal.set_cells-returns
+set_cells-returns t c =
+    let i = c.loop-row.invariant.2 in
+    record {
+      is = cells_end _ _ _ _ _ i (no_more _ _ c.loop-row.row-iterator.rest.ok.0 c.in-None.ensures.steps.0) ∙ ap (λ b. Ok (cells_of b)) (sym c.from_vec.ensures);
+      few = rw c.from_vec.ensures (cells_few _ _ _ _ _ c.requires.modest i);
+      columns = subst (All (λ row. length row ≤ 2 ^ 18)) (sym c.from_vec.ensures) i.columns;
+      sides = λ same. subst (All (λ row. length row ≤ 2)) (sym c.from_vec.ensures) (i.sides same);
+      levels = subst (All (All (λ b. b.level ≤ 12 * grid_nesting c.args.rows + 1))) (sym c.from_vec.ensures) i.levels;
+    }
+
+pub set_cells-returns-in_err-push_row-clause-is : goal.set_cells-returns-in_err-push_row-clause-is
+set_cells-returns-in_err-push_row-clause-is t c =
+    let p = err_from_is_err_and c.from_residual-in_err-push_row.result c.from_residual-in_err-push_row.ensures.1 in rw (p.1, p.2) tt

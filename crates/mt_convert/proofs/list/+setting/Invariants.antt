@@ -1,10 +1,11 @@
 use Rattle.std.proofs.Common.{◌+◌, ◌*◌}
 use Rattle.std.specs.Vec.Iter.{into_iter_items}
-use Rattle.mt_rules.specs.Sequence.{sequence_size, rows_size, element_size, part_size}
+use Rattle.mt_rules.specs.Sequence.{sequence_size, rows_size, grid_size, element_size, part_size}
 use Rattle.mt_rules.specs.View.{atom_element, fraction_element, part_of_field}
 use Rattle.mt_convert.specs.inner.Turns.{element_of_passed, passed_value}
 use Rattle.mt_convert.proofs.Going.{Going}
 use Rattle.mt_convert.proofs.kinds.RowBoxes.{RowsSoFar}
+use Rattle.mt_convert.proofs.kinds.TableBoxes.{CellsSoFar}
 use Rattle.mt_convert.proofs.list.+setting.Given as goal
 
 abbrev pub decreases-set_list : goal.decreases-set_list
@@ -33,6 +34,18 @@ invariant-set_rows-loop-list l =
     (goal.iterator-set_rows-loop-list).can_next l.list-iterator
     × (goal.iterator-set_rows-loop-list).is_finite l.list-iterator
     × RowsSoFar l.fonts l.fn.rows (into_iter_items l.list-iterator) l.boxes.items
+
+abbrev pub decreases-set_table : goal.decreases-set_table
+decreases-set_table l = 10 * grid_size l.table.rows + 4
+
+abbrev pub decreases-set_cells : goal.decreases-set_cells
+decreases-set_cells l = 10 * grid_size l.rows + 3
+
+abbrev pub invariant-set_cells-loop-row : goal.invariant-set_cells-loop-row
+invariant-set_cells-loop-row l =
+    (goal.iterator-set_cells-loop-row).can_next l.row-iterator
+    × (goal.iterator-set_cells-loop-row).is_finite l.row-iterator
+    × CellsSoFar l.fonts l.look l.fn.rows (into_iter_items l.row-iterator) l.done.items
 
 abbrev pub decreases-set_radical : goal.decreases-set_radical
 decreases-set_radical l = 10 * part_size (part_of_field l.field) + 2
