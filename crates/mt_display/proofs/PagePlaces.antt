@@ -29,11 +29,11 @@ NumberHas P None = ⊤
 NumberHas P (Some n) = All (PieceHas P) n.row
 
 -- a box that was made leads on
-made_then : (o : Option ℤ) (l : Layout) (next : Layout → Setting (List LineValue)) (ls : List LineValue) → ((pass_unless o >> Ok l) >>= next) ≡ Ok ls → next l ≡ Ok ls
+pub made_then : (o : Option ℤ) (l : Layout) (next : Layout → Setting (List LineValue)) (ls : List LineValue) → ((pass_unless o >> Ok l) >>= next) ≡ Ok ls → next l ≡ Ok ls
 made_then None l next ls is = is
 made_then (Some value) l next ls is = absurd (cc)
 
-are : (P : Place → Type 0) (ls ms : List LineValue) → All (LineHas P) ls → (let s : Setting (List LineValue) = Ok ls in s) ≡ Ok ms → All (LineHas P) ms
+pub are : (P : Place → Type 0) (ls ms : List LineValue) → All (LineHas P) ls → (let s : Setting (List LineValue) = Ok ls in s) ≡ Ok ms → All (LineHas P) ms
 are P ls ms h is =
     let same : ls ≡ ms = cc in
     subst (λ (x : List LineValue). All (LineHas P) x) same h
@@ -41,7 +41,7 @@ are P ls ms h is =
 -- ---- the lines of a row
 
 module _ (P : Place → Type 0) (still : IsStill P) where
-  one_has : (shift : ℤ) (body : Layout) → All P body.places → All (LineHas P) (one_line shift body)
+  pub one_has : (shift : ℤ) (body : Layout) → All P body.places → All (LineHas P) (one_line shift body)
   one_has shift body h = All-cons (LineHas P) (record { shift = shift; body = body }) [] h (All-nil (LineHas P))
 
   two_have : (x y : ℤ) (a b : Layout) → All P a.places → All P b.places → All (LineHas P) (record { shift = x; body = a } ∷ record { shift = y; body = b } ∷ [])

@@ -2,6 +2,8 @@
 pub mod Lines
 -- the lines of a display and its number
 pub mod Displays
+-- displays of several lines
+pub mod DisplayLines
 -- lines one below another on a page
 pub mod Stack
 -- of the code: only inner contracts cite it

@@ -2,3 +2,7 @@
 pub mod NextLines
 -- the widths of a display as the code has them
 pub mod Fits
+-- rows of a display as entries of a column
+pub mod OpenRows
+-- the widths and the pieces of equations
+pub mod EquationRows

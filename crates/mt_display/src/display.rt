@@ -322,9 +322,11 @@ fn row_shift(left: bool, d: Length) -> Length
     if left { Length { sp: 0 } } else { d }
 }
 
-fn one_line(alloc: Global, shift: Length, body: Packed) -> Result<Lines, PackError>
+// A box on a line of its own.
+pub(crate) fn one_line(alloc: Global, shift: Length, body: Packed) -> Result<Lines, PackError>
     requires { Within (2 ^ 33) shift.sp }
     ensures is { LinesAnswer result (Ok (line_at shift.sp (layout_of body))) }
+    ensures one { IfOk result (λ lines. length lines ≡ 1) }
     ensures fits { IfOk result (LinesFit body.level) }
 {
     let shift = shift.sp;

@@ -54,7 +54,7 @@ pub(crate) fn right_end(z: Length, number: &Packed) -> Length
     gap(z, width_of(number))
 }
 
-fn width_of(body: &Packed) -> Length
+pub(crate) fn width_of(body: &Packed) -> Length
     ensures is { result.sp ≡ body.now.extents.width }
     ensures in_range { Within (2 ^ 30) result.sp }
 {

@@ -22,7 +22,7 @@ use Rattle.mt_plain.specs.PlainMacros.{plain_table, token_of}
 use Rattle.mt_family.specs.SetValue.{SetValue}
 use Rattle.mt_family.specs.Sets.{units_of}
 use Rattle.mt_scan.specs.declared.fault.ReadCause.{ReadCause}
-use Rattle.mt_scan.specs.declared.fault.ReadCause.TheVariants.{UnknownName, DoubleScript, TwoFractions, BadDelimiter, Unbalanced, MisplacedLimits, MissingField, BadNumber, BadDimension, MisplacedNumber, TooDeep as TooManyGroups}
+use Rattle.mt_scan.specs.declared.fault.ReadCause.TheVariants.{UnknownName, DoubleScript, TwoFractions, BadDelimiter, Unbalanced, MisplacedLimits, MissingField, BadNumber, BadDimension, MisplacedNumber, TooDeep as TooManyGroups, ExtraCell}
 use Rattle.mt_scan.specs.Parts.{Read, ReadOr, Got, Fault, NoTurn}
 use Rattle.mt_formula.specs.Formulas.{Reading, Reads, ReadFault, NotReadInTurns, reading}
 use Rattle.mt_reader.specs.Limits.{max_total_tokens}
@@ -167,6 +167,7 @@ cause_avoids n BadNumber place h = cc
 cause_avoids n BadDimension place h = cc
 cause_avoids n MisplacedNumber place h = cc
 cause_avoids n TooManyGroups place h = cc
+cause_avoids n ExtraCell place h = cc
 
 reading_avoids : (units : Units) (s : DocumentState) (display : Bool) (total : ℕ) (rest : List Token) (read : Reading) → TurnAvoids (after_reading units s display total rest read)
 reading_avoids units s display total rest (ReadFault cause place) = cause_avoids (s.count + 1) cause place

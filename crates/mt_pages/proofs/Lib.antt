@@ -2,6 +2,8 @@
 pub mod LineLemmas
 -- the places of a page
 pub mod PageLemmas
+-- the rows of a display of several lines
+pub mod DisplayLemmas
 -- the pages of a document, one after another
 pub mod DocumentLemmas
 -- pages that are set and placed one after another

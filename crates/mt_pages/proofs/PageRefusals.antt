@@ -1,22 +1,30 @@
 -- Setting a source is never refused for want of memory (`typeset_avoids`).
 use Rattle.std.proofs.Common.{◌≡◌, ◌+◌, ◌-◌, ◌++◌, ℕ, length, false, List, [], ◌∷◌, refl, ap}
-use Rattle.std.specs.Prelude.{ℤ, Option, Some, None, Ok, Err, nat_lt}
+use Rattle.std.specs.Prelude.{ℤ, Option, Some, None, Result, Ok, Err, nat_lt}
 use Rattle.mt_scaled.specs.Results.{◌>>=◌}
 use Rattle.mt_token.specs.Tokens.{max_source}
 use Rattle.mt_family.specs.SetValue.{SetValue}
 use Rattle.mt_family.specs.Sets.{sy}
 use Rattle.mt_family.specs.declared.size.Size.TheVariants.{Text}
+use Rattle.mt_box.specs.Layout.{Layout}
 use Rattle.mt_box.specs.Placing.{fault_at, first_place_fault, no_room, or_else, place_fault}
 use Rattle.mt_box.specs.Places.{h_of, v_of}
 use Rattle.mt_box.specs.declared.error.PlaceError.{PlaceError}
 use Rattle.mt_box.specs.declared.error.PlaceError.TheVariants.{OutOfRange as PlaceOutOfRange, TooMany as TooManyPlaces, OutOfMemory as NoPlaceMemory}
 use Rattle.mt_box.specs.declared.place.Place.{Place}
 use Rattle.mt_scaled.specs.Number.{is_in_range}
-use Rattle.mt_rules.specs.Setting.{Setting, SettingFault, MissingFamily, MissingChar, SmartLigature, Overflow, TooTall}
+use Rattle.mt_rules.specs.Setting.{Setting, SettingFault, MissingFamily, MissingChar, SmartLigature, Overflow, TooTall, pack_row}
+use Rattle.mt_rules.specs.Sequence.{Sequence, Rows}
+use Rattle.mt_rules.specs.DisplayRows.{EquationLayout}
+use Rattle.mt_rules.specs.declared.document.Body.{Body}
+use Rattle.mt_rules.specs.declared.document.Body.TheVariants.{List as ListBody, Equations, Lines}
+use Rattle.mt_rules.specs.declared.document.Equation.{Equation}
 use Rattle.mt_rules.specs.declared.document.Formula.{Formula}
+use Rattle.mt_rules.specs.declared.style.Style.{Style}
 use Rattle.mt_rules.specs.declared.document.Tag.{Tag}
 use Rattle.mt_rules.specs.declared.style.Style.TheVariants.{D, T}
 use Rattle.mt_convert.specs.ListRow.{list_row}
+use Rattle.mt_display.specs.DisplayLines.{equation_lines, row_lines}
 use Rattle.mt_display.specs.Displays.{display_lines}
 use Rattle.mt_display.specs.Lines.{inline_lines}
 use Rattle.mt_display.specs.Stack.{first_stack_fault, or_fault_below, places_below, places_unless, stacked_lines}
@@ -24,9 +32,10 @@ use Rattle.mt_display.specs.declared.error.StackError.{StackError}
 use Rattle.mt_display.specs.declared.error.StackError.TheVariants.{OutOfRange, TooMany, OutOfMemory as NoStackMemory}
 use Rattle.mt_dvi.specs.Limits.{max_places}
 use Rattle.mt_pages.specs.Documents.{document_of}
-use Rattle.mt_pages.specs.FormulaLines.{displayed_lines, fault_refusal, formula_lines, formula_row, number_row, set_by, text_lines}
+use Rattle.mt_pages.specs.FormulaLines.{body_lines, displayed_lines, each_set, equation_boxes, equations_set, fault_refusal, formula_box, formula_lines, formula_row, lists_of, number_row, rows_set, set_by, text_lines}
 use Rattle.mt_pages.specs.Pages.{PageLinesValue, document_lines, document_pages, no_lines, page_lines, page_places, pages_places, placed_by, source_pages, stack_refusal, with_formula_lines}
 use Rattle.mt_pages.specs.Typeset.{typeset_of}
+use Rattle.mt_status.specs.declared.status.Status.{Status}
 use Rattle.mt_status.specs.declared.status.Status.TheVariants.{OutOfMemory}
 use Rattle.mt_status.proofs.Avoiding.{Avoids, Lacks, avoids_err, avoids_if, avoids_then, lacks_if}
 use Rattle.mt_pages.proofs.DocumentRefusals.{document_avoids}
@@ -49,20 +58,48 @@ number_avoids set n None = λ same. cc
 number_avoids set n (Some tag) =
     avoids_then OutOfMemory (formula_row set n T tag.body) (λ row. Ok (Some (record { row = row; left = tag.left }))) (setting_avoids n (list_row set T tag.body)) (λ row is same. cc)
 
-text_avoids : (set : SetValue) (f : Formula) → Avoids OutOfMemory (text_lines set f)
-text_avoids set f =
-    avoids_then OutOfMemory (formula_row set f.number T f.body) (λ row. set_by f.number (inline_lines row)) (setting_avoids f.number (list_row set T f.body)) (λ row is. setting_avoids f.number (inline_lines row))
+text_avoids : (set : SetValue) (n : ℕ) (list : Sequence) → Avoids OutOfMemory (text_lines set n list)
+text_avoids set n list =
+    avoids_then OutOfMemory (formula_row set n T list) (λ row. set_by n (inline_lines row)) (setting_avoids n (list_row set T list)) (λ row is. setting_avoids n (inline_lines row))
 
-displayed_avoids : (set : SetValue) (width : ℤ) (f : Formula) → Avoids OutOfMemory (displayed_lines set width f)
-displayed_avoids set width f =
-    avoids_then OutOfMemory (formula_row set f.number D f.body) (λ row. number_row set f.number f.tag >>= (λ number. set_by f.number (display_lines (sy set 6 Text) row number width)))
-    (setting_avoids f.number (list_row set D f.body))
-    (λ row is. avoids_then OutOfMemory (number_row set f.number f.tag) (λ number. set_by f.number (display_lines (sy set 6 Text) row number width)) (number_avoids set f.number f.tag)
-    (λ number known. setting_avoids f.number (display_lines (sy set 6 Text) row number width)))
+displayed_avoids : (set : SetValue) (width : ℤ) (n : ℕ) (list : Sequence) (tag : Option Tag) → Avoids OutOfMemory (displayed_lines set width n list tag)
+displayed_avoids set width n list tag =
+    avoids_then OutOfMemory (formula_row set n D list) (λ row. number_row set n tag >>= (λ number. set_by n (display_lines (sy set 6 Text) row number width)))
+    (setting_avoids n (list_row set D list))
+    (λ row is. avoids_then OutOfMemory (number_row set n tag) (λ number. set_by n (display_lines (sy set 6 Text) row number width)) (number_avoids set n tag)
+    (λ number known. setting_avoids n (display_lines (sy set 6 Text) row number width)))
+
+-- ---- several lines
+
+box_avoids : (set : SetValue) (n : ℕ) (style : Style) (list : Sequence) → Avoids OutOfMemory (formula_box set n style list)
+box_avoids set n style list =
+    avoids_then OutOfMemory (formula_row set n style list) (λ row. set_by n (pack_row row)) (setting_avoids n (list_row set style list)) (λ row is. setting_avoids n (pack_row row))
+
+equation_avoids : (set : SetValue) (n : ℕ) (e : Equation) → Avoids OutOfMemory (equation_boxes set n e)
+equation_avoids set n e =
+    let made = λ (first second number : Layout). (let r : Result EquationLayout Status = Ok (record { first = first; second = second; number = number }) in r) in
+    avoids_then OutOfMemory (formula_box set n T e.first) (λ first. formula_box set n T e.second >>= (λ second. formula_box set n T e.number >>= made first second)) (box_avoids set n T e.first)
+    (λ first is. avoids_then OutOfMemory (formula_box set n T e.second) (λ second. formula_box set n T e.number >>= made first second) (box_avoids set n T e.second)
+    (λ second known. avoids_then OutOfMemory (formula_box set n T e.number) (made first second) (box_avoids set n T e.number) (λ number found same. cc)))
+
+each_avoids : {A B : Type 0} (set : A → Result B Status) → ((x : A) → Avoids OutOfMemory (set x)) → (boxes : List B) (xs : List A) → Avoids OutOfMemory (each_set set boxes xs)
+each_avoids set avoids boxes [] = λ same. cc
+each_avoids set avoids boxes (x ∷ xs) =
+    avoids_then OutOfMemory (set x) (λ box. each_set set (boxes ++ box ∷ []) xs) (avoids x) (λ box is. each_avoids set avoids (boxes ++ box ∷ []) xs)
+
+body_avoids : (set : SetValue) (width : ℤ) (f : Formula) (body : Body) → Avoids OutOfMemory (body_lines set width f body)
+body_avoids set width f (ListBody list) =
+    avoids_if OutOfMemory f.display (displayed_lines set width f.number list f.tag) (text_lines set f.number list) (displayed_avoids set width f.number list f.tag) (text_avoids set f.number list)
+body_avoids set width f (Equations left equations) =
+    avoids_then OutOfMemory (equations_set set f.number equations) (λ boxes. set_by f.number (equation_lines boxes left width))
+    (each_avoids (equation_boxes set f.number) (equation_avoids set f.number) [] equations) (λ boxes is. setting_avoids f.number (equation_lines boxes left width))
+body_avoids set width f (Lines rows) =
+    avoids_then OutOfMemory (rows_set set f.number rows) (λ boxes. set_by f.number (row_lines boxes width))
+    (each_avoids (formula_box set f.number D) (box_avoids set f.number D) [] (lists_of rows)) (λ boxes is. setting_avoids f.number (row_lines boxes width))
 
 formula_avoids : (set : SetValue) (width : ℤ) (f : Formula) → Avoids OutOfMemory (formula_lines set width f)
 unfolding formula_lines
-formula_avoids set width f = avoids_if OutOfMemory f.display (displayed_lines set width f) (text_lines set f) (displayed_avoids set width f) (text_avoids set f)
+formula_avoids set width f = body_avoids set width f f.body
 
 -- ---- the lines of a document
 

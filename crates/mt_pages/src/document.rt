@@ -58,7 +58,8 @@ fn read_refusal(n: u32, error: ReadError) -> Status
         | ReadError::MissingField(token)
         | ReadError::BadNumber(token)
         | ReadError::BadDimension(token)
-        | ReadError::MisplacedNumber(token) => Status::BadFormula { n, token, cause },
+        | ReadError::MisplacedNumber(token)
+        | ReadError::ExtraCell(token) => Status::BadFormula { n, token, cause },
         ReadError::TooDeep(token) => Status::TooDeep { n, token },
         ReadError::OutOfMemory => Status::OutOfMemory,
     }

@@ -1,6 +1,7 @@
 //! The pages of a source, set in its fonts, and pages as texts.
 #![tactic(auto)]
 
+mod display_rows;
 mod document;
 mod formula_lines;
 mod listings;

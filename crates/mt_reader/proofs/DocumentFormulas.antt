@@ -10,7 +10,12 @@ use Rattle.mt_macro.specs.Table.{Table}
 use Rattle.mt_macro.specs.Definition.{define}
 use Rattle.mt_macro.specs.Expansion.{Expansion, Expanded, OverBudget, NoArgument, NoPartner, ListTooLong, expansion}
 use Rattle.mt_plain.specs.CodeTables.{CodeTables}
-use Rattle.mt_rules.specs.Sequence.{Sequence}
+use Rattle.mt_rules.specs.declared.document.Body.{Body}
+use Rattle.mt_rules.specs.declared.document.Body.TheVariants.{List as ListBody, Equations, Lines}
+use Rattle.mt_rules.specs.declared.document.Equation.{Equation}
+use Rattle.mt_rules.specs.Modest.{rows_items}
+use Rattle.mt_rules.specs.Sequence.{Rows, NoRows, MoreRows, rows_length}
+use Rattle.mt_formula.specs.Counts.{body_items, body_rows, equations_items}
 use Rattle.mt_rules.specs.declared.document.Formula.{Formula}
 use Rattle.mt_rules.specs.declared.document.Tag.{Tag}
 use Rattle.mt_reader.specs.declared.outside_cause.OutsideCause.{OutsideCause}
@@ -33,7 +38,7 @@ use Rattle.mt_macro.specs.Limits.{max_tokens}
 
 module _ (P : Formula → Type 0) (units : Units) where
   abbrev pub HoldsOfRead : Type 0
-  HoldsOfRead = (tables : CodeTables) (display : Bool) (list : List Token) (body : Sequence) (tag : Option Tag) (n : ℕ) → length list ≤ max_tokens → reading tables units display list ≡ Reads body tag → P (record { number = n; display = display; body = body; tag = tag })
+  HoldsOfRead = (tables : CodeTables) (display : Bool) (list : List Token) (body : Body) (tag : Option Tag) (n : ℕ) → length list ≤ max_tokens → reading tables units display list ≡ Reads body tag → P (record { number = n; display = display; body = body; tag = tag })
 
   abbrev pub OfPages : List (List Formula) → Type 0
   OfPages pages = All (All P) pages
@@ -129,8 +134,24 @@ few_items units tables display list body tag n few e = omega (arith, few, subst 
 pub formulas_few : (units : Units) (tables : CodeTables) (macros : Table) (tokens : List Token) (result : Result (List (List Formula)) DocError) → IsDocument result (document units tables macros tokens) → IfOk result HaveFewItems
 formulas_few units tables macros tokens result e = all_formulas HasFewItems units (few_items units) tables macros tokens result e
 
+equations_few : (rows : List Equation) → length rows ≤ equations_items rows
+equations_few [] = omega arith
+equations_few (e ∷ es) = omega (arith, equations_few es)
+
+lines_few : (rows : Rows) → rows_length rows ≤ rows_items rows
+lines_few NoRows = omega arith
+lines_few (MoreRows row rows) = omega (arith, lines_few rows)
+
+rows_few : (body : Body) → body_rows body ≤ body_items body
+rows_few (ListBody list) = omega arith
+rows_few (Equations left rows) = equations_few rows
+rows_few (Lines rows) = lines_few rows
+
 modest : (units : Units) → HoldsOfRead HasModestLists units
-modest units tables display list body tag n few e = formula_modest tables units display list (body, tag) e few
+modest units tables display list body tag n few e = record {
+  lists = formula_modest tables units display list (body, tag) e few;
+  rows = omega (arith, few_items units tables display list body tag n few e, rows_few body);
+}
 
 pub formulas_modest : (units : Units) (tables : CodeTables) (macros : Table) (tokens : List Token) (result : Result (List (List Formula)) DocError) → IsDocument result (document units tables macros tokens) → IfOk result IsModestDocument
 formulas_modest units tables macros tokens result e = all_formulas HasModestLists units (modest units) tables macros tokens result e

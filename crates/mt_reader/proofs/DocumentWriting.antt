@@ -7,6 +7,7 @@ use Rattle.mt_macro.specs.Table.{Table}
 use Rattle.mt_rules.specs.Sequence.{Element}
 use Rattle.mt_plain.specs.CodeTables.{plain_codes}
 use Rattle.mt_plain.specs.PlainMacros.{plain_table}
+use Rattle.mt_rules.specs.declared.document.Body.TheVariants.{List as ListBody}
 use Rattle.mt_rules.specs.declared.document.Formula.{Formula}
 use Rattle.mt_reader.specs.Documents.{DocumentAnswer, document, document_from, start_state}
 use Rattle.mt_formula.proofs.Writing.{tokens_of, toy_units, seq}
@@ -36,10 +37,10 @@ abbrev pub after_definitions : ℕ → List ℕ → DocumentAnswer
 after_definitions count text = document_from toy_units (record (start_state plain_codes (own_names 0 count)) { count = 7 }) (source text)
 
 abbrev pub entry : ℕ → List Element → Formula
-entry n es = record { number = n; display = false; body = seq es; tag = None }
+entry n es = record { number = n; display = false; body = ListBody (seq es); tag = None }
 
 abbrev pub shown : ℕ → List Element → Formula
-shown n es = record { number = n; display = true; body = seq es; tag = None }
+shown n es = record { number = n; display = true; body = ListBody (seq es); tag = None }
 
 abbrev pub shown_with : ℕ → Bool → List Element → List Element → Formula
-shown_with n left es ns = record { number = n; display = true; body = seq es; tag = Some (record { body = seq ns; left = left }) }
+shown_with n left es ns = record { number = n; display = true; body = ListBody (seq es); tag = Some (record { body = seq ns; left = left }) }

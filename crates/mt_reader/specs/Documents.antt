@@ -19,7 +19,7 @@ use Rattle.mt_reader.specs.declared.outside_cause.OutsideCause.{OutsideCause}
 use Rattle.mt_reader.specs.declared.outside_cause.OutsideCause.TheVariants as causes
 use Rattle.mt_reader.specs.declared.outside_role.OutsideRole.{OutsideRole}
 use Rattle.mt_reader.specs.declared.outside_role.OutsideRole.TheVariants.{Passed, Defines, SetsMathCode, SetsDelimiterCode, BeginsFormula, EndsPage, EndsDocument, Misplaced}
-use Rattle.mt_rules.specs.Sequence.{Sequence}
+use Rattle.mt_rules.specs.declared.document.Body.{Body}
 use Rattle.mt_rules.specs.declared.document.Formula.{Formula}
 use Rattle.mt_rules.specs.declared.document.Tag.{Tag}
 use Rattle.mt_formula.specs.Formulas.{Reading, Reads, ReadFault, NotReadInTurns, reading}
@@ -121,7 +121,7 @@ abbrev pub is_page_limit : DocumentState → Bool
 is_page_limit s = is_empty_page s.page && (length s.pages == max_document_pages)
 
 -- after a formula, with which so many tokens are read
-abbrev pub with_formula : DocumentState → Bool → ℕ → Sequence → Option Tag → DocumentState
+abbrev pub with_formula : DocumentState → Bool → ℕ → Body → Option Tag → DocumentState
 with_formula s display total body tag =
     let formula : Formula = record { number = s.count + 1; display = display; body = body; tag = tag } in
     record s { page = s.page ++ formula ∷ []; count = s.count + 1; total = total }

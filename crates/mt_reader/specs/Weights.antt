@@ -1,9 +1,9 @@
 -- How many formulas a document has, each display counted twice (`pages_weight`), and how great each of them is
 -- (`HaveFewItems`, `IsModestDocument`).
-use Rattle.std.specs.Prelude.{ℕ, ◌*◌, ◌≤◌, Bool, List, All, sum_by, if◌then◌else◌}
+use Rattle.std.specs.Prelude.{ℕ, ◌*◌, ◌≤◌, ◌^◌, Bool, List, All, sum_by, if◌then◌else◌}
 use Rattle.mt_macro.specs.Limits.{max_tokens}
 use Rattle.mt_rules.specs.declared.document.Formula.{Formula}
-use Rattle.mt_formula.specs.Counts.{formula_items, IsModestFormula}
+use Rattle.mt_formula.specs.Counts.{body_rows, formula_items, IsModestFormula}
 
 -- so many dollars stand at each side of it
 abbrev pub dollars : Bool → ℕ
@@ -25,9 +25,10 @@ HasFewItems f = formula_items (f.body, f.tag) ≤ 4 * max_tokens
 abbrev pub HaveFewItems : List (List Formula) → Type 0
 HaveFewItems pages = All (All HasFewItems) pages
 
--- body and number of each formula can be set within bounds
-abbrev pub HasModestLists : Formula → Type 0
-HasModestLists f = IsModestFormula (f.body, f.tag)
+-- body and number of each formula can be set within bounds, and a display of several lines has at most 2^18
+pub record HasModestLists (f : Formula) : Type 0 where
+  pub lists : IsModestFormula (f.body, f.tag)
+  pub rows : body_rows f.body ≤ 2 ^ 18
 
 abbrev pub IsModestDocument : List (List Formula) → Type 0
 IsModestDocument pages = All (All HasModestLists) pages

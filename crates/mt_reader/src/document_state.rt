@@ -18,7 +18,7 @@ use crate::definitions::MacroDefinition;
 use mt_formula::{ReadError, read_formula};
 use mt_macro::{ExpandError, MacroError, Macros, expand, expands_to_itself};
 use mt_plain::{CodeError, Codes, plain_macros};
-use mt_rules::{Formula, MathList, Page, Tag};
+use mt_rules::{Body, Formula, Page, Tag};
 use mt_scaled::{Items, Units};
 use mt_scan::Fault;
 use mt_token::{Token, TokenList};
@@ -137,7 +137,7 @@ impl DocumentState {
         units: Units,
         display: bool,
         list: &[Token],
-    ) -> Result<(MathList, Option<Tag>), ReadError>
+    ) -> Result<(Body, Option<Tag>), ReadError>
         requires length { length list.now ≤ 2 ^ 31 }
         requires em { Within (2 ^ 31) units.em }
         requires ex { Within (2 ^ 31) units.ex }
@@ -150,7 +150,7 @@ impl DocumentState {
     pub fn push(
         &mut self,
         display: bool,
-        body: MathList,
+        body: Body,
         tag: Option<Tag>,
         total: u64,
     ) -> Result<(), AllocError>

@@ -8,12 +8,14 @@ mod document_state;
 mod document_turn;
 mod documents;
 mod dollars;
+mod formula_search;
 mod outside_cause;
 mod outside_role;
 mod page_reader;
 
 pub use document_error::DocError;
 pub use documents::{read_document, source_tokens};
+pub use formula_search::{FormulaWanted, SourceFormula, find_formula};
 pub use mt_formula::{ReadError, read_formula};
 pub use outside_cause::OutsideCause;
 pub use page_reader::PageReader;

@@ -1,15 +1,19 @@
--- Rows and lines that the code makes (`IsRow`, `IsLines`), and what holds of them (`AreLaid`).
-use Rattle.std.specs.Prelude.{ℕ, ◌≤◌, ◌-◌, ◌^◌, List, length, All, IfSome, Option, Some, None, Result, Ok, Err, ⊤}
+-- Rows, boxes and lines that the code makes (`IsRow`, `AreBoxes`, `IsLines`), and what holds of them (`AreLaid`).
+use Rattle.std.specs.Prelude.{ℕ, ◌≤◌, ◌-◌, ◌^◌, List, length, map, All, IfSome, Option, Some, None, Result, Ok, Err, ⊤}
 use Rattle.std.specs.Option.{option_map}
 use Rattle.mt_scaled.specs.Number.{Within}
 use Rattle.mt_family.specs.SetValue.{SetValue}
 use Rattle.mt_box.specs.declared.piece.Piece.{Piece}
+use Rattle.mt_box.specs.Layout.{BoxValue, Layout, layout_of}
 use Rattle.mt_box.specs.Rows.{AllModest, PieceValue, piece_values, row_level}
 use Rattle.mt_convert.specs.Holding.{PlaceHolds, RowHolds}
 use Rattle.mt_display.specs.declared.line.Line.{Line as LineFields}
 use Rattle.mt_display.specs.declared.line.Numbered.{Numbered}
 use Rattle.mt_display.specs.Displays.{NumberFits, NumberValue, number_value}
 use Rattle.mt_display.specs.Lines.{LineValue, line_values}
+use Rattle.mt_display.specs.DisplayLines.{boxes_level, equation_layout, equation_level, equations_level}
+use Rattle.mt_display.specs.declared.equations.EquationRow.{EquationRow}
+use Rattle.mt_rules.specs.DisplayRows.{EquationLayout}
 use Rattle.mt_pages.specs.Pages.{PageLinesValue}
 use Rattle.mt_status.specs.Origins.{IsPure}
 use Rattle.mt_pages.specs.declared.page_lines.PageLines.{PageLines}
@@ -47,6 +51,68 @@ NumberHolds fonts (Some n) = RowHolds fonts n.row
 pub record NumberStands (fonts : SetValue) (number : Option Numbered) : Type 0 where
   pub fits : IfSome number NumberFits
   pub holds : NumberHolds fonts (option_map number_value number)
+
+-- ---- the boxes of several lines
+
+abbrev pub box_by : Result BoxValue Status → Result Layout Status
+box_by (Ok b) = Ok (layout_of b)
+box_by (Err status) = Err status
+
+-- its layout is that of the step's answer
+abbrev pub IsBox : Result Layout Status → Result BoxValue Status → Type 0
+IsBox step result = IsPure step (box_by result)
+
+abbrev pub boxes_by : Result (List BoxValue) Status → Result (List Layout) Status
+boxes_by (Ok boxes) = Ok (map layout_of boxes)
+boxes_by (Err status) = Err status
+
+abbrev pub AreBoxes : Result (List Layout) Status → Result (List BoxValue) Status → Type 0
+AreBoxes step result = IsPure step (boxes_by result)
+
+abbrev pub equation_by : Result EquationRow Status → Result EquationLayout Status
+equation_by (Ok row) = Ok (equation_layout row)
+equation_by (Err status) = Err status
+
+abbrev pub IsEquation : Result EquationLayout Status → Result EquationRow Status → Type 0
+IsEquation step result = IsPure step (equation_by result)
+
+abbrev pub equations_by : Result (List EquationRow) Status → Result (List EquationLayout) Status
+equations_by (Ok rows) = Ok (map equation_layout rows)
+equations_by (Err status) = Err status
+
+abbrev pub AreEquations : Result (List EquationLayout) Status → Result (List EquationRow) Status → Type 0
+AreEquations step result = IsPure step (equations_by result)
+
+-- the glyphs of a box exist, and its rules mark something
+abbrev pub BoxHolds : SetValue → Layout → Type 0
+BoxHolds fonts l = All (PlaceHolds fonts) l.places
+
+-- and a box that can stand in a row of a display
+pub record BoxStands (fonts : SetValue) (b : BoxValue) : Type 0 where
+  pub level : b.level ≤ 2 ^ 20 - 3
+  pub holds : BoxHolds fonts (layout_of b)
+
+pub record EquationHolds (fonts : SetValue) (e : EquationLayout) : Type 0 where
+  pub first : BoxHolds fonts e.first
+  pub second : BoxHolds fonts e.second
+  pub number : BoxHolds fonts e.number
+
+pub record EquationStands (fonts : SetValue) (row : EquationRow) : Type 0 where
+  pub level : equation_level row ≤ 2 ^ 20 - 3
+  pub holds : EquationHolds fonts (equation_layout row)
+
+-- the rows of a display
+pub record BoxesStand (fonts : SetValue) (boxes : List BoxValue) : Type 0 where
+  pub few : length boxes ≤ 2 ^ 19
+  pub level : boxes_level boxes ≤ 2 ^ 20 - 3
+  pub holds : All (BoxHolds fonts) (map layout_of boxes)
+
+pub record EquationsStand (fonts : SetValue) (rows : List EquationRow) : Type 0 where
+  pub few : length rows ≤ 2 ^ 19
+  pub level : equations_level rows ≤ 2 ^ 20 - 3
+  pub holds : All (EquationHolds fonts) (map equation_layout rows)
+
+-- ---- lines
 
 abbrev pub lines_by : Result (List LineFields) Status → Result (List LineValue) Status
 lines_by (Ok lines) = Ok (line_values lines)

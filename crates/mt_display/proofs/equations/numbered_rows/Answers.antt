@@ -1,0 +1,29 @@
+use Rattle.std.proofs.Common.{◌∙◌}
+use Rattle.mt_box.proofs.Lists.{no_more}
+use Rattle.mt_rules.specs.DisplayRows.{equation_row}
+use Rattle.mt_display.specs.DisplayLines.{equation_layout, equation_level}
+use Rattle.mt_display.proofs.RowMaps.{made_start, made_step, made_values, made_level, next_level}
+use Rattle.mt_display.proofs.equations.numbered_rows.Goals as goal
+
+pub loop-row-init : goal.loop-row-init
+loop-row-init c = (
+  tt,
+  tt,
+  made_start equation_level equation_layout (equation_row c.args.place.line.sp c.args.place.axis.sp c.args.place.left) c.args.rows _ _ (c.into_iter-row-iterator.ensures.into_iter_gives.0 ∙ c.into_vec-row-items.ensures) c.in_ok-made.ensures.items,
+)
+
+pub numbered-requires-clause-level : goal.numbered-requires-clause-level
+numbered-requires-clause-level c = next_level equation_level equation_layout (equation_row c.args.place.line.sp c.args.place.axis.sp c.args.place.left) c.args.rows _ _ c.in-Some.row _ c.loop-row.invariant.2 c.in-Some.ensures.steps.0 c.requires.level
+
+pub loop-row-preserved : goal.loop-row-preserved
+loop-row-preserved c = (
+  tt,
+  tt,
+  made_step equation_level equation_layout (equation_row c.args.place.line.sp c.args.place.axis.sp c.args.place.left) c.args.rows _ _ c.in-Some.row _ _ c.in_ok-row.row c.loop-row.invariant.2 c.in-Some.ensures.steps.0 c.in_ok-row.ensures.is c.in_ok-row.ensures.level c.in_ok-push_box.ensures,
+)
+
+pub returns-clause-is : goal.returns-clause-is
+returns-clause-is c = rw c.from_vec.ensures (made_values equation_level equation_layout (equation_row c.args.place.line.sp c.args.place.axis.sp c.args.place.left) c.args.rows _ _ c.loop-row.invariant.2 (no_more _ _ c.loop-row.row-iterator.rest.ok.0 c.in-None.ensures.steps.0))
+
+pub returns-clause-level : goal.returns-clause-level
+returns-clause-level c = rw c.from_vec.ensures (made_level equation_level equation_layout (equation_row c.args.place.line.sp c.args.place.axis.sp c.args.place.left) c.args.rows _ _ c.loop-row.invariant.2)

@@ -1,0 +1,161 @@
+-- The rows of a display of several lines, one after another, and the places of their line.
+use Rattle.std.proofs.Common.{◌≡◌, ℕ, ℤ, pos, ◌-ℤ◌, ◌+◌, ◌-◌, ◌≤◌, ◌^◌, max, Bool, List, [], ◌∷◌, ◌++◌, length, length-append, map, refl, sym, ◌∙◌, ap, subst, arith, All}
+use Rattle.std.proofs.lemmas.List.Elements.{All-append, All-cons, All-head, All-nil, All-tail}
+use Rattle.std.specs.Prelude.{None, Result, Ok, Err}
+use Rattle.mt_box.specs.Extents.{first_out}
+use Rattle.mt_box.specs.Layout.{Layout, all_moved}
+use Rattle.mt_box.specs.Rows.{PieceValue, pack}
+use Rattle.mt_box.specs.declared.place.Place.{Place}
+use Rattle.mt_box.proofs.Still.{IsStill, moved_have, pack_has}
+use Rattle.mt_scaled.specs.Results.{◌>>=◌}
+use Rattle.mt_family.specs.SetValue.{SetValue}
+use Rattle.mt_rules.specs.DisplayRows.{EquationLayout, centred_row, equation_row, equation_rows, equations_axis, equations_line, margin, number_place, rows_line, stacked_rows}
+use Rattle.mt_rules.specs.Setting.{make_box, pack_row}
+use Rattle.mt_rules.specs.declared.style.Style.{Style}
+use Rattle.mt_rules.specs.Rows.{rows_of}
+use Rattle.mt_rules.specs.Sequence.{Sequence, Rows, NoRows, MoreRows, rows_length}
+use Rattle.mt_rules.specs.Tables.{open_gap, open_places, rows_places}
+use Rattle.mt_convert.specs.Holding.{PlaceHolds, RowHolds}
+use Rattle.mt_display.specs.DisplayLines.{at_left_end, equation_lines, greatest_level, row_lines}
+use Rattle.mt_display.specs.Displays.{one_line}
+use Rattle.mt_display.specs.Lines.{LineValue}
+use Rattle.mt_display.proofs.PagePlaces.{LineHas, are, made_then, one_has}
+use Rattle.mt_pages.specs.FormulaLines.{each_set, formula_box, formula_row, lists_of, set_by}
+use Rattle.mt_pages.specs.inner.Lines.{BoxHolds, EquationHolds, LinesHold}
+use Rattle.mt_pages.proofs.PageLemmas.{places_still, row_has}
+use Rattle.mt_status.specs.Origins.{IsPure}
+use Rattle.mt_status.specs.declared.status.Status.{Status}
+use Rattle.mt_status.proofs.PureLemmas.{pure_err, pure_then}
+
+-- ---- rows that are set one after another
+
+-- rows that are set as a step says and seen as `view` says, whose level is low and of which Q holds
+pub record RowsSet {A R B : Type 0} (set : A → Result B Status) (view : R → B) (level : R → ℕ) (Q : B → Type 0) (all rest : List A) (made : List R) : Type 0 where
+  pub is : each_set set [] all ≡ each_set set (map view made) rest
+  pub count : length made + length rest ≡ length all
+  pub level_low : greatest_level level made ≤ 2 ^ 20 - 3
+  pub holds : All Q (map view made)
+
+map-append : {R B : Type 0} (view : R → B) (made : List R) (r : R) → map view (made ++ r ∷ []) ≡ map view made ++ view r ∷ []
+map-append view [] r = refl
+map-append view (m ∷ made) r = ap (λ rows. view m ∷ rows) (map-append view made r)
+
+level-append : {R : Type 0} (level : R → ℕ) (made : List R) (r : R) → greatest_level level made ≤ 2 ^ 20 - 3 → level r ≤ 2 ^ 20 - 3 → greatest_level level (made ++ r ∷ []) ≤ 2 ^ 20 - 3
+level-append level [] r low deep = omega (arith, deep)
+level-append level (m ∷ made) r low deep = omega (arith, low, level-append level made r (omega (arith, low)) deep)
+
+module _ {A R B : Type 0} (set : A → Result B Status) (view : R → B) (level : R → ℕ) (Q : B → Type 0) where
+  pub rows_start : (all rest : List A) (made : List R) → rest ≡ all → made ≡ [] → RowsSet set view level Q all rest made
+  rows_start all rest made e m = rw (e, m) (record { is = refl; count = omega arith; level_low = omega arith; holds = All-nil Q })
+
+  pub rows_next : (all rest rest' : List A) (x : A) (made made' : List R) (r : R) → RowsSet set view level Q all rest made → rest ≡ x ∷ rest' → set x ≡ Ok (view r) → level r ≤ 2 ^ 20 - 3 → Q (view r) → made' ≡ made ++ r ∷ []
+      → RowsSet set view level Q all rest' made'
+  rows_next all rest rest' x made made' r h e is deep q m =
+      let h' : RowsSet set view level Q all (x ∷ rest') made = subst (λ (xs : List A). RowsSet set view level Q all xs made) e h in
+      rw m (record {
+        is =
+            h'.is ∙ ap (λ (b : Result B Status). b >>= (λ box. each_set set (map view made ++ box ∷ []) rest')) is
+            ∙ ap (λ (boxes : List B). each_set set boxes rest') (sym (map-append view made r));
+        count = omega (arith, h'.count, length-append made (r ∷ []));
+        level_low = level-append level made r h'.level_low deep;
+        holds = subst (λ (boxes : List B). All Q boxes) (sym (map-append view made r)) (All-append Q (map view made) (view r ∷ []) h'.holds (All-cons Q (view r) [] q (All-nil Q)));
+      })
+
+  pub rows_err : (all rest rest' : List A) (x : A) (made : List R) (status : Status) → RowsSet set view level Q all rest made → rest ≡ x ∷ rest' → IsPure (set x) (Err status) → IsPure (each_set set [] all) (Err status)
+  rows_err all rest rest' x made status h e is =
+      let h' : RowsSet set view level Q all (x ∷ rest') made = subst (λ (xs : List A). RowsSet set view level Q all xs made) e h in
+      subst (λ (boxes : Result (List B) Status). IsPure boxes (Err status)) (sym h'.is)
+      (pure_err (set x) (λ box. each_set set (map view made ++ box ∷ []) rest') status is)
+
+  pub rows_done : (all rest : List A) (made : List R) → RowsSet set view level Q all rest made → rest ≡ [] → each_set set [] all ≡ Ok (map view made)
+  rows_done all rest made h e =
+      let h' : RowsSet set view level Q all [] made = subst (λ (xs : List A). RowsSet set view level Q all xs made) e h in
+      h'.is
+
+pub lists_back : (rows : List Sequence) → lists_of (rows_of rows) ≡ rows
+lists_back [] = refl
+lists_back (list ∷ rows) = ap (λ (ls : List Sequence). list ∷ ls) (lists_back rows)
+
+pub lists_few : (rows : Rows) → length (lists_of rows) ≡ rows_length rows
+lists_few NoRows = refl
+lists_few (MoreRows list rows) = omega (arith, lists_few rows)
+
+-- ---- the places of their line
+
+box_made : (n : ℕ) (row : List PieceValue) (l : Layout) → l ≡ pack row → first_out (pack row).extents ≡ None → set_by n (pack_row row) ≡ Ok l
+box_made n row l e none = rw none (ap (λ (x : Layout). (let r : Result Layout Status = Ok x in r)) (sym e))
+
+module _ (set : SetValue) (n : ℕ) (style : Style) (list : Sequence) (row : List PieceValue) where
+  -- the box of a list, whose row is set
+  pub formula_boxed : (l : Layout) → formula_row set n style list ≡ Ok row → l ≡ pack row → first_out (pack row).extents ≡ None → formula_box set n style list ≡ Ok l
+  formula_boxed l is e none = ap (λ (r : Result (List PieceValue) Status). r >>= (λ row. set_by n (pack_row row))) is ∙ box_made n row l e none
+
+  pub formula_not_boxed : (status : Status) → formula_row set n style list ≡ Ok row → IsPure (set_by n (pack_row row)) (Err status) → IsPure (formula_box set n style list) (Err status)
+  formula_not_boxed status is fails = pure_then (formula_row set n style list) row (λ row. set_by n (pack_row row)) (Err status) is fails
+
+-- a box of a row whose pieces hold
+pub box_holds : (set : SetValue) (row : List PieceValue) (l : Layout) → RowHolds set row → l ≡ pack row → BoxHolds set l
+box_holds set row l holds is = subst (BoxHolds set) (sym is) (pack_has (PlaceHolds set) (places_still set) row (row_has set row holds))
+
+module _ (set : SetValue) where
+  moved_hold : (x y : ℤ) (ps : List Place) → All (PlaceHolds set) ps → All (PlaceHolds set) (all_moved x y ps)
+  moved_hold x y ps h = moved_have (PlaceHolds set) (places_still set) x y ps h
+
+  below_hold : (y depth : ℤ) (ls : List Layout) → All (BoxHolds set) ls → All (PlaceHolds set) (rows_places open_gap y depth ls)
+  below_hold y depth [] h = All-nil (PlaceHolds set)
+  below_hold y depth (l ∷ ls) h =
+      let baseline = (y -ℤ open_gap depth l.extents.height) -ℤ l.extents.height in
+      All-append (PlaceHolds set) (all_moved (pos 0) baseline l.places) (rows_places open_gap (baseline -ℤ l.extents.depth) l.extents.depth ls)
+      (moved_hold (pos 0) baseline l.places (All-head (BoxHolds set) l ls h)) (below_hold (baseline -ℤ l.extents.depth) l.extents.depth ls (All-tail (BoxHolds set) l ls h))
+
+  open_hold : (y : ℤ) (ls : List Layout) → All (BoxHolds set) ls → All (PlaceHolds set) (open_places y ls)
+  open_hold y [] h = All-nil (PlaceHolds set)
+  open_hold y (l ∷ ls) h =
+      let baseline = y -ℤ l.extents.height in
+      All-append (PlaceHolds set) (all_moved (pos 0) baseline l.places) (rows_places open_gap (baseline -ℤ l.extents.depth) l.extents.depth ls)
+      (moved_hold (pos 0) baseline l.places (All-head (BoxHolds set) l ls h)) (below_hold (baseline -ℤ l.extents.depth) l.extents.depth ls (All-tail (BoxHolds set) l ls h))
+
+  stacked_hold : (width : ℤ) (ls : List Layout) → All (BoxHolds set) ls → BoxHolds set (stacked_rows width ls)
+  stacked_hold width ls h = open_hold (stacked_rows width ls).extents.height ls h
+
+  -- a line that was made
+  line_holds : (l : Layout) (lines : List LineValue) → BoxHolds set l → at_left_end (make_box l) ≡ Ok lines → LinesHold set lines
+  line_holds l lines h is =
+      are (PlaceHolds set) (one_line (pos 0) l) lines (one_has (PlaceHolds set) (places_still set) (pos 0) l h)
+      (made_then (first_out l.extents) l (λ body. Ok (one_line (pos 0) body)) lines is)
+
+  -- ---- rows in the middle
+
+  centred_hold : (width : ℤ) (ls : List Layout) → All (BoxHolds set) ls → All (BoxHolds set) (map (centred_row width) ls)
+  centred_hold width [] h = All-nil (BoxHolds set)
+  centred_hold width (l ∷ ls) h =
+      All-cons (BoxHolds set) (centred_row width l) (map (centred_row width) ls)
+      (moved_hold (margin (width -ℤ l.extents.width)) (pos 0) l.places (All-head (BoxHolds set) l ls h)) (centred_hold width ls (All-tail (BoxHolds set) l ls h))
+
+  pub rows_hold : (width : ℤ) (ls : List Layout) (lines : List LineValue) → All (BoxHolds set) ls → row_lines ls width ≡ Ok lines → LinesHold set lines
+  unfolding rows_line
+  rows_hold width ls lines h is =
+      line_holds (stacked_rows width (map (centred_row width) ls)) lines (stacked_hold width (map (centred_row width) ls) (centred_hold width ls h)) is
+
+  -- ---- equations
+
+  equation_hold : (width x : ℤ) (left : Bool) (e : EquationLayout) → EquationHolds set e → BoxHolds set (equation_row width x left e)
+  equation_hold width x left e h =
+      let at = number_place width left e.number.extents.width in
+      let number = moved_hold at (pos 0) e.number.places h.number in
+      let second = moved_hold x (pos 0) e.second.places h.second in
+      let first = moved_hold (x -ℤ e.first.extents.width) (pos 0) e.first.places h.first in
+      let two = All-append (PlaceHolds set) (all_moved x (pos 0) e.second.places) (all_moved at (pos 0) e.number.places) second number in
+      All-append (PlaceHolds set) (all_moved (x -ℤ e.first.extents.width) (pos 0) e.first.places) (all_moved x (pos 0) e.second.places ++ all_moved at (pos 0) e.number.places) first two
+
+  each_equation : (width x : ℤ) (left : Bool) (es : List EquationLayout) → All (EquationHolds set) es → All (BoxHolds set) (map (equation_row width x left) es)
+  each_equation width x left [] h = All-nil (BoxHolds set)
+  each_equation width x left (e ∷ es) h =
+      All-cons (BoxHolds set) (equation_row width x left e) (map (equation_row width x left) es)
+      (equation_hold width x left e (All-head (EquationHolds set) e es h)) (each_equation width x left es (All-tail (EquationHolds set) e es h))
+
+  pub equations_hold : (width : ℤ) (left : Bool) (es : List EquationLayout) (lines : List LineValue) → All (EquationHolds set) es → equation_lines es left width ≡ Ok lines → LinesHold set lines
+  unfolding equations_line
+  equations_hold width left es lines h is =
+      line_holds (stacked_rows width (equation_rows width left es)) lines
+      (stacked_hold width (equation_rows width left es) (each_equation width (equations_axis width es) left es h)) is
