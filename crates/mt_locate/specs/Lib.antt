@@ -1,0 +1,6 @@
+-- where a byte of a text stands, and the line that it stands in
+pub mod Positions
+-- which columns of a long line are shown
+pub mod Windows
+-- places in a source
+pub mod Places

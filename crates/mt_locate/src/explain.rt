@@ -1,0 +1,169 @@
+//! What a refusal means and where it stands, for a person: the lines that main writes below the log's.
+use crate::excerpt::{push_excerpt, push_place};
+use crate::files::{fetched, fetched_list};
+use crate::font_lines::explain_fonts;
+use crate::matter::{family_of, push_explanation, push_font_words};
+use crate::names::push_unknown_name;
+use crate::places::{Located, locate};
+use crate::text::{push_number, push_texts};
+use mt_family::{FontList, Size};
+use mt_outside::{Cabinet, Sink, write_all};
+use mt_reader::ReadError;
+use mt_scaled::{Bytes, Items};
+use mt_status::{Status, write_explanation};
+use mt_token::MAX_SOURCE;
+use mt_words::{Request, Source, read_words};
+use std::alloc::{AllocError, Global};
+
+// Whether a cause is that of a name that means nothing.
+fn is_unknown_name(cause: u8) -> bool {
+    cause == ReadError::UnknownName(0).number()
+}
+
+// Adds what is the matter at a place of the source.
+fn push_matter(
+    alloc: Global,
+    out: &mut Vec<u8>,
+    status: &Status,
+    located: &Located,
+) -> Result<(), AllocError> {
+    match (status, &located.name) {
+        (Status::BadFormula { n, cause, .. }, Some(name)) if is_unknown_name(*cause) => {
+            push_texts(out, &[b"formula "])?;
+            push_number(out, *n)?;
+            push_texts(out, &[b": "])?;
+            push_unknown_name(out, name.as_slice())
+        }
+        _ => push_explanation(alloc, out, status),
+    }
+}
+
+// Adds where the macro is defined in whose expansion the fault is found.
+fn push_call(out: &mut Vec<u8>, file: &str, located: &Located) -> Result<(), AllocError> {
+    let Some(call) = &located.call else {
+        return Ok(());
+    };
+    push_texts(
+        out,
+        &[
+            b"in the expansion of \\",
+            call.name.as_slice(),
+            b", defined at ",
+        ],
+    )?;
+    push_place(out, file, call.place)?;
+    push_texts(out, &[b"\n"])
+}
+
+// The lines for a place in a source.
+fn source_lines(
+    alloc: Global,
+    file: &str,
+    source: &[u8],
+    status: &Status,
+    list: Option<&FontList>,
+) -> Result<Option<Bytes>, AllocError> {
+    let Some(located) = locate(alloc, source, status)? else {
+        return Ok(None);
+    };
+    let mut out = Vec::new(alloc);
+    push_place(&mut out, file, located.place)?;
+    push_texts(&mut out, &[b": "])?;
+    push_matter(alloc, &mut out, status, &located)?;
+    push_font_words(&mut out, status, list)?;
+    push_texts(&mut out, &[b"\n"])?;
+    push_call(&mut out, file, &located)?;
+    push_excerpt(&mut out, source, located.place)?;
+    Ok(Some(Items::from_vec(out)))
+}
+
+// The font list of the words, where a status of a formula names a family.
+fn list_for<C: Cabinet>(
+    alloc: Global,
+    words: &Source<'_>,
+    status: &Status,
+    cabinet: &mut C,
+) -> Result<Option<FontList>, AllocError> {
+    match family_of(status) {
+        Some(_) => fetched_list(alloc, cabinet, words.fonts),
+        None => Ok(None),
+    }
+}
+
+// Whether a status may tell a place in a source.
+fn is_of_source(status: &Status) -> bool {
+    match status {
+        Status::BadSource { .. }
+        | Status::BadFormula { .. }
+        | Status::Budget { .. }
+        | Status::MissingFamily { .. }
+        | Status::MissingChar { .. }
+        | Status::SmartLigature { .. }
+        | Status::Overflow { .. }
+        | Status::TooTall { .. }
+        | Status::TooDeep { .. }
+        | Status::TooMuch { .. } => true,
+        _ => false,
+    }
+}
+
+// Fetches nothing where the status is not of a source.
+fn explain_source<C: Cabinet>(
+    alloc: Global,
+    words: &Source<'_>,
+    status: &Status,
+    cabinet: &mut C,
+) -> Result<Option<Bytes>, AllocError> {
+    if !is_of_source(status) {
+        return Ok(None);
+    }
+    let list = list_for(alloc, words, status, cabinet)?;
+    let Some(source) = fetched(alloc, cabinet, words.source, MAX_SOURCE as u64)? else {
+        return Ok(None);
+    };
+    source_lines(
+        alloc,
+        words.source,
+        source.as_slice(),
+        status,
+        list.as_ref(),
+    )
+}
+
+// What is said of a refusal beyond its explanation; `None` where nothing is.
+fn explained<C: Cabinet>(
+    alloc: Global,
+    words: &[String],
+    status: &Status,
+    cabinet: &mut C,
+) -> Result<Option<Bytes>, AllocError> {
+    match read_words(alloc, words)? {
+        Some(Request::Set(words)) | Some(Request::Places(words)) => {
+            match explain_fonts(alloc, words.fonts, status, cabinet)? {
+                Some(text) => Ok(Some(text)),
+                None => explain_source(alloc, &words, status, cabinet),
+            }
+        }
+        Some(Request::Read(words)) => explain_fonts(alloc, words.fonts, status, cabinet),
+        _ => Ok(None),
+    }
+}
+
+/// Writes what a refusal means and where it stands, for a person, and nothing for `Done`; docs/FORMATS.md has the lines
+/// ("Explanations"). The font list or the source that the words name is fetched once more. Where it cannot be had, or
+/// does not have what the status tells, these are the lines of `write_explanation`. A fault of the stream changes nothing
+/// else.
+pub fn write_located<C: Cabinet, L: Sink>(
+    alloc: Global,
+    words: &[String],
+    status: &Status,
+    cabinet: &mut C,
+    log: &mut L,
+) {
+    match explained(alloc, words, status, cabinet) {
+        Ok(Some(text)) => {
+            let _ = write_all(log, text.as_slice());
+        }
+        _ => write_explanation(log, status),
+    }
+}

@@ -1,0 +1,22 @@
+//! Where a refusal stands, for a person: the file, the line and the column, with the line shown, and the names of what is
+//! refused. [`write_located`] writes what the program says below the line of its log.
+#![tactic(auto)]
+
+mod excerpt;
+mod explain;
+mod fault;
+mod files;
+mod font_lines;
+mod fonts;
+mod matter;
+mod names;
+mod places;
+mod position;
+mod text;
+mod tokens;
+mod window;
+
+pub use explain::write_located;
+pub use places::{Located, MacroCall, Place, locate, place_at};
+pub use position::{Position, line_around, position_at};
+pub use window::{Window, shown_columns};
