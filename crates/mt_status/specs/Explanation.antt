@@ -1,4 +1,4 @@
--- The line that explains a refusal to a person (`explained`, `IsLine`).
+-- The line that explains a refusal to a person (`explained`, `IsLine`), and the lines of `usage`.
 use Rattle.std.specs.Prelude.{◌≡◌, ℕ, Bool, List, [], ◌∷◌, false, not, nat_eq, codes, decimal}
 use Rattle.std.specs.Borrow.{Bor}
 use Rattle.std.specs.List.{concat, list_all, list_any}
@@ -19,10 +19,17 @@ explained_at head place text = concat (head ∷ place ∷ codes ": " ∷ text �
 abbrev pub explained_whole : List ℕ → List ℕ
 explained_whole text = concat (text ∷ codes "\n" ∷ [])
 
+-- how the program is called
+unfoldable pub usage : List ℕ
+usage = concat (codes "usage: mathset [--line WIDTH] set FONTS SOURCE       as in: mathset set my.fonts my.tex > my.dvi\n"
+    ∷ codes "       mathset [--line WIDTH] places FONTS SOURCE    the places of the glyphs and rules as text\n"
+    ∷ codes "       mathset read FONTS DVI, or mathset gen SEED COUNT\n"
+    ∷ codes "       WIDTH is that of a line in scaled points: 6.5in = 30785863, which it is where it is not given" ∷ [])
+
 -- the place that the refusal tells, and a text about it
 abbrev pub explained : Status → List ℕ → List ℕ
 explained Done text = []
-explained BadWords text = explained_whole text
+explained BadWords text = explained_whole usage
 explained (ReadFault name) text = explained_at (codes "") name text
 explained (TooLong name) text = explained_at (codes "") name text
 explained (WriteFault written) text = explained_whole text

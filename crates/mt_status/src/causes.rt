@@ -43,18 +43,22 @@ const SOURCE_CAUSES: [&str; 2] = [
     "this byte cannot stand here",
 ];
 
-/// Why a token of a formula is refused, in the order of `ReadCause` of mt_scan.
-const READ_CAUSES: [&str; 10] = [
+/// Why a token of a formula is refused, in the order of `ReadError` of mt_formula. The eleventh, too many open groups, and
+/// the twelfth, want of memory, are statuses of their own.
+const READ_CAUSES: [&str; 13] = [
     "this name or character means nothing in a formula",
     "a second superscript, as a prime is one, or a second subscript",
     "a second \\over, or a word like it, in one group",
     "no delimiter where one must stand",
-    "a brace, \\right, \\middle, $, & or # that does not fit, or a group without its end",
+    "a brace, \\right, \\middle, \\cr, $, & or # that does not fit, or a group without its end",
     "\\limits, or a word like it, without a large operator before it",
     "no field, group or row where one must stand",
     "no number where one must stand, or one out of range",
     "no dimension where one must stand, or one out of range",
-    "\\eqno and \\leqno may stand once in a display, outside of groups",
+    "\\eqno and \\leqno may stand once in a display, outside of groups; \\eqalignno and its like are a whole display",
+    "",
+    "",
+    "at most two cells stand in a row of \\eqalign, three in one of \\eqalignno, one in one of \\displaylines",
 ];
 
 /// Why a macro of a formula is refused (`MISSING_ARGUMENT`).

@@ -2,7 +2,7 @@
 ghost use Rattle.std.specs.Prelude.{◌≡◌, ◌∷◌, [], List, ℕ, codes};
 ghost use Rattle.std.specs.List.{concat};
 ghost use Rattle.mt_status.specs.Log.{Gets};
-ghost use Rattle.mt_status.specs.Explanation.{IsLine, explained};
+ghost use Rattle.mt_status.specs.Explanation.{IsLine, explained, usage};
 ghost use Rattle.mt_status.specs.inner.LogParts.{part_bytes};
 
 use crate::causes::{dvi_cause, family_cause, font_cause, list_cause, source_cause, token_cause};
@@ -11,8 +11,18 @@ use crate::status::{Much, Status};
 use mt_outside::Sink;
 
 const USAGE: &str =
-    "usage: mathset [--line SP] set FONTS SOURCE, mathset [--line SP] places FONTS SOURCE, \
-     mathset read FONTS DVI, or mathset gen SEED COUNT";
+    "usage: mathset [--line WIDTH] set FONTS SOURCE       as in: mathset set my.fonts my.tex > my.dvi\n       \
+     mathset [--line WIDTH] places FONTS SOURCE    the places of the glyphs and rules as text\n       \
+     mathset read FONTS DVI, or mathset gen SEED COUNT\n       \
+     WIDTH is that of a line in scaled points: 6.5in = 30785863, which it is where it is not given";
+
+// How the program is called, in four lines.
+#[tactic(auto, unfolding(crate::specs::Explanation::usage))]
+fn usage() -> &'static str
+    ensures { result.now ≡ usage }
+{
+    USAGE
+}
 
 fn too_much(kind: Much) -> &'static str
     ensures { IsLine result.now }
@@ -45,8 +55,7 @@ fn explanation(status: &Status) -> &'static str
     ensures { IsLine result.now }
 {
     match status {
-        Status::Done => "",
-        Status::BadWords => USAGE,
+        Status::Done | Status::BadWords => "",
         Status::ReadFault { .. } => "the file is not there, is a folder, or may not be read",
         Status::TooLong { .. } => {
             "at most 65,536 bytes in a font list, 131,068 in a TFM file, 4,194,304 in a source, \
@@ -119,15 +128,15 @@ fn write_explained<L: Sink>(log: &mut L, status: &Status, text: &str)
         Status::BadDvi { offset, .. } => {
             write_at(log, b"dvi byte ", LogPart::Long(*offset), text)
         }
-        Status::BadWords
-        | Status::WriteFault { .. }
-        | Status::TooMuch { .. }
-        | Status::OutOfMemory => write_whole(log, text),
+        Status::BadWords => write_whole(log, usage()),
+        Status::WriteFault { .. } | Status::TooMuch { .. } | Status::OutOfMemory => write_whole(
+            log, text,
+        ),
     }
 }
 
-/// Writes what a refusal means, in one line for a person, and nothing for `Done`. The name of a
-/// file stands in it as it is. A fault of the stream changes nothing else. Line and texts are those
+/// Writes what a refusal means, in one line for a person, and nothing for `Done`; for `BadWords`
+/// four lines on how the program is called. The name of a file stands in it as it is. A fault of the stream changes nothing else. Line and texts are those
 /// of docs/FORMATS.md ("Explanations").
 pub fn write_explanation<L: Sink>(log: &mut L, status: &Status)
     ensures { (text : List ℕ) × IsLine text
