@@ -15,8 +15,8 @@ use std::alloc::{AllocError, Global};
 use std::process::Abort;
 use std::test::Fail;
 
-// So many atoms of this class, each of this symbol.
-fn push_atoms(
+/// So many atoms of this class, each of this symbol.
+pub fn push_atoms(
     alloc: Global,
     items: &mut Vec<Item>,
     class: Class,

@@ -3,6 +3,8 @@
 #![tactic(auto)]
 
 #[cfg(test)]
+mod align;
+#[cfg(test)]
 mod boxes;
 #[cfg(test)]
 mod convert;
@@ -11,6 +13,8 @@ mod delim;
 #[cfg(test)]
 mod display;
 #[cfg(test)]
+mod display_rows;
+#[cfg(test)]
 mod dvi;
 #[cfg(test)]
 mod dviread;
@@ -18,6 +22,8 @@ mod dviread;
 mod family;
 #[cfg(test)]
 mod fonts;
+#[cfg(test)]
+mod library;
 #[cfg(test)]
 mod middles;
 #[cfg(test)]
@@ -32,3 +38,5 @@ mod rules;
 mod scripts;
 #[cfg(test)]
 mod spacing;
+#[cfg(test)]
+mod tables;

@@ -6,8 +6,8 @@ use crate::pieces::NO_DELIMITER;
 use mt_box::PackError;
 use mt_family::Size;
 use mt_rules::{
-    Atom, Choice, Class, Document, Field, Formula, Fraction, Glue, Item, Kind, Limits, MathList,
-    Page, PartError, RowList, Style, Symbol, Tag,
+    Atom, Body, Choice, Class, Document, Field, Formula, Fraction, Glue, Item, Kind, Limits,
+    MathList, Page, PartError, RowList, Style, Symbol, Tag,
 };
 use std::alloc::{AllocError, Global};
 
@@ -137,7 +137,7 @@ fn document(alloc: Global) -> Result<Document, AllocError> {
     let formula = Formula {
         number: 1,
         display: true,
-        body: vcenter(alloc)?,
+        body: Body::List(vcenter(alloc)?),
         tag: Some(Tag {
             body: tag,
             left: false,

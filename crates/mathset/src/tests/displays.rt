@@ -5,7 +5,7 @@ use std::alloc::Global;
 use std::process::Abort;
 
 /// The width of a line, a source, and the listing of its places.
-type Case = (&'static str, &'static str, &'static str);
+pub type Case = (&'static str, &'static str, &'static str);
 
 // Without a number, at their own width.
 const KEPT: &[Case] = &[
@@ -285,7 +285,8 @@ fn kinds() -> [&'static [Case]; 4] {
     [KEPT, SHRUNK, BESIDE, APART]
 }
 
-fn test_displays(rt: &impl Abort, alloc: Global, displays: &[Case]) {
+/// Tests the places of these displays.
+pub fn test_displays(rt: &impl Abort, alloc: Global, displays: &[Case]) {
     for (line, source, places) in displays {
         let words = [
             "mathset",

@@ -1,7 +1,7 @@
 //! Formulas in the text, and their places in the toy fonts: those that TeX gives, but where a comment says otherwise.
 use crate::tests::formula_listing::{Case, page_listing, test_listing};
 use crate::tests::memory::PLACES;
-use crate::tests::{atom_formulas, list_formulas, middle_formulas, part_formulas};
+use crate::tests::{atom_formulas, list_formulas, middle_formulas, part_formulas, table_formulas};
 use std::alloc::Global;
 use std::process::Abort;
 
@@ -105,4 +105,5 @@ fn sets_formulas(rt: HostRuntime) {
     test_kinds(&rt, alloc, &part_formulas::kinds());
     test_kinds(&rt, alloc, &list_formulas::kinds());
     test_kinds(&rt, alloc, &middle_formulas::kinds());
+    test_kinds(&rt, alloc, &table_formulas::kinds());
 }
