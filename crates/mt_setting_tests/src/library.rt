@@ -2,14 +2,16 @@
 ghost use Rattle.std.specs.Prelude.{IfOk};
 ghost use Rattle.mt_rules.specs.Modest.{IsModestList};
 
-use mt_box::{Place, hpack, places};
+use mt_box::{Packed, Place, hpack, places};
 use mt_convert::set_list;
 use mt_dviread::read_dvi;
+use mt_family::FontSet;
 use mt_pages::source_file;
 use mt_rules::{Atom, Class, Field, Item, Kind, Limits, MathList, Style, Symbol};
 use mt_samples::{Toy, toy_fonts, toy_tfm};
 use mt_tfm::read_tfm;
 use std::alloc::{AllocError, Global};
+use std::process::Abort;
 use std::test::Fail;
 
 // x with the superscript 2. A list that is set has to be modest: the contract says that this one is.
@@ -43,12 +45,17 @@ const SQUARE: [Place; 2] = [
     },
 ];
 
+// The box of its row in text style.
+fn square_box(rt: &impl Abort, alloc: Global, fonts: &FontSet) -> Result<Packed, AllocError> {
+    let row = set_list(alloc, fonts, square(alloc)?, Style::T).expect(rt, "a row");
+    Ok(hpack(alloc, row).expect(rt, "a box"))
+}
+
 #[test]
 fn sets_a_list(rt: HostRuntime) -> Result<(), Fail> {
     let alloc = rt.alloc();
     let fonts = toy_fonts(alloc)?;
-    let row = set_list(alloc, &fonts, square(alloc)?, Style::T).expect(&rt, "a row");
-    let body = hpack(alloc, row).expect(&rt, "a box");
+    let body = square_box(&rt, alloc, &fonts)?;
     let found = places(alloc, &body, 0, body.extents().height, 100).expect(&rt, "its places");
     assert_eq!(rt; found.as_slice(), SQUARE.as_slice());
     Ok(())

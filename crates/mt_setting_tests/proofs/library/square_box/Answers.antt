@@ -1,0 +1,7 @@
+use Rattle.std.proofs.Common.{◌*◌, arith}
+use Rattle.mt_rules.specs.Modest.{list_nesting}
+use Rattle.mt_convert.proofs.Packable.{row_is_modest}
+use Rattle.mt_setting_tests.proofs.library.square_box.Goals as goal
+
+pub hpack-requires-clause-modest : goal.hpack-requires-clause-modest
+hpack-requires-clause-modest g c = row_is_modest _ (12 * list_nesting c.in_ok-square.field-0) (omega (arith, c.in_ok-square.ensures.nesting)) (rw c.expect-row.ensures at c.set_list.ensures.fits)
