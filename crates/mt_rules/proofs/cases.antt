@@ -13,5 +13,9 @@ mod AtomCases
 mod OperatorCases
 mod AccentCases
 mod PartCases
+mod VeilCases
+mod RootCases
+mod BigCases
 mod ToyCases
+mod FactCases
 mod ModestCases

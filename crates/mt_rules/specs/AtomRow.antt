@@ -11,15 +11,15 @@ use Rattle.mt_box.specs.Rows.{PieceValue, PieceBox}
 use Rattle.mt_rules.specs.declared.class.Class.{Class}
 use Rattle.mt_rules.specs.declared.class.Class.TheVariants.{Op}
 use Rattle.mt_rules.specs.declared.kind.Kind.{Kind}
-use Rattle.mt_rules.specs.declared.kind.Kind.TheVariants.{Plain, Radical, Accent, Over, Under, Vcenter}
+use Rattle.mt_rules.specs.declared.kind.Kind.TheVariants.{Plain, Radical, Accent, Over, Under, Vcenter, Veil}
 use Rattle.mt_rules.specs.declared.kind.Limits.{Limits}
 use Rattle.mt_rules.specs.declared.list.Look.{Look}
 use Rattle.mt_rules.specs.declared.list.Look.TheVariants.{Matrix, Equations}
 use Rattle.mt_rules.specs.declared.symbol.Symbol.{Symbol}
 use Rattle.mt_rules.specs.declared.symbol.Delim.{Delim}
 use Rattle.mt_rules.specs.declared.style.Style.{Style}
-use Rattle.mt_rules.specs.declared.style.Style.TheVariants.{T}
-use Rattle.mt_rules.specs.Styles.{size_of, sup_of, sub_of, cramped_of, num_of, den_of}
+use Rattle.mt_rules.specs.declared.style.Style.TheVariants.{T, Ss}
+use Rattle.mt_rules.specs.Styles.{size_of, sup_of, sub_of, cramped_of, uncramped_of, num_of, den_of}
 use Rattle.mt_rules.specs.Setting.{Setting, ◌>>=◌, ◌>>◌, make_row, pack_row, test_extents}
 use Rattle.mt_rules.specs.Parameters.{default_rule_thickness}
 use Rattle.mt_rules.specs.Symbols.{font_of_number, find_symbol, extents_without_italic}
@@ -27,11 +27,13 @@ use Rattle.mt_rules.specs.Scripts.{row_with_scripts}
 use Rattle.mt_rules.specs.Limits.{limits}
 use Rattle.mt_rules.specs.Fractions.{fraction}
 use Rattle.mt_rules.specs.Radicals.{radical}
+use Rattle.mt_rules.specs.Roots.{root_row}
+use Rattle.mt_rules.specs.Veils.{veil_layout}
 use Rattle.mt_rules.specs.Lines.{overline, underline}
 use Rattle.mt_rules.specs.Vcenter.{vcenter}
 use Rattle.mt_rules.specs.Tables.{matrix_table, equations_table}
 use Rattle.mt_rules.specs.Accents.{accent}
-use Rattle.mt_rules.specs.Nuclei.{RowByStyle, Content, NoContent, SymbolContent, ListContent, RowsContent, TableContent, is_empty, SymbolRole, OrdinarySymbol, Nucleus, empty_nucleus, nucleus_row, packed_list, make_clean, clean_field, clean_list}
+use Rattle.mt_rules.specs.Nuclei.{RowByStyle, Content, NoContent, SymbolContent, ListContent, RowsContent, TableContent, RootContent, BigContent, is_empty, SymbolRole, OrdinarySymbol, Nucleus, empty_nucleus, nucleus_row, packed_list, big_nucleus, make_clean, clean_field, clean_list}
 use Rattle.mt_rules.specs.Operators.{uses_limits, operator_nucleus}
 
 pub record AtomContent : Type 0 where
@@ -79,6 +81,7 @@ row_of_list list style = do
 abbrev pub nucleus_under_limits : SetValue → Style → Content → Setting Nucleus
 nucleus_under_limits fonts style (SymbolContent symbol) = operator_nucleus fonts style symbol false
 nucleus_under_limits fonts style (ListContent list) = row_of_list list style
+nucleus_under_limits fonts style (BigContent delim level) = big_nucleus fonts delim level
 nucleus_under_limits fonts style _ = Ok empty_nucleus
 
 -- the nucleus and its clean box, superscript, subscript, the three one above another, the whole row
@@ -94,6 +97,7 @@ operator_with_limits fonts style field sup sub = do
 abbrev pub nucleus_beside_scripts : SetValue → Style → Content → Bool → Setting Nucleus
 nucleus_beside_scripts fonts style (SymbolContent symbol) subscript = operator_nucleus fonts style symbol subscript
 nucleus_beside_scripts fonts style (ListContent list) subscript = packed_list list style
+nucleus_beside_scripts fonts style (BigContent delim level) subscript = big_nucleus fonts delim level
 nucleus_beside_scripts fonts style _ subscript = Ok empty_nucleus
 
 abbrev pub operator_without_limits : SetValue → Style → Content → Content → Content → Setting (List PieceValue)
@@ -125,6 +129,30 @@ abbrev pub radical_part : SetValue → Style → Delim → Content → Setting L
 radical_part fonts style sign nucleus = do
   body ← clean_field fonts (cramped_of style) nucleus
   radical fonts style sign body
+
+-- an ordinary atom of one field, packed
+abbrev pub packed_field : SetValue → Style → Content → Setting Layout
+packed_field fonts style field = do
+  row ← ordinary_row fonts style OrdinarySymbol field NoContent NoContent
+  pack_row row
+
+-- the degree in scriptscript style, then the radical, uncramped, and the kerns round the degree; a root has no scripts
+abbrev pub radical_with_degree : SetValue → Style → Delim → RowByStyle → Content → Setting (List PieceValue)
+radical_with_degree fonts style sign degree body = do
+  degree_box ← packed_field fonts Ss (ListContent degree)
+  box ← radical_part fonts (uncramped_of style) sign body
+  row ← root_row fonts style degree_box box
+  make_row row
+
+abbrev pub radical_row : SetValue → Style → Delim → Content → Content → Content → Setting (List PieceValue)
+radical_row fonts style sign (RootContent degree body) sup sub = radical_with_degree fonts style sign degree body
+radical_row fonts style sign nucleus sup sub = part_with_scripts fonts style (radical_part fonts style sign nucleus) sup sub
+
+-- uncramped, as an ordinary atom
+abbrev pub veil_part : SetValue → Style → Bool → Bool → Bool → Content → Setting Layout
+veil_part fonts style width height marks nucleus = do
+  box ← packed_field fonts (uncramped_of style) nucleus
+  Ok (veil_layout width height marks box)
 
 abbrev pub overline_part : SetValue → Style → Content → Setting Layout
 overline_part fonts style nucleus = do
@@ -189,6 +217,8 @@ vcenter_part fonts style (TableContent look rows) = table_part fonts style look 
 vcenter_part fonts style NoContent = vcenter_rows fonts style []
 vcenter_part fonts style (SymbolContent symbol) = vcenter_rows fonts style []
 vcenter_part fonts style (ListContent list) = vcenter_rows fonts style []
+vcenter_part fonts style (RootContent degree body) = vcenter_rows fonts style []
+vcenter_part fonts style (BigContent delim level) = vcenter_rows fonts style []
 
 -- ---- accents
 
@@ -235,12 +265,13 @@ accent_row fonts style symbol nucleus sup sub =
 
 abbrev pub kind_row : Kind → SetValue → Style → SymbolRole → Limits → Content → Content → Content → Setting (List PieceValue)
 kind_row (Plain class) fonts style role choice nucleus sup sub = class_row class fonts style role choice nucleus sup sub
-kind_row (Radical sign) fonts style role choice nucleus sup sub =
-    part_with_scripts fonts style (radical_part fonts style sign nucleus) sup sub
+kind_row (Radical sign) fonts style role choice nucleus sup sub = radical_row fonts style sign nucleus sup sub
 kind_row (Accent symbol) fonts style role choice nucleus sup sub = accent_row fonts style symbol nucleus sup sub
 kind_row Over fonts style role choice nucleus sup sub = part_with_scripts fonts style (overline_part fonts style nucleus) sup sub
 kind_row Under fonts style role choice nucleus sup sub = part_with_scripts fonts style (underline_part fonts style nucleus) sup sub
 kind_row Vcenter fonts style role choice nucleus sup sub = part_with_scripts fonts style (vcenter_part fonts style nucleus) sup sub
+kind_row (Veil width height marks) fonts style role choice nucleus sup sub =
+    part_with_scripts fonts style (veil_part fonts style width height marks nucleus) sup sub
 
 unfoldable pub atom_row : SetValue → Style → SymbolRole → AtomContent → Setting (List PieceValue)
 atom_row fonts style role a = kind_row a.kind fonts style role a.limits a.nucleus a.sup a.sub

@@ -1,5 +1,5 @@
 -- Displays of several lines: equations with numbers (`equations_line`), and rows in the middle (`rows_line`). All rows are one line of the
--- page, as wide as the page is. The rules are this program's own, and follow plain TeX's \eqalignno, \leqalignno and \displaylines (The
+-- page, as wide as a line is. The rules are this program's own, and follow plain TeX's \eqalignno, \leqalignno and \displaylines (The
 -- TeXbook, chapter 19 and Appendix B).
 use Rattle.std.specs.Prelude.{ℤ, pos, ◌+ℤ◌, ◌-ℤ◌, Bool, List, [], ◌∷◌, ◌++◌, map, if◌then◌else◌}
 use Rattle.std.specs.Int.{int_max}

@@ -30,6 +30,8 @@ pub mod Candidates
 pub mod Extensibles
 -- delimiters, and the size of boundaries
 pub mod Delimiters
+-- delimiters of fixed sizes
+pub mod BigDelimiters
 -- superscripts and subscripts
 pub mod Scripts
 -- scripts above and below an operator
@@ -38,6 +40,12 @@ pub mod Limits
 pub mod Fractions
 -- radicals
 pub mod Radicals
+-- the size of a math unit
+pub mod MathUnits
+-- radicals with a degree
+pub mod Roots
+-- boxes of which a part is left
+pub mod Veils
 -- rules over and under a body
 pub mod Lines
 -- rows one below another, centred on the axis

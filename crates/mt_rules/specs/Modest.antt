@@ -2,7 +2,7 @@
 use Rattle.std.specs.Prelude.{ℕ, ℤ, ◌+◌, ◌≤◌, ◌^◌, max, ⊤, Option, Some, None}
 use Rattle.mt_scaled.specs.Number.{Within, max_dimen}
 use Rattle.mt_rules.specs.declared.symbol.Glue.{Glue}
-use Rattle.mt_rules.specs.Sequence.{Sequence, Element, Part, Rows, End, More, AtomElement, FractionElement, LeftElement, MiddleElement, RightElement, StyleElement, ChoiceElement, MuSpaceElement, SpaceElement, MuKernElement, KernElement, NonscriptElement, EmptyPart, SymbolPart, ListPart, RowsPart, TablePart, NoRows, MoreRows, TableGrid, NoTableRows, MoreTableRows}
+use Rattle.mt_rules.specs.Sequence.{Sequence, Element, Part, Rows, End, More, AtomElement, FractionElement, LeftElement, MiddleElement, RightElement, StyleElement, ChoiceElement, MuSpaceElement, SpaceElement, MuKernElement, KernElement, NonscriptElement, EmptyPart, SymbolPart, ListPart, RowsPart, TablePart, RootPart, BigPart, NoRows, MoreRows, TableGrid, NoTableRows, MoreTableRows}
 
 -- how many items a list has at all levels; each row of a vcenter atom, and each row and each cell of a table, counts
 -- as one more
@@ -32,6 +32,8 @@ abbrev mutual
   part_items (ListPart list) = list_items list
   part_items (RowsPart rows) = rows_items rows
   part_items (TablePart look grid) = grid_items grid
+  part_items (RootPart degree body) = list_items degree + part_items body
+  part_items (BigPart delim level) = 0
 
   pub rows_items : Rows → ℕ
   rows_items NoRows = 0
@@ -70,6 +72,8 @@ abbrev mutual
   part_nesting (ListPart list) = list_nesting list
   part_nesting (RowsPart rows) = rows_nesting rows
   part_nesting (TablePart look grid) = grid_nesting grid
+  part_nesting (RootPart degree body) = max (list_nesting degree) (part_nesting body)
+  part_nesting (BigPart delim level) = 0
 
   pub rows_nesting : Rows → ℕ
   rows_nesting NoRows = 0
@@ -118,6 +122,8 @@ abbrev mutual
   PartAmounts (ListPart list) = ListAmounts list
   PartAmounts (RowsPart rows) = RowsAmounts rows
   PartAmounts (TablePart look grid) = GridAmounts grid
+  PartAmounts (RootPart degree body) = ListAmounts degree × PartAmounts body
+  PartAmounts (BigPart delim level) = ⊤
 
   pub RowsAmounts : Rows → Type 0
   RowsAmounts NoRows = ⊤

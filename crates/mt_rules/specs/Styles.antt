@@ -49,6 +49,10 @@ is_display s = nat_lt (style_index s) 2
 abbrev pub is_cramped : Style → Bool
 is_cramped s = style_index s % 2 == 1
 
+-- the form of it that is not cramped
+abbrev pub uncramped_of : Style → Style
+uncramped_of s = style_at (2 * (style_index s / 2))
+
 -- the size of a style's scripts
 abbrev pub script_size_of : Style → Size
 script_size_of s = size_of (sup_of s)

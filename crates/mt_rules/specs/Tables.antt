@@ -1,6 +1,6 @@
 -- Cells in rows and columns, centred on the axis: matrices (`matrix_table`), and equations one below another (`equations_table`). The rules
 -- are this program's own, and follow plain TeX's \matrix and \eqalign (The TeXbook, chapters 18 and 19 and Appendix B).
-use Rattle.std.specs.Prelude.{ℕ, ℤ, pos, ◌+ℤ◌, ◌-ℤ◌, ◌*ℤ◌, int_lt, List, [], ◌∷◌, ◌++◌, get_or, Ok, if◌then◌else◌}
+use Rattle.std.specs.Prelude.{ℕ, ℤ, pos, ◌+ℤ◌, ◌-ℤ◌, int_lt, List, [], ◌∷◌, ◌++◌, get_or, Ok, if◌then◌else◌}
 use Rattle.std.specs.Int.{int_max}
 use Rattle.mt_scaled.specs.Number.{half_of}
 use Rattle.mt_family.specs.declared.size.Size.{Size}
@@ -9,7 +9,7 @@ use Rattle.mt_family.specs.Sets.{units_of}
 use Rattle.mt_box.specs.declared.place.Place.{Place}
 use Rattle.mt_box.specs.declared.extents.Extents.{Extents}
 use Rattle.mt_box.specs.Layout.{Layout, all_moved}
-use Rattle.mt_rules.specs.Setting.{Setting, ◌>>=◌, ◌>>◌, make_box}
+use Rattle.mt_rules.specs.Setting.{Setting, ◌>>=◌, make_box}
 use Rattle.mt_rules.specs.Parameters.{axis_height}
 use Rattle.mt_rules.specs.Vcenter.{line_gap}
 

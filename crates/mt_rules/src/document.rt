@@ -12,7 +12,8 @@ pub struct Tag {
     pub left: bool,
 }
 
-/// A row of a display of equations. A cell that the source leaves out is an empty list.
+/// A row of a display of equations. Each cell is set in text style; a side that the source has begins with a change to
+/// display style. A cell that the source leaves out is an empty list.
 #[derive(Drop)]
 pub struct Equation {
     /// The left side, which ends where the right side of each row begins.

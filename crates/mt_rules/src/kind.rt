@@ -26,6 +26,16 @@ pub enum Kind {
     Over,
     /// Over a rule.
     Under,
-    /// Rows, one below another, centred on the axis.
+    /// Rows, one below another, or a table, centred on the axis.
     Vcenter,
+    /// The nucleus alone, but of its box only the width, only the height and depth, or only what it marks (plain TeX's
+    /// `\phantom`, `\hphantom`, `\vphantom` and `\smash`).
+    Veil {
+        /// Whether it keeps its width.
+        width: bool,
+        /// Whether it keeps its height and depth.
+        height: bool,
+        /// Whether it marks what it marks.
+        marks: bool,
+    },
 }

@@ -4,12 +4,14 @@
 //! the crates above cite. They follow The TeXbook, chapters 17 and 18 and Appendix G.
 #![tactic(auto)]
 
+mod boundary;
 mod character;
 mod class;
 mod document;
 mod gap;
 mod kind;
 mod list;
+mod mu;
 mod packed_list;
 pub mod parameters;
 mod part;
@@ -18,14 +20,16 @@ mod shifts;
 mod style;
 mod symbol;
 
+pub use boundary::boundary_size;
 pub use character::{extents_without_italic, width_with_italic};
 pub use class::Class;
 pub use document::{Body, Document, Equation, EquationList, Formula, Page, Tag};
 pub use gap::{line_gap, open_gap};
 pub use kind::{Kind, Limits};
 pub use list::{
-    Atom, Choice, Field, Fraction, Item, Look, MathList, RowList, Table, TableRow, TableRows,
+    Atom, Choice, Field, Fraction, Item, Look, MathList, Root, RowList, Table, TableRow, TableRows,
 };
+pub use mu::{in_points, math_unit};
 pub use packed_list::PackedList;
 pub use part::{part_answer, test_rule, with_width};
 pub use part_error::PartError;

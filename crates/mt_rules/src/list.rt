@@ -13,8 +13,9 @@ use std::marker::Model;
 /// A math list: the items of a formula or of a part of one, in order (The TeXbook, Appendix G).
 ///
 /// A left boundary stands only first and a right one only last, both or neither, and middles stand only between the
-/// two; the four lists of a [`Choice`] have none of these. The nucleus of a vcenter atom is rows or a table, and these
-/// stand nowhere else.
+/// two; the four lists of a [`Choice`] have none of these. The nucleus of a vcenter atom is rows or a table; that of a
+/// radical atom may be a root, and that of a plain atom a delimiter of a fixed size; these stand nowhere else. Veil
+/// atoms, and radical atoms whose nucleus is a root, have no scripts.
 #[cycle(list)]
 #[derive(Drop)]
 pub struct MathList {
@@ -117,6 +118,25 @@ pub enum Field {
     Rows(RowList),
     /// A table.
     Table(Table),
+    /// The degree and the body of a root.
+    Root(Box<Root>),
+    /// A delimiter of a fixed size.
+    Big {
+        /// The delimiter.
+        delim: Delim,
+        /// How large, 0 to 3, as plain TeX's `\big`, `\Big`, `\bigg` and `\Bigg`.
+        level: u8,
+    },
+}
+
+/// What is under a radical sign that has a degree.
+#[cycle(list)]
+#[derive(Drop)]
+pub struct Root {
+    /// The degree, which stands over the beginning of the sign.
+    pub degree: MathList,
+    /// The nucleus.
+    pub body: Field,
 }
 
 /// One formula over another.
@@ -222,6 +242,30 @@ impl Model for TableRows {
     ghost use Rattle.mt_rules.specs.nesting.RowsFall.{grid_fall};
 
     ghost size_decreases = { λ l h. grid_fall l.rows.items };
+}
+
+impl Model for Root {
+    ghost use Rattle.mt_rules.specs.Sequence.{RootValue};
+
+    ghost Value = { RootValue };
+
+    ghost use Rattle.mt_rules.specs.nesting.Steps.{BuildStep, build_steps_of_root, root_from, root_from-steps};
+    ghost use Rattle.std.specs.Prelude.{List};
+    ghost use Rattle.std.specs.Coded.{codes, code_by, coded_list};
+
+    ghost coded = { code_by (List BuildStep) (coded_list (Prim.hlevel codes)) build_steps_of_root root_from root_from-steps };
+
+    ghost use Rattle.mt_rules.specs.View.{part_of_field};
+
+    ghost view = { λ r. record { degree = r.degree; body = part_of_field r.body } };
+
+    ghost use Rattle.mt_rules.specs.Sequence.{root_size};
+
+    ghost size = { root_size };
+
+    ghost use Rattle.mt_rules.specs.nesting.Falls.{root_falls};
+
+    ghost size_decreases = { λ r h. root_falls r };
 }
 
 // The item at an index.

@@ -1,6 +1,6 @@
 //! Styles of formulas.
 ghost use Rattle.std.specs.Prelude.{◌≡◌};
-ghost use Rattle.mt_rules.specs.Styles.{style_index, size_of, sup_of, sub_of, cramped_of, num_of, den_of};
+ghost use Rattle.mt_rules.specs.Styles.{style_index, size_of, sup_of, sub_of, cramped_of, uncramped_of, num_of, den_of};
 ghost use Rattle.mt_rules.specs.Styles.{is_display as is_display_style, is_cramped as is_cramped_style};
 
 use mt_family::Size;
@@ -97,6 +97,18 @@ impl Style {
             Style::T | Style::Tc => Style::Tc,
             Style::S | Style::Sc => Style::Sc,
             Style::Ss | Style::Ssc => Style::Ssc,
+        }
+    }
+
+    /// The form of it that is not cramped.
+    pub fn uncramped(self) -> Style
+        ensures { result ≡ uncramped_of self }
+    {
+        match self {
+            Style::D | Style::Dc => Style::D,
+            Style::T | Style::Tc => Style::T,
+            Style::S | Style::Sc => Style::S,
+            Style::Ss | Style::Ssc => Style::Ss,
         }
     }
 

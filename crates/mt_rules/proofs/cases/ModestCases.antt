@@ -3,11 +3,11 @@ use Rattle.std.proofs.Common.{◌≡◌, refl, arith}
 use Rattle.std.proofs.lemmas.Int.{ints}
 use Rattle.std.specs.Prelude.{pos, Some}
 use Rattle.mt_rules.specs.declared.class.Class.TheVariants.{Ord}
-use Rattle.mt_rules.specs.declared.kind.Kind.TheVariants.{Plain, Vcenter}
+use Rattle.mt_rules.specs.declared.kind.Kind.TheVariants.{Plain, Radical, Vcenter}
 use Rattle.mt_rules.specs.declared.kind.Limits.TheVariants.{Default}
 use Rattle.mt_rules.specs.declared.list.Look.TheVariants.{Matrix}
 use Rattle.mt_rules.specs.declared.symbol.Delim.{Delim}
-use Rattle.mt_rules.specs.Sequence.{Sequence, Element, End, More, AtomElement, FractionElement, KernElement, EmptyPart, SymbolPart, ListPart, RowsPart, TablePart, NoRows, MoreRows, NoTableRows, MoreTableRows}
+use Rattle.mt_rules.specs.Sequence.{Sequence, Element, End, More, AtomElement, FractionElement, KernElement, EmptyPart, SymbolPart, ListPart, RowsPart, TablePart, RootPart, NoRows, MoreRows, NoTableRows, MoreTableRows}
 use Rattle.mt_rules.specs.Modest.{list_items, list_nesting, IsAmount, ListAmounts, IsModestList}
 use Rattle.mt_rules.proofs.cases.Writing.{neg}
 
@@ -62,6 +62,30 @@ table_nesting = refl
 
 table_amounts : ListAmounts table
 table_amounts = ((((((tt, tt, tt), tt), (tt, tt)), (tt, tt)), tt, tt), tt)
+
+-- a root of a group, with a degree of a letter and a kern: the items of both count
+abbrev root : Sequence
+root = More (AtomElement (Radical no_delim) Default (RootPart (More letter (More (KernElement (neg 7)) End)) (ListPart (More letter End))) EmptyPart EmptyPart) End
+
+root_items : list_items root ≡ 4
+root_items = refl
+
+root_nesting : list_nesting root ≡ 2
+root_nesting = refl
+
+-- the deeper of both counts
+abbrev deep_degree : Sequence
+deep_degree = More (AtomElement (Radical no_delim) Default (RootPart fraction EmptyPart) EmptyPart EmptyPart) End
+
+deep_degree_nesting : list_nesting deep_degree ≡ 4
+deep_degree_nesting = refl
+
+-- amounts of the degree and of the body count
+degree_amounts : ListAmounts (More (AtomElement (Radical no_delim) Default (RootPart (More (KernElement (neg 1073741824)) End) EmptyPart) EmptyPart EmptyPart) End) → ⊥
+degree_amounts h = omega (arith, ints, h.0.0.0.0.low)
+
+body_amounts : ListAmounts (More (AtomElement (Radical no_delim) Default (RootPart End (ListPart (More (KernElement (neg 1073741824)) End))) EmptyPart EmptyPart) End) → ⊥
+body_amounts h = omega (arith, ints, h.0.0.1.0.low)
 
 -- an amount of 2^30 - 1 may be, and one of 2^30, or of -2^30, not
 greatest : IsAmount (pos 1073741823)

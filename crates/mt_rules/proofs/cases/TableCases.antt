@@ -1,5 +1,5 @@
 -- Matrices and aligned equations in the toy fonts, worked. The numbers come from a program in another language.
-use Rattle.std.proofs.Common.{◌≡◌, refl, Ok, Err, ℕ, ℤ, pos, List, [], ◌∷◌}
+use Rattle.std.proofs.Common.{◌≡◌, refl, Ok, Err, ℕ, ℤ, pos, [], ◌∷◌}
 use Rattle.mt_family.specs.Sets.{sy}
 use Rattle.mt_family.specs.declared.size.Size.TheVariants.{Text, Script, Scriptscript}
 use Rattle.mt_box.specs.declared.extents.Extents.{Extents}

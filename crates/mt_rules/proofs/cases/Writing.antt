@@ -12,13 +12,17 @@ use Rattle.mt_rules.specs.declared.shifts.Shifts.{Shifts}
 use Rattle.mt_rules.specs.declared.kind.Limits.{Limits}
 use Rattle.mt_rules.specs.declared.symbol.Symbol.{Symbol}
 use Rattle.mt_rules.specs.declared.symbol.Delim.{Delim}
-use Rattle.mt_rules.specs.Setting.{Setting, ◌>>=◌}
+use Rattle.mt_rules.specs.declared.style.Style.{Style}
+use Rattle.mt_rules.specs.Setting.{Setting, ◌>>=◌, pack_row}
 use Rattle.mt_rules.specs.Candidates.{candidates}
 use Rattle.mt_rules.specs.Delimiters.{delimiter, delimiter_variant}
 use Rattle.mt_rules.specs.Scripts.{script_shifts, row_with_scripts}
 use Rattle.mt_rules.specs.Limits.{limits}
 use Rattle.mt_rules.specs.Fractions.{fraction_shifts, fraction}
 use Rattle.mt_rules.specs.Radicals.{radical}
+use Rattle.mt_rules.specs.Roots.{root_row}
+use Rattle.mt_rules.specs.Veils.{veil_layout}
+use Rattle.mt_rules.specs.BigDelimiters.{big_delimiter}
 use Rattle.mt_rules.specs.Lines.{overline, underline}
 use Rattle.mt_rules.specs.Vcenter.{vcenter}
 use Rattle.mt_rules.specs.Accents.{accent}
@@ -93,11 +97,15 @@ given_fraction thickness left right num den = record { thickness = thickness; le
 abbrev pub extents_in : Setting Layout → Setting Extents
 extents_in answer = answer >>= (λ l. Ok l.extents)
 
+-- an atom alone, packed
+abbrev pub packed : SetValue → Style → AtomContent → Setting Layout
+packed fonts style a = atom_row fonts style OrdinarySymbol a >>= pack_row
+
 abbrev pub count_in : Setting Layout → Setting ℕ
 count_in answer = answer >>= (λ l. Ok (length l.places))
 
 -- ---- the rules, open
 
 unfoldable pub evaluated : ⊤
-unfolding sy ex candidates delimiter delimiter_variant script_shifts row_with_scripts limits fraction_shifts fraction radical overline underline vcenter accent clean_field nucleus_row operator_nucleus atom_row fraction_row
+unfolding sy ex candidates delimiter delimiter_variant script_shifts row_with_scripts limits fraction_shifts fraction radical overline underline vcenter accent clean_field nucleus_row operator_nucleus veil_layout root_row big_delimiter atom_row fraction_row
 evaluated = tt
