@@ -20,3 +20,7 @@ pub mod UnderSign
 pub mod Fractioned
 -- a fraction step by step
 pub mod FractionSteps
+-- delimiters of fixed sizes
+pub mod Bigs
+-- a radical with its degree
+pub mod Rooting

@@ -6,3 +6,5 @@ pub mod LineColumns
 pub mod RuledBodies
 -- a layout with another width
 pub mod Widths
+-- kerns that are tested
+pub mod KernTests

@@ -1,19 +1,26 @@
 //! Parts of a formula that are set by rules of their own: fractions, radicals, lines over and under
 //! a body, accents, and rows centred on the axis (The TeXbook, Appendix G, rules 8 to 12 and 15;
-//! tex.web §734 to §748).
+//! tex.web §734 to §748); and those of plain TeX: roots with a degree, phantoms, and delimiters of
+//! fixed sizes (The TeXbook, chapters 16 to 18 and Appendix B).
 #![tactic(auto)]
 
 mod accents;
+mod big;
 mod centred;
 mod fraction;
 mod lines;
 mod radical;
+mod root;
 mod shifts;
+mod veil;
 
 pub use accents::accent_box;
+pub use big::big_box;
 pub use centred::vcenter_box;
 pub use fraction::fraction_box;
 pub use lines::{overline_box, underline_box};
 pub use mt_rules::Shifts;
 pub use radical::radical_box;
+pub use root::root_row;
 pub use shifts::fraction_shifts;
+pub use veil::veil_box;
