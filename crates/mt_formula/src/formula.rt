@@ -143,8 +143,9 @@ fn error_of(stop: Stop, count: usize) -> ReadError
     }
 }
 
-/// The body of a formula, and what is set at its side as its number (The TeXbook, chapters 17, 18
-/// and 26). Of a `display` this may be given by `\eqno` or `\leqno`.
+/// The body of a formula, and what is set at its side as its number (The TeXbook, chapters 17, 18, 19
+/// and 26). Only a display has such a number, given by `\eqno` or `\leqno`; a display of several lines
+/// has none, since its rows have their own.
 ///
 /// The tokens are those of the formula alone, without macros; `codes` are in force in it, and
 /// `units` are what `em` and `ex` stand for, in scaled points.

@@ -63,6 +63,7 @@ other_macros =
     (codes "brace", codes "\\atopwithdelims\\{\\}") ∷
     (codes "quad", codes "\\hskip1em\\relax") ∷
     (codes "qquad", codes "\\hskip2em\\relax") ∷
+    (codes "mathstrut", codes "\\vphantom(") ∷
     []
 
 -- families

@@ -64,7 +64,7 @@ pub fn delimiter_macros() -> &'static [MacroText]
 }
 
 #[rattlefmt::skip]
-static OTHER_MACROS: [(&[u8], &[u8]); 13] = [
+static OTHER_MACROS: [(&[u8], &[u8]); 14] = [
     (b"sqrt", b"\\radical\"270370 "),
     (b"int", b"\\intop\\nolimits"),
     (b"oint", b"\\ointop\\nolimits"),
@@ -78,6 +78,7 @@ static OTHER_MACROS: [(&[u8], &[u8]); 13] = [
     (b"brace", b"\\atopwithdelims\\{\\}"),
     (b"quad", b"\\hskip1em\\relax"),
     (b"qquad", b"\\hskip2em\\relax"),
+    (b"mathstrut", b"\\vphantom("),
 ];
 
 /// Other macros.

@@ -2,6 +2,7 @@
 ghost use Rattle.std.specs.Prelude.{◌≡◌, ◌<◌};
 ghost use Rattle.mt_plain.specs.Names.{control};
 ghost use Rattle.mt_scan.specs.Role.{role_of, command_role, meaning_role, code_role, character_role, mu_space};
+ghost use Rattle.mt_scan.specs.Role.{big_class, veil};
 
 use mt_plain::{Codes, Command, MAX_MATH_CODE, Meaning};
 use mt_rules::{Class, Delim, Glue, Limits, Style, Symbol};
@@ -70,6 +71,16 @@ pub enum FieldKind {
     Over,
     /// Over a rule.
     Under,
+    /// The nucleus alone, but of its box only the width, only the height and depth, or only what it
+    /// marks.
+    Veil {
+        /// Whether it keeps its width.
+        width: bool,
+        /// Whether it keeps its height and depth.
+        height: bool,
+        /// Whether it keeps its marks.
+        marks: bool,
+    },
 }
 
 /// What columns a table has.
@@ -81,7 +92,7 @@ pub enum Preamble {
     Equations,
     /// The two sides of equations, and their numbers.
     NumberedEquations,
-    /// One column.
+    /// One, as the rows of `\displaylines` have.
     Lines,
 }
 
@@ -125,6 +136,12 @@ pub enum Role {
     RadicalWord,
     /// `\mathaccent`
     AccentWord,
+    /// `\root`
+    RootWord,
+    /// `\of`
+    OfWord,
+    /// `\big` and its like: a big delimiter, as an atom of this class, and how large, 0 to 3.
+    BigWord(Class, u8),
     /// `\vcenter`
     VcenterWord,
     /// `\hbox`
@@ -157,6 +174,28 @@ fn mu_space(width: i64, shrink: i64) -> Role
     ensures { result ≡ mu_space width shrink }
 {
     Role::ItemWord(Simple::MuSpace(Glue { width, shrink }))
+}
+
+fn veil(width: bool, height: bool, marks: bool) -> Role
+    ensures { result ≡ veil width height marks }
+{
+    Role::Nucleus(FieldKind::Veil {
+        width,
+        height,
+        marks,
+    })
+}
+
+// The class of a big delimiter, by the letter at the end of its word.
+fn big_class(form: u8) -> Class
+    ensures { result ≡ big_class form }
+{
+    match form {
+        1 => Class::Open,
+        2 => Class::Rel,
+        3 => Class::Close,
+        _ => Class::Ord,
+    }
 }
 
 fn command_role(command: Command) -> Role
@@ -216,6 +255,13 @@ fn command_role(command: Command) -> Role
         Command::EqalignNo => Role::DisplayWord(Preamble::NumberedEquations, false),
         Command::LeqalignNo => Role::DisplayWord(Preamble::NumberedEquations, true),
         Command::DisplayLines => Role::DisplayWord(Preamble::Lines, false),
+        Command::Phantom => veil(true, true, false),
+        Command::Hphantom => veil(true, false, false),
+        Command::Vphantom => veil(false, true, false),
+        Command::Smash => veil(true, false, true),
+        Command::Root => Role::RootWord,
+        Command::Of => Role::OfWord,
+        Command::BigDelim { level, form } => Role::BigWord(big_class(form), level),
     }
 }
 

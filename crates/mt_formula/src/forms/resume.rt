@@ -1,18 +1,18 @@
 //! What a group stands for, and what it makes of the list in which it stands.
-ghost use Rattle.std.specs.Prelude.{◌≡◌, ◌≤◌, true, false, drop, length, IfOk, OnOk};
+ghost use Rattle.std.specs.Prelude.{◌≡◌, ◌≤◌, true, Some, drop, length, IfOk, OnOk};
 ghost use Rattle.mt_rules.specs.Sequence.{ChoiceElement};
 ghost use Rattle.mt_rules.specs.View.{element_of, part_of_field};
-ghost use Rattle.mt_scan.specs.Role.{nucleus_kind};
-ghost use Rattle.mt_formula.specs.Atoms.{nucleus_of, group_atom, nucleus_atom};
-ghost use Rattle.mt_formula.specs.machine.Facts.{holds_rows, no_boundary, stands_inside};
-ghost use Rattle.mt_formula.specs.machine.OpenLists.{inner_sequence, last_atom_value, is_only_bare};
+ghost use Rattle.mt_formula.specs.Atoms.{is_field, nucleus_of, group_atom, only_atom};
+ghost use Rattle.mt_formula.specs.machine.Facts.{no_boundary, stands_inside};
+ghost use Rattle.mt_formula.specs.machine.OpenLists.{atom_value, inner_sequence, last_atom_value};
+ghost use Rattle.mt_formula.specs.machine.OpenLists.{is_only_accent, is_only_bare};
 ghost use Rattle.mt_formula.specs.machine.Resumes.{ResumesNucleus, ResumesScript, ResumesChoice};
 
-use crate::open::items::{into_list, is_only_accent, is_only_bare, take_only};
+use crate::open::items::{into_list, is_only_accent, is_only_bare, last_atom_from, take_only};
 use crate::open::last_atom::plain_last_atom;
-use crate::open::lists::{put_item, put_last_atom, put_script};
+use crate::open::lists::{put_atom, put_item, put_last_atom, put_script};
 use crate::open::open_list::{InnerItems, LastAtom, OpenList};
-use mt_rules::{Choice, Class, Field, Item, MathList};
+use mt_rules::{Atom, Choice, Class, Field, Item, MathList};
 use mt_scan::{FieldKind, Side};
 use mt_token::Token;
 use std::alloc::{AllocError, Global};
@@ -28,18 +28,36 @@ pub fn after_first<'a>(tokens: &'a [Token]) -> &'a [Token]
     }
 }
 
+// The Ord atom without scripts that is the only item.
+fn take_bare(items: InnerItems) -> Box<Atom>
+    requires { is_only_bare (inner_sequence items) ≡ true }
+    ensures is { only_atom (inner_sequence items) ≡ Some (atom_value result.value) }
+    ensures field { is_field (part_of_field result.value.nucleus) ≡ true }
+{
+    take_only(items)
+}
+
+// The accent atom that is the only item.
+fn take_accent(items: InnerItems) -> LastAtom
+    requires { is_only_accent (inner_sequence items) ≡ true }
+    ensures { only_atom (inner_sequence items) ≡ Some (last_atom_value result) }
+{
+    last_atom_from(take_only(items))
+}
+
 fn bare_nucleus(items: InnerItems) -> Field
     requires { is_only_bare (inner_sequence items) ≡ true }
     ensures is { part_of_field result ≡ nucleus_of (inner_sequence items) }
-    ensures no_rows { holds_rows (part_of_field result) ≡ false }
+    ensures field { is_field (part_of_field result) ≡ true }
 {
-    Box::into_inner(take_only(items).atom).nucleus
+    Box::into_inner(take_bare(items)).nucleus
 }
 
-// The nucleus that a group makes: that of its one Ord atom without scripts, or else its list.
-fn nucleus_of(items: InnerItems) -> Field
+/// The field that a group makes: the nucleus of its one Ord atom without scripts, where that is a
+/// field, or else its list.
+pub fn nucleus_of(items: InnerItems) -> Field
     ensures is { part_of_field result ≡ nucleus_of (inner_sequence items) }
-    ensures no_rows { holds_rows (part_of_field result) ≡ false }
+    ensures field { is_field (part_of_field result) ≡ true }
 {
     if is_only_bare(&items) {
         bare_nucleus(items)
@@ -53,24 +71,9 @@ pub fn group_last_atom(alloc: Global, items: InnerItems) -> Result<LastAtom, All
     ensures { IfOk result (λ last. last_atom_value last ≡ group_atom (inner_sequence items)) }
 {
     if is_only_accent(&items) {
-        Ok(take_only(items))
+        Ok(take_accent(items))
     } else {
         plain_last_atom(alloc, FieldKind::Class(Class::Ord), nucleus_of(items))
-    }
-}
-
-// The atom of this kind that a group makes.
-fn nucleus_last_atom(
-    alloc: Global,
-    kind: FieldKind,
-    items: InnerItems,
-) -> Result<LastAtom, AllocError>
-    ensures { IfOk result (λ last. last_atom_value last
-        ≡ nucleus_atom (nucleus_kind kind) (inner_sequence items)) }
-{
-    match kind {
-        FieldKind::Class(Class::Ord) => group_last_atom(alloc, items),
-        other => plain_last_atom(alloc, other, nucleus_of(items)),
     }
 }
 
@@ -83,8 +86,13 @@ pub fn resume_nucleus(
 ) -> Result<(), AllocError>
     ensures { OnOk result (ResumesNucleus kind (inner_sequence all) list.old list.new) }
 {
-    let atom = nucleus_last_atom(alloc, kind, all)?;
-    put_last_atom(list, atom)
+    match kind {
+        FieldKind::Class(Class::Ord) => {
+            let atom = group_last_atom(alloc, all)?;
+            put_last_atom(list, atom)
+        }
+        other => put_atom(alloc, list, other, nucleus_of(all)),
+    }
 }
 
 /// Puts a group to a list, as a script.

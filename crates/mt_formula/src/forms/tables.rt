@@ -84,7 +84,8 @@ fn cell_list(alloc: Global, column: Column, all: InnerItems) -> Result<MathList,
     }
 }
 
-/// Whether a row begins here, before which Spaces may stand, or the table ends.
+/// Whether the table ends here, at `}`, or another row begins. Spaces that may stand before are to be
+/// dropped first: a Space here is part of a row.
 pub fn row_or_end<'a>(codes: &Codes, tokens: &'a [Token]) -> Scanned<'a, TableStep>
     ensures is { row_or_end codes.now tokens.now ≡ Got result.value result.rest.now }
     ensures falls { length result.rest.now ≤ length tokens.now }

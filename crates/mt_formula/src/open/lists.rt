@@ -3,20 +3,22 @@ ghost use Rattle.std.specs.Prelude.{◌≡◌, ◌≤◌, ◌<◌, ◌+◌, [], 
 ghost use Rattle.std.specs.Prelude.{length, reverse};
 ghost use Rattle.mt_rules.specs.Sequence.{End, More, FractionElement};
 ghost use Rattle.mt_rules.specs.View.{element_of, part_of_field};
-ghost use Rattle.mt_formula.specs.Atoms.{append, last_atom_items, with_script, with_limits};
-ghost use Rattle.mt_formula.specs.machine.Facts.{stands_inside, holds_rows};
+ghost use Rattle.mt_scan.specs.Role.{nucleus_kind};
+ghost use Rattle.mt_formula.specs.Atoms.{append, last_atom_items, is_field, plain_atom, with_script, with_limits};
+ghost use Rattle.mt_formula.specs.machine.Facts.{stands_inside};
 ghost use Rattle.mt_formula.specs.machine.OpenLists.{inner_sequence, items_of, numerator_of};
 ghost use Rattle.mt_formula.specs.machine.OpenLists.{last_atom_value, last_atom_of};
 ghost use Rattle.mt_formula.specs.machine.OpenLists.{finished_items, Begins, Becomes, Divides};
+ghost use Rattle.mt_formula.specs.machine.Resumes.{PutsAtom};
 ghost use Rattle.mt_scan.specs.Limits.{max_groups};
 
 use crate::open::items::{add_item, into_list, no_items};
-use crate::open::last_atom::{into_item, put_script_at, set_limits};
+use crate::open::last_atom::{into_item, plain_item, plain_last_atom, put_script_at, set_limits};
 use crate::open::open_list::{
     Ending, FractionHead, Frame, InnerItems, LastAtom, Numerator, OpenList, Owner,
 };
 use mt_rules::{Field, Fraction, Item, Limits, MathList};
-use mt_scan::Side;
+use mt_scan::{FieldKind, Side};
 use std::alloc::{AllocError, Global};
 use std::mem;
 
@@ -71,6 +73,29 @@ pub fn put_item(list: &mut OpenList, item: Item) -> Result<(), AllocError>
     Ok(())
 }
 
+/// Puts a new atom of this kind to the list, with this nucleus: it is the last one, or, where it takes
+/// no scripts, an item like others.
+pub fn put_atom(
+    alloc: Global,
+    list: &mut OpenList,
+    kind: FieldKind,
+    nucleus: Field,
+) -> Result<(), AllocError>
+    requires { is_field (part_of_field nucleus) ≡ true }
+    ensures { OnOk result (PutsAtom (plain_atom (nucleus_kind kind) (part_of_field nucleus)) list.old list.new) }
+{
+    match kind {
+        FieldKind::Veil { .. } => {
+            let item = plain_item(alloc, kind, nucleus)?;
+            put_item(list, item)
+        }
+        _ => {
+            let atom = plain_last_atom(alloc, kind, nucleus)?;
+            put_last_atom(list, atom)
+        }
+    }
+}
+
 /// Puts a script at the last atom of the list, or at a new one.
 pub fn put_script(
     alloc: Global,
@@ -78,7 +103,7 @@ pub fn put_script(
     side: Side,
     part: Field,
 ) -> Result<(), AllocError>
-    requires { holds_rows (part_of_field part) ≡ false }
+    requires { is_field (part_of_field part) ≡ true }
     ensures { OnOk result (Becomes End
         (Some (with_script side (part_of_field part) (last_atom_of list.old.last)))
         list.old.family list.old list.new) }

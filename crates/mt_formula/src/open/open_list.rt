@@ -1,6 +1,7 @@
 //! Lists that are open, and the lists in which they stand.
 ghost use Rattle.std.specs.Prelude.{◌≡◌, true, ◌≤◌};
 ghost use Rattle.mt_rules.specs.View.{sequence_of, part_of_field};
+ghost use Rattle.mt_formula.specs.Atoms.{takes_scripts};
 ghost use Rattle.mt_formula.specs.machine.Facts.{is_inside, atom_fits, begins_with_left};
 ghost use Rattle.mt_formula.specs.declared.open.open_list.Stop.TheVariants.{Fault as AtFault, OutOfMemory};
 ghost use Rattle.mt_scan.specs.Limits.{max_groups};
@@ -26,6 +27,8 @@ pub enum Ending {
     AtDollar,
     /// At `&`, `\cr` or `}`.
     AtCell,
+    /// At `\of`.
+    AtOf,
 }
 
 /// Items between which no boundary stands.
@@ -43,6 +46,7 @@ pub struct LastAtom {
     pub atom: Box<Atom>,
     ghost fits: { atom_fits atom.value.kind (part_of_field atom.value.nucleus)
         (part_of_field atom.value.sup) (part_of_field atom.value.sub) ≡ true },
+    ghost takes: { takes_scripts atom.value.kind (part_of_field atom.value.nucleus) ≡ true },
 }
 
 /// A fraction of which the denominator is still to come.
@@ -138,6 +142,10 @@ pub enum Owner<'a> {
     Row(Vec<MathList>),
     /// A cell of this table.
     Cell(OpenTable),
+    /// The degree of a root.
+    Degree,
+    /// What stands under the sign of a root of this degree.
+    RootBody(InnerItems),
     /// The argument of a superscript that primes begin, with the tokens after it and their number,
     /// with the brace.
     Argument(&'a [Token], usize),

@@ -1,5 +1,5 @@
 //! What a token does in a list, and how a field begins.
-ghost use Rattle.std.specs.Prelude.{◌≡◌, ◌≤◌, length, IfOk};
+ghost use Rattle.std.specs.Prelude.{◌≡◌, ◌≤◌, ◌<◌, length, IfOk};
 ghost use Rattle.mt_scan.specs.Meets.{Meets};
 ghost use Rattle.mt_formula.specs.Fields.{field_start_here, field_start};
 ghost use Rattle.mt_formula.specs.Items.{coded_action, nucleus_action, script_action};
@@ -7,7 +7,7 @@ ghost use Rattle.mt_formula.specs.Items.{coded_action, nucleus_action, script_ac
 use crate::open::groups::{check_level, missing_field};
 use crate::open::table::TableForm;
 use mt_plain::Codes;
-use mt_rules::{Delim, Limits, Symbol};
+use mt_rules::{Class, Delim, Limits, Symbol};
 use mt_scan::{
     Fault, FieldKind, MAX_DELIMITER, MAX_MATH_CHAR, Role, Scanned, Side, Simple, after_blanks,
     class_of, code_symbol, number_to, role_of,
@@ -52,6 +52,10 @@ pub enum Action {
     Choice,
     /// It is the word of a table.
     Table(TableForm),
+    /// It is a big delimiter, as an atom of this class, and how large, 0 to 3.
+    Big(Class, Delim, u8),
+    /// It begins the degree of a root.
+    Root,
     /// It is no item.
     Stop,
 }
@@ -63,7 +67,7 @@ fn field_start_here<'a>(
     tokens: &'a [Token],
 ) -> Result<Scanned<'a, FieldStart>, Fault>
     ensures is { Meets result (field_start_here codes.now level family tokens.now) }
-    ensures falls { IfOk result (λ start. length start.rest.now ≤ length tokens.now) }
+    ensures falls { IfOk result (λ start. length start.rest.now < length tokens.now) }
 {
     match tokens {
         [token, after @ ..] => match role_of(codes, token) {
@@ -106,7 +110,7 @@ pub fn field_start<'a>(
     tokens: &'a [Token],
 ) -> Result<Scanned<'a, FieldStart>, Fault>
     ensures is { Meets result (field_start codes.now level family tokens.now) }
-    ensures falls { IfOk result (λ start. length start.rest.now ≤ length tokens.now) }
+    ensures falls { IfOk result (λ start. length start.rest.now < length tokens.now) }
 {
     field_start_here(codes, level, family, after_blanks(codes, tokens))
 }

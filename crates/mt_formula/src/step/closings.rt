@@ -13,6 +13,7 @@ ghost use Rattle.mt_formula.specs.machine.Turned.{Resumes};
 use crate::forms::choices::close_choice;
 use crate::forms::left_right::close_left_right;
 use crate::forms::resume::{after_first, resume_nucleus, resume_script};
+use crate::forms::roots::{close_degree, close_root_body};
 use crate::forms::rows::close_row;
 use crate::forms::tables::close_cell;
 use crate::open::items::into_list;
@@ -98,6 +99,8 @@ pub fn close_list<'a>(
         Owner::Choice(lists) => close_choice(alloc, codes, frames, list, lists, all, tokens),
         Owner::Row(done) => close_row(alloc, codes, frames, list, done, all, tokens),
         Owner::Cell(table) => close_cell(alloc, codes, frames, list, table, all, tokens),
+        Owner::Degree => close_degree(alloc, codes, frames, list, all, tokens),
+        Owner::RootBody(degree) => close_root_body(alloc, list, degree, all, tokens),
         Owner::Argument(after, _) => Ok(close_argument(alloc, list, all, after)?),
         Owner::OpenArgument => Err(Stop::Fault(Fault {
             cause: ReadCause::Unbalanced,

@@ -5,7 +5,7 @@ ghost use Rattle.mt_scaled.specs.Number.{Within};
 ghost use Rattle.mt_rules.specs.Rows.{grid_of};
 ghost use Rattle.mt_rules.specs.Sequence.{TableGrid};
 ghost use Rattle.mt_scan.specs.Parts.{Read};
-ghost use Rattle.mt_formula.specs.Displays.{cause_behind, display_body, display_rows, equation_of, equations_of, lines_of};
+ghost use Rattle.mt_formula.specs.Displays.{cause_behind, display_body, display_rows, equation_of, equations_of, first_cells};
 ghost use Rattle.mt_formula.specs.Tables.{table, table_rows};
 ghost use Rattle.mt_formula.specs.declared.open.open_list.Stop.TheVariants.{Fault as AtFault};
 ghost use Rattle.mt_formula.specs.declared.open.table.TableForm.TheVariants.{Spaced};
@@ -177,8 +177,8 @@ fn equations_of(alloc: Global, rows: TableRows) -> Result<EquationList, AllocErr
 }
 
 // The one cell of each row.
-fn lines_of(alloc: Global, rows: TableRows) -> Result<RowList, AllocError>
-    ensures { IfOk result (λ lines. lines ≡ lines_of rows) }
+fn first_cells(alloc: Global, rows: TableRows) -> Result<RowList, AllocError>
+    ensures { IfOk result (λ lines. lines ≡ first_cells rows) }
 {
     let mut lines = Vec::new(alloc);
     for row in rows.into_vec() {
@@ -197,7 +197,7 @@ fn display_body(
     ensures { IfOk result (λ body. body ≡ display_body preamble left rows) }
 {
     match preamble {
-        Preamble::Lines => Ok(Body::Lines(lines_of(alloc, rows)?)),
+        Preamble::Lines => Ok(Body::Lines(first_cells(alloc, rows)?)),
         _ => Ok(Body::Equations {
             left,
             rows: equations_of(alloc, rows)?,
@@ -216,6 +216,7 @@ fn cause_behind(role: Role) -> ReadCause
         | Role::Misplaced
         | Role::Dollar
         | Role::CrWord
+        | Role::OfWord
         | Role::MiddleWord
         | Role::RightWord => ReadCause::Unbalanced,
         Role::LimitsWord(_) => ReadCause::MisplacedLimits,

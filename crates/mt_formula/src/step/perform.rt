@@ -17,8 +17,8 @@ use crate::forms::left_right::open_left_right;
 use crate::forms::primes::put_primes;
 use crate::forms::rows::open_rows;
 use crate::forms::tables::open_table;
-use crate::open::last_atom::plain_last_atom;
-use crate::open::lists::{put_family, put_item, put_last_atom, put_limits, put_script};
+use crate::open::last_atom::big_last_atom;
+use crate::open::lists::{put_atom, put_family, put_item, put_last_atom, put_limits, put_script};
 use crate::open::open_list::{Frame, OpenList, Stop};
 use crate::step::action::Action;
 use crate::step::openings::open_list;
@@ -36,8 +36,8 @@ pub fn put_action(alloc: Global, list: &mut OpenList, action: Action) -> Result<
     match action {
         Action::Nothing => Ok(()),
         Action::Atom(kind, symbol) => {
-            let atom = plain_last_atom(alloc, kind, Field::Sym(symbol))?;
-            put_last_atom(list, atom)
+            put_atom(alloc, list, kind, Field::Sym(symbol))?;
+            Ok(())
         }
         Action::Script(side, symbol) => put_script(alloc, list, side, Field::Sym(symbol)),
         Action::Item(item) => put_item(list, simple_item(item)),
@@ -48,6 +48,10 @@ pub fn put_action(alloc: Global, list: &mut OpenList, action: Action) -> Result<
         Action::Limits(limits) => {
             put_limits(list, limits);
             Ok(())
+        }
+        Action::Big(class, delim, size) => {
+            let atom = big_last_atom(alloc, class, delim, size)?;
+            put_last_atom(list, atom)
         }
         _ => unreachable!(),
     }
@@ -106,7 +110,7 @@ pub fn perform<'a>(
         Action::Rows => open_rows(alloc, codes, frames, list, tokens),
         Action::LeftRight(left) => open_left_right(alloc, frames, list, left, tokens),
         Action::Table(form) => open_table(alloc, codes, frames, list, form, tokens),
-        Action::Group(_) | Action::ScriptGroup(_) | Action::Choice => {
+        Action::Group(_) | Action::ScriptGroup(_) | Action::Choice | Action::Root => {
             open_list(alloc, frames, list, action, tokens)
         }
         Action::Nothing
@@ -114,7 +118,8 @@ pub fn perform<'a>(
         | Action::Script(_, _)
         | Action::Item(_)
         | Action::Family(_)
-        | Action::Limits(_) => put_plain(alloc, list, action, tokens),
+        | Action::Limits(_)
+        | Action::Big(_, _, _) => put_plain(alloc, list, action, tokens),
         Action::Stop => unreachable!(),
     }
 }

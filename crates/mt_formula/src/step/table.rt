@@ -17,8 +17,8 @@ use crate::open::open_list::OpenList;
 use crate::open::table::TableForm;
 use crate::step::action::{Action, coded_action, nucleus_action, script_action};
 use crate::step::words::{
-    accent_word, amount_action, char_word, choice_word, delimiter_word, family_word, left_word,
-    open_group, pmatrix_word, radical_word, vcenter_word,
+    accent_word, amount_action, big_word, char_word, choice_word, delimiter_word, family_word,
+    left_word, open_group, pmatrix_word, radical_word, root_word, vcenter_word,
 };
 use mt_plain::Codes;
 use mt_rules::Limits;
@@ -123,6 +123,8 @@ fn role_action<'a>(
         Role::Nucleus(kind) => nucleus_action(codes, level, family, kind, after),
         Role::RadicalWord => radical_word(codes, level, family, after),
         Role::AccentWord => accent_word(codes, level, family, after),
+        Role::RootWord => root_word(codes, level, token, after),
+        Role::BigWord(class, size) => big_word(codes, class, size, after),
         Role::FamilyWord => family_word(after),
         Role::AmountWord(amount) => amount_action(units, amount, after),
         Role::OpenBrace => open_group(codes, level, token, after),
@@ -143,6 +145,7 @@ fn role_action<'a>(
         | Role::Misplaced
         | Role::Tab
         | Role::CrWord
+        | Role::OfWord
         | Role::MiddleWord
         | Role::RightWord
         | Role::FractionWord(_, _)

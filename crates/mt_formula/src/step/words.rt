@@ -6,14 +6,14 @@ ghost use Rattle.mt_scan.specs.Dimensions.{glue, dimension};
 ghost use Rattle.mt_scan.specs.Meets.{Meets};
 ghost use Rattle.mt_scan.specs.Numbers.{math_code, delimiter_number, whole_number};
 ghost use Rattle.mt_scan.specs.Parts.{then_read, opening, Got};
-ghost use Rattle.mt_scan.specs.Role.{role_of, is_open_brace, is_left, is_pmatrix};
+ghost use Rattle.mt_scan.specs.Role.{role_of, is_open_brace, is_left, is_pmatrix, is_root};
 ghost use Rattle.mt_scan.specs.Symbols.{code_symbol, delim_of, current_family};
 ghost use Rattle.mt_scan.specs.declared.role.FieldKind.TheVariants.{Radical, Accent, Class as OfClass};
-ghost use Rattle.mt_scan.specs.declared.role.Role.TheVariants.{OpenBrace, LeftWord, PmatrixWord};
+ghost use Rattle.mt_scan.specs.declared.role.Role.TheVariants.{OpenBrace, LeftWord, PmatrixWord, RootWord};
 ghost use Rattle.mt_scan.specs.declared.role.Simple.TheVariants.{MuSpace, Space, MuKern, Kern};
 ghost use Rattle.mt_formula.specs.Items.{coded_action, nucleus_action, amount_action};
-ghost use Rattle.mt_formula.specs.Items.{left_action, pmatrix_action};
-ghost use Rattle.mt_formula.specs.declared.step.action.Action.TheVariants.{Item, Family, Group, Rows, Choice};
+ghost use Rattle.mt_formula.specs.Items.{big_action, left_action, pmatrix_action};
+ghost use Rattle.mt_formula.specs.declared.step.action.Action.TheVariants.{Item, Family, Group, Rows, Choice, Root};
 
 use crate::open::groups::{check_level, open_brace};
 use crate::open::table::TableForm;
@@ -152,6 +152,42 @@ pub fn choice_word<'a>(
     Ok(Scanned {
         value: Action::Choice,
         rest: inside,
+    })
+}
+
+/// At a `\root`.
+pub fn root_word<'a>(
+    codes: &Codes,
+    level: usize,
+    token: &Token,
+    after: &'a [Token],
+) -> Result<Scanned<'a, Action>, Fault>
+    requires { role_of codes.now token.now ≡ RootWord }
+    ensures is { Meets result (then_read (opening codes.now is_root level (token.now ∷ after.now))
+        (λ here inside. Got Root inside)) }
+    ensures falls { IfOk result (λ action. length action.rest.now ≤ length after.now) }
+{
+    check_level(level, after.len() + 1)?;
+    Ok(Scanned {
+        value: Action::Root,
+        rest: after,
+    })
+}
+
+/// After `\big` and its like.
+pub fn big_word<'a>(
+    codes: &Codes,
+    class: Class,
+    size: u8,
+    after: &'a [Token],
+) -> Result<Scanned<'a, Action>, Fault>
+    ensures is { Meets result (big_action codes.now class size after.now) }
+    ensures falls { IfOk result (λ action. length action.rest.now ≤ length after.now) }
+{
+    let delim = scan_delimiter(codes, after)?;
+    Ok(Scanned {
+        value: Action::Big(class, delim.value, size),
+        rest: delim.rest,
     })
 }
 
