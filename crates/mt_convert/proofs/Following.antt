@@ -12,7 +12,8 @@ use Rattle.mt_rules.specs.AtomRow.{atom_row, fraction_row}
 use Rattle.mt_rules.specs.declared.symbol.Glue.{Glue}
 use Rattle.mt_spacing.proofs.Neighbours.{can_meet}
 use Rattle.mt_convert.specs.declared.flat.current.Current.{Current}
-use Rattle.mt_convert.specs.FirstPass.{make_kern, make_space, set_item, in_points, glue_in_points}
+use Rattle.mt_rules.specs.MathUnits.{in_points}
+use Rattle.mt_convert.specs.FirstPass.{make_kern, make_space, set_item, glue_in_points}
 use Rattle.mt_convert.specs.Halves.{HalfValue, HalfAtom, HalfKern, HalfSpace, class_to_left, class_to_right}
 use Rattle.mt_convert.specs.Halfway.{half_values}
 use Rattle.mt_convert.specs.inner.Fields.{atom_content, fraction_content}

@@ -205,7 +205,7 @@ test_passes false x e = absurd (cc)
 kern_fits : (x : ℤ) → test_value x ≡ Ok tt → Within (2 ^ 40) x
 kern_fits x e = wide x (in_range x (test_passes (is_in_range x) x e))
 
-pushes : (n : ℕ) (h : Half) (kern : Option ℤ) → HalfFits n h → count_of h ≤ 3 → HalfReachInRange h → test_kern kern ≡ Ok tt → Pushes n (h ∷ kern_halves kern)
+pushes : (n : ℕ) (h : Half) (kern : Option ℤ) → HalfFits n h → count_of h ≤ 4 → HalfReachInRange h → test_kern kern ≡ Ok tt → Pushes n (h ∷ kern_halves kern)
 pushes n h None fits few reach e = record {
   count = omega arith;
   total = omega (arith, few);
@@ -235,7 +235,7 @@ pub record WasSet (fonts : SetValue) (current : Current) (p : PassedElement) (h 
   pub is : set_item fonts current (flat_item fonts p) ≡ Ok (half_value h)
   pub kern : test_kern between ≡ Ok tt
   pub fits : HalfFits (12 * element_nesting (element_of_passed p)) h
-  pub few : count_of h ≤ 3
+  pub few : count_of h ≤ 4
   pub reach : HalfReachInRange h
 
 going_set : (fonts : SetValue) (first : Style) (whole : Sequence) (current : Current) (f : Element) (s : Sequence) (halves : List Half) (p : PassedElement) (rest' : Sequence) (h : Half) → Going fonts first whole current (More f s) halves → PassesOne p rest' ≡ turn_of fonts current f s → ((enclosed : Bool) → RestOfList enclosed (More f s) → RestOfList enclosed (More (element_of_passed p) rest')) → WasSet fonts current p h (kern_of p) → Going fonts first whole (current_after_passed current p) rest' (halves ++ h ∷ kern_halves (kern_of p))

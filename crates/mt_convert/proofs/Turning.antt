@@ -14,7 +14,7 @@ use Rattle.mt_rules.specs.declared.style.Style.TheVariants.{D, Dc, T, Tc, S, Sc,
 use Rattle.mt_rules.specs.declared.symbol.Symbol.{Symbol}
 use Rattle.mt_rules.specs.Styles.{size_of, is_display_or_text}
 use Rattle.mt_rules.specs.Nuclei.{OrdinarySymbol, TextSymbol, SmartPair, is_empty}
-use Rattle.mt_rules.specs.Sequence.{Sequence, Element, Part, End, More, AtomElement, FractionElement, LeftElement, MiddleElement, RightElement, StyleElement, ChoiceElement, MuSpaceElement, SpaceElement, MuKernElement, KernElement, NonscriptElement, EmptyPart, SymbolPart, ListPart, RowsPart, TablePart, sequence_size, element_size}
+use Rattle.mt_rules.specs.Sequence.{Sequence, Element, Part, End, More, AtomElement, FractionElement, LeftElement, MiddleElement, RightElement, StyleElement, ChoiceElement, MuSpaceElement, SpaceElement, MuKernElement, KernElement, NonscriptElement, EmptyPart, SymbolPart, ListPart, RowsPart, TablePart, RootPart, BigPart, sequence_size, element_size}
 use Rattle.mt_rules.specs.Modest.{list_items, element_items, list_nesting, element_nesting, ListAmounts, ElementAmounts, IsAmount}
 use Rattle.mt_convert.specs.declared.flat.current.Current.{Current}
 use Rattle.mt_convert.specs.declared.flat.joining.SymbolPair.{SymbolPair}
@@ -227,6 +227,8 @@ same_empty fonts (SymbolPart symbol) = refl
 same_empty fonts (ListPart list) = refl
 same_empty fonts (RowsPart rows) = refl
 same_empty fonts (TablePart look grid) = refl
+same_empty fonts (RootPart degree body) = refl
+same_empty fonts (BigPart delim level) = refl
 
 same_part_symbol : (fonts : SetValue) (part : Part) → content_symbol (content_of fonts part) ≡ part_symbol part
 same_part_symbol fonts EmptyPart = refl
@@ -234,6 +236,8 @@ same_part_symbol fonts (SymbolPart symbol) = refl
 same_part_symbol fonts (ListPart list) = refl
 same_part_symbol fonts (RowsPart rows) = refl
 same_part_symbol fonts (TablePart look grid) = refl
+same_part_symbol fonts (RootPart degree body) = refl
+same_part_symbol fonts (BigPart delim level) = refl
 
 same_first : (fonts : SetValue) (last : Option Class) (kind : Kind) (limits : Limits) (nucleus sup sub : Part) → first_symbol last (atom_content fonts kind limits nucleus sup sub) ≡ symbol_before last kind nucleus sup sub
 same_first fonts last kind limits nucleus sup sub =

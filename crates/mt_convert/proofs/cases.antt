@@ -5,4 +5,5 @@ mod JoiningCases
 mod PartCases
 mod MiddleCases
 mod TableCases
+mod RootCases
 mod FaultCases

@@ -9,6 +9,8 @@ pub mod Parts
 pub mod Atoms
 -- fractions
 pub mod Fractions
+-- radicals with a degree, and phantoms
+pub mod Roots
 -- accents
 pub mod Accents
 -- rows of a vcenter atom

@@ -1,15 +1,13 @@
 -- The first pass (`first_pass_of`): the items of the flat list are set in order, up to the first fault (The TeXbook,
 -- Appendix G, rules 1 to 18; tex.web, sections 726 to 759).
-use Rattle.std.specs.Prelude.{ℕ, ℤ, pos, int_div, List, [], ◌∷◌, Ok}
-use Rattle.mt_scaled.specs.Number.{mu_product}
+use Rattle.std.specs.Prelude.{ℕ, ℤ, List, [], ◌∷◌, Ok}
 use Rattle.mt_family.specs.SetValue.{SetValue}
 use Rattle.mt_rules.specs.declared.class.Class.TheVariants.{Inner}
 use Rattle.mt_rules.specs.declared.style.Style.{Style}
 use Rattle.mt_rules.specs.declared.symbol.Glue.{Glue}
-use Rattle.mt_rules.specs.Styles.{size_of}
 use Rattle.mt_rules.specs.Classes.{kind_class, forward_of}
 use Rattle.mt_rules.specs.Setting.{Setting, ◌>>=◌, ◌>>◌, test_value}
-use Rattle.mt_rules.specs.Parameters.{quad}
+use Rattle.mt_rules.specs.MathUnits.{in_points}
 use Rattle.mt_rules.specs.AtomRow.{atom_row, fraction_row}
 use Rattle.mt_convert.specs.declared.flat.current.Current.{Current}
 use Rattle.mt_convert.specs.Current.{opening}
@@ -18,13 +16,6 @@ use Rattle.mt_convert.specs.Flat.{FlatItem, FlatAtom, FlatFraction, FlatLeft, Fl
 use Rattle.mt_convert.specs.Halves.{HalfValue, HalfAtom, HalfLeft, HalfMiddle, HalfRight, HalfStyle, HalfKern, HalfSpace, Halves, settle}
 
 -- ---- spaces and kerns
-
--- the size of a math unit: an 18th of the quad at the size of the place
-abbrev pub math_unit : SetValue → Style → ℤ
-math_unit fonts style = int_div (quad fonts (size_of style)) (pos 18)
-
-abbrev pub in_points : SetValue → Style → ℤ → ℤ
-in_points fonts style amount = mu_product amount (math_unit fonts style)
 
 abbrev pub glue_in_points : SetValue → Style → Glue → Glue
 glue_in_points fonts style glue =

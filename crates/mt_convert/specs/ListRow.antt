@@ -5,8 +5,8 @@ use Rattle.mt_family.specs.SetValue.{SetValue}
 use Rattle.mt_box.specs.Rows.{PieceValue}
 use Rattle.mt_rules.specs.declared.style.Style.{Style}
 use Rattle.mt_rules.specs.Setting.{Setting, ◌>>=◌}
-use Rattle.mt_rules.specs.Sequence.{Sequence, Element, Part, Rows, End, More, AtomElement, FractionElement, LeftElement, MiddleElement, RightElement, StyleElement, ChoiceElement, MuSpaceElement, SpaceElement, MuKernElement, KernElement, NonscriptElement, EmptyPart, SymbolPart, ListPart, RowsPart, TablePart, NoRows, MoreRows, TableGrid, NoTableRows, MoreTableRows, sequence_size}
-use Rattle.mt_rules.specs.Nuclei.{RowByStyle, Content, NoContent, SymbolContent, ListContent, RowsContent, TableContent}
+use Rattle.mt_rules.specs.Sequence.{Sequence, Element, Part, Rows, End, More, AtomElement, FractionElement, LeftElement, MiddleElement, RightElement, StyleElement, ChoiceElement, MuSpaceElement, SpaceElement, MuKernElement, KernElement, NonscriptElement, EmptyPart, SymbolPart, ListPart, RowsPart, TablePart, RootPart, BigPart, NoRows, MoreRows, TableGrid, NoTableRows, MoreTableRows, sequence_size}
+use Rattle.mt_rules.specs.Nuclei.{RowByStyle, Content, NoContent, SymbolContent, ListContent, RowsContent, TableContent, RootContent, BigContent}
 use Rattle.mt_convert.specs.Contents.{ItemContent, AtomItem, FractionItem, LeftItem, MiddleItem, RightItem, StyleItem, ChoiceItem, MuSpaceItem, SpaceItem, MuKernItem, KernItem, NonscriptItem, ItemContents, NoItems, MoreItems}
 use Rattle.mt_convert.specs.Halves.{Halves}
 use Rattle.mt_convert.specs.FirstPass.{first_pass_of}
@@ -59,6 +59,9 @@ module _ (fonts : SetValue) where
     content_of (ListPart list) = ListContent (row_of_items fonts (sequence_size list) (items_of list))
     content_of (RowsPart rows) = RowsContent (rows_by_style rows)
     content_of (TablePart look grid) = TableContent look (cells_by_style grid)
+    content_of (RootPart degree body) =
+        RootContent (row_of_items fonts (sequence_size degree) (items_of degree)) (content_of body)
+    content_of (BigPart delim level) = BigContent delim level
 
     pub rows_by_style : Rows → List RowByStyle
     rows_by_style NoRows = []

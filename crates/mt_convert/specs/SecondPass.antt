@@ -12,13 +12,13 @@ use Rattle.mt_rules.specs.declared.style.Style.{Style}
 use Rattle.mt_rules.specs.declared.symbol.Delim.{Delim}
 use Rattle.mt_rules.specs.declared.symbol.Glue.{Glue}
 use Rattle.mt_rules.specs.Styles.{size_of}
+use Rattle.mt_rules.specs.MathUnits.{math_unit}
 use Rattle.mt_rules.specs.Spaces.{Spacing, NoSpacing, ThinSpacing, MediumSpacing, ThickSpacing, spacing, spacing_glue}
 use Rattle.mt_rules.specs.Setting.{Setting, ◌>>=◌, make_row}
 use Rattle.mt_rules.specs.Delimiters.{delimiter, piece_on_axis, boundary_size}
 use Rattle.mt_convert.specs.declared.flat.current.Current.{Current}
 use Rattle.mt_convert.specs.Current.{opening}
 use Rattle.mt_convert.specs.Halves.{HalfValue, HalfAtom, HalfLeft, HalfMiddle, HalfRight, HalfStyle, HalfKern, HalfSpace, Halves, class_to_right}
-use Rattle.mt_convert.specs.FirstPass.{math_unit}
 
 -- ---- the space before an atom
 

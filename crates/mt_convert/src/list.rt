@@ -5,15 +5,15 @@ ghost use Rattle.mt_rules.specs.declared.class.Class.{Class};
 ghost use Rattle.mt_rules.specs.declared.kind.Kind.TheVariants.{Plain};
 ghost use Rattle.mt_box.specs.Rows.{piece_values};
 ghost use Rattle.mt_scaled.specs.Number.{Within};
-ghost use Rattle.mt_tfm.specs.Font.{IsSoundFont};
 ghost use Rattle.mt_rules.specs.AtomRow.{accent_inside, overline_part, pack_cells, pack_rows};
-ghost use Rattle.mt_rules.specs.AtomRow.{radical_part, script_box, table_part, underline_part};
-ghost use Rattle.mt_rules.specs.AtomRow.{vcenter_part};
+ghost use Rattle.mt_rules.specs.AtomRow.{packed_field, radical_part, radical_row, script_box};
+ghost use Rattle.mt_rules.specs.AtomRow.{table_part, underline_part, vcenter_part, veil_part};
 ghost use Rattle.mt_rules.specs.declared.list.Look.TheVariants.{Equations};
 ghost use Rattle.mt_rules.specs.Modest.{IsModestList, element_nesting, list_nesting, part_nesting};
 ghost use Rattle.mt_rules.specs.Modest.{grid_nesting, rows_nesting};
 ghost use Rattle.mt_rules.specs.Sequence.{rows_length};
-ghost use Rattle.mt_rules.specs.Nuclei.{SymbolContent, SymbolRole, clean_field, clean_list, packed_list};
+ghost use Rattle.mt_rules.specs.Nuclei.{Content, SymbolContent, SymbolRole, clean_field, clean_list};
+ghost use Rattle.mt_rules.specs.Nuclei.{packed_list};
 ghost use Rattle.mt_rules.specs.View.{atom_element, fraction_element, part_of_field};
 ghost use Rattle.mt_scripts.specs.Levels.{script_level};
 ghost use Rattle.mt_convert.specs.Calls.{SetsHalves, SetsRow};
@@ -29,6 +29,7 @@ ghost use Rattle.mt_convert.specs.inner.Fields.{list_content};
 ghost use Rattle.mt_convert.specs.inner.AtomSteps.{accent_part, class_nucleus, kind_nucleus};
 ghost use Rattle.mt_convert.specs.inner.AtomSteps.{operator_box, row_with_fields, row_with_limits};
 ghost use Rattle.mt_convert.specs.inner.AtomSteps.{under_limits};
+ghost use Rattle.mt_convert.specs.inner.Forms.{HasDegree};
 ghost use Rattle.mt_convert.specs.inner.Modest.{IsModestElement, IsModestGrid, IsModestPart, IsModestRows};
 ghost use Rattle.mt_convert.specs.inner.Modest.{ScriptLevels};
 ghost use Rattle.mt_convert.specs.inner.Nucleus.{NucleusIsSmall, nucleus_value, operator_value};
@@ -44,30 +45,31 @@ use crate::flat::worklist::Worklist;
 use crate::half::Half;
 use crate::halfway::Halfway;
 use crate::second::pass::second_pass;
-use crate::set::clean::{clean_symbol, cleaned, empty_box, find_symbol, packed};
+use crate::set::clean::{clean_symbol, cleaned, empty_box, find_symbol, look_at_fonts, packed};
 use crate::set::form::{AtomForm, class_nucleus, form_of, part_nucleus, part_operator};
-use crate::set::lengths::{glue_in_points, in_points, make_kern, make_space, push_with_kern};
+use crate::set::lengths::{glue_in_points, make_kern, make_space, push_with_kern};
 use crate::set::nucleus::{
-    SetNucleus, SetOperator, box_nucleus, empty_nucleus, operator_nucleus, symbol_nucleus,
-    symbol_operator,
+    SetNucleus, SetOperator, big_nucleus, big_operator, box_nucleus, empty_nucleus,
+    operator_nucleus, symbol_nucleus, symbol_operator,
 };
 use crate::set::parts::{
-    accent, field_skew, fraction, overline, radical, skew_of, underline, vcenter,
+    accent, field_skew, fraction, overline, radical, skew_of, underline, vcenter, with_degree,
 };
 use crate::set::row::box_row;
 use crate::set::scripts::{with_limits, with_scripts, without_scripts};
 use crate::set::settle::finish;
-use crate::set::tables::{equations, in_columns, matrix, push_row, table_strut};
+use crate::set::tables::{equations, in_columns, matrix, push_box, push_row, table_strut};
 use mt_align::CellRows;
 use mt_box::{Packed, Row};
 use mt_family::FontSet;
+use mt_parts::veil_box;
 use mt_rules::{
-    Atom, Class, Delim, Field, Fraction, Kind, Look, MathList, PackedList, RowList, Style, Symbol,
-    Table, TableRows,
+    Atom, Class, Delim, Field, Fraction, Kind, Look, MathList, PackedList, Root, RowList, Style,
+    Symbol, Table, TableRows, in_points,
 };
 use mt_scaled::Length;
 use mt_spacing::forward;
-use std::alloc::{AllocError, Global};
+use std::alloc::Global;
 
 /// The row of a math list in a style (The TeXbook, Appendix G).
 ///
@@ -101,13 +103,6 @@ pub fn set_list(
     look_at_fonts(fonts);
     let half = first_pass(alloc, fonts, list, style)?;
     second_pass(alloc, fonts, half, style)
-}
-
-// Does nothing. Its contract says what every font of a set keeps.
-fn look_at_fonts(fonts: &FontSet)
-    ensures { All IsSoundFont fonts.now.fonts }
-{
-    fonts.font_count();
 }
 
 /// The first pass over a math list in a style: its items set, with their final classes, and how far
@@ -157,7 +152,7 @@ fn set_item(
     requires modest { IsModestElement (element_of_passed (passed_value passed)) }
     ensures is { SetsHalf result (FirstPass.set_item fonts.now current (flat_item fonts.now (passed_value passed))) }
     ensures fits { IfOk result (HalfFits (12 * element_nesting (element_of_passed (passed_value passed)))) }
-    ensures few { IfOk result (λ h. count_of h ≤ 3) }
+    ensures few { IfOk result (λ h. count_of h ≤ 4) }
     ensures reach { IfOk result HalfReachInRange }
 {
     match passed {
@@ -198,7 +193,7 @@ fn set_atom(
 ) -> Result<Row, SetFault>
     requires modest { IsModestElement (atom_element atom) }
     ensures is { SetsRow result (atom_row_of fonts.now style (role_value role) atom) }
-    ensures few { IfOk result (λ row. length row ≤ 3) }
+    ensures few { IfOk result (λ row. length row ≤ 4) }
     ensures fits { IfOk result (RowFits (12 * element_nesting (atom_element atom))) }
     ensures reach { IfOk result ReachInRange }
 {
@@ -215,6 +210,7 @@ fn set_atom(
         AtomForm::AccentInside { accent, symbol } => {
             set_accent_inside(alloc, fonts, style, accent, symbol, sup, sub)
         }
+        AtomForm::Root { sign } => set_root(alloc, fonts, style, sign, nucleus),
         AtomForm::Beside => {
             let has_subscript = !is_empty(&sub);
             let nucleus = set_nucleus(alloc, fonts, style, kind, role, nucleus, has_subscript)?;
@@ -273,7 +269,7 @@ fn set_under_limits(
         (under_limits fonts.now style (field_content fonts.now nucleus)
         (field_content fonts.now sup) (field_content fonts.now sub)) }
     ensures few { IfOk result (λ row. length row ≤ 3) }
-    ensures fits { IfOk result (λ row. (n : ℕ) → 12 * part_nesting (part_of_field nucleus) + 2 ≤ n →
+    ensures fits { IfOk result (λ row. (n : ℕ) → 12 * part_nesting (part_of_field nucleus) + 4 ≤ n →
         ScriptLevels n (part_of_field sup) (part_of_field sub) → RowFits (n + 3) row) }
     ensures reach { IfOk result ReachInRange }
 {
@@ -343,7 +339,7 @@ fn clean_field(
     match field {
         Field::Sym(symbol) => clean_symbol(alloc, fonts, style, symbol),
         Field::List(list) => clean_list(alloc, fonts, style, list),
-        Field::Empty | Field::Rows(_) | Field::Table(_) => empty_box(alloc),
+        _ => empty_box(alloc),
     }
 }
 
@@ -411,6 +407,14 @@ fn set_part(
         Kind::Over => part_nucleus(alloc, set_overline(alloc, fonts, style, field)),
         Kind::Under => part_nucleus(alloc, set_underline(alloc, fonts, style, field)),
         Kind::Vcenter => part_nucleus(alloc, set_vcenter(alloc, fonts, style, field)),
+        Kind::Veil {
+            width,
+            height,
+            marks,
+        } => part_nucleus(
+            alloc,
+            set_veil(alloc, fonts, style, width, height, marks, field),
+        ),
         Kind::Plain(_) => unreachable!(),
     }
 }
@@ -429,14 +433,15 @@ fn set_plain(
     requires modest { IsModestPart (part_of_field field) }
     ensures is { SetsNucleus result
         (class_nucleus class fonts.now style (role_value role) (field_content fonts.now field) has_subscript) }
-    ensures fits { IfOk result (NucleusIsSmall (12 * part_nesting (part_of_field field) + 4)) }
+    ensures fits { IfOk result (NucleusIsSmall (12 * part_nesting (part_of_field field) + 3)) }
 {
     match field {
         Field::Sym(symbol) => {
             class_nucleus(alloc, fonts, style, class, role, symbol, has_subscript)
         }
         Field::List(list) => pack_list(alloc, fonts, style, list),
-        Field::Empty | Field::Rows(_) | Field::Table(_) => Ok(empty_nucleus(alloc)),
+        Field::Big { delim, level } => big_nucleus(alloc, fonts, delim, level),
+        _ => Ok(empty_nucleus(alloc)),
     }
 }
 
@@ -468,17 +473,64 @@ fn set_operator(
 ) -> Result<SetOperator, SetFault>
     requires modest { IsModestPart (part_of_field field) }
     ensures is { SetsOperator result (operator_box fonts.now style (field_content fonts.now field)) }
-    ensures level { IfOk result (λ o. o.body.level ≤ 12 * part_nesting (part_of_field field) + 2) }
+    ensures level { IfOk result (λ o. o.body.level ≤ 12 * part_nesting (part_of_field field) + 4) }
     ensures delta { IfOk result (λ o. Within (2 ^ 31) o.delta.sp) }
 {
     match field {
         Field::Sym(symbol) => symbol_operator(alloc, fonts, style, symbol),
         Field::List(list) => part_operator(clean_list(alloc, fonts, style, list)),
-        Field::Empty | Field::Rows(_) | Field::Table(_) => part_operator(empty_box(alloc)),
+        Field::Big { delim, level } => big_operator(alloc, fonts, delim, level),
+        _ => part_operator(empty_box(alloc)),
     }
 }
 
+// The box of a field as the nucleus of an ordinary atom without scripts.
+#[cycle(setting)]
+#[inline(never)]
+fn pack_field(
+    alloc: Global,
+    fonts: &FontSet,
+    style: Style,
+    field: Field,
+) -> Result<Packed, SetFault>
+    requires modest { IsModestPart (part_of_field field) }
+    ensures is { SetsBox result (packed_field fonts.now style (field_content fonts.now field)) }
+    ensures level { IfOk result (λ b. b.level ≤ 12 * part_nesting (part_of_field field) + 4) }
+{
+    let role = JoiningRole::Ordinary;
+    let nucleus = set_plain(alloc, fonts, style, Class::Ord, role, field, false)?;
+    packed(alloc, without_scripts(nucleus)?)
+}
+
 // ---- parts round a nucleus
+
+// A radical with its degree: the degree, then the radical, then both side by side.
+#[cycle(setting)]
+#[inline(never)]
+fn set_root(
+    alloc: Global,
+    fonts: &FontSet,
+    style: Style,
+    sign: Delim,
+    nucleus: Field,
+) -> Result<Row, SetFault>
+    requires degree { HasDegree (part_of_field nucleus) }
+    requires modest { IsModestPart (part_of_field nucleus) }
+    ensures is { (sup sub : Content) → SetsRow result
+        (radical_row fonts.now style sign (field_content fonts.now nucleus) sup sub) }
+    ensures few { IfOk result (λ row. length row ≤ 4) }
+    ensures fits { IfOk result (RowFits (12 * part_nesting (part_of_field nucleus) + 4)) }
+    ensures reach { IfOk result ReachInRange }
+{
+    let Field::Root(boxed) = nucleus else {
+        unreachable!();
+    };
+    let root = Box::into_inner(boxed);
+    let Root { degree, body } = root;
+    let degree = pack_field(alloc, fonts, Style::Ss, Field::List(degree))?;
+    let radical = set_radical(alloc, fonts, style.uncramped(), sign, body)?;
+    with_degree(alloc, fonts, style, degree, radical)
+}
 
 #[cycle(setting)]
 #[inline(never)]
@@ -584,14 +636,8 @@ fn set_accent_inside(
     let number = find_symbol(fonts, style.size(), accent_symbol)?;
     let plain = clean_symbol(alloc, fonts, style.cramped(), symbol)?.extents();
     let has_subscript = !is_empty(&sub);
-    let nucleus = symbol_nucleus(
-        alloc,
-        fonts,
-        style,
-        symbol,
-        JoiningRole::Ordinary,
-        has_subscript,
-    )?;
+    let role = JoiningRole::Ordinary;
+    let nucleus = symbol_nucleus(alloc, fonts, style, symbol, role, has_subscript)?;
     let row = set_scripts(alloc, fonts, style, nucleus, sup, sub)?;
     let body = packed(alloc, row)?;
     let skew = skew_of(fonts, style.size(), symbol);
@@ -606,6 +652,27 @@ fn set_accent_inside(
         body,
     )?;
     box_row(alloc, whole)
+}
+
+// What a phantom leaves of its nucleus.
+#[cycle(setting)]
+#[inline(never)]
+fn set_veil(
+    alloc: Global,
+    fonts: &FontSet,
+    style: Style,
+    width: bool,
+    height: bool,
+    marks: bool,
+    field: Field,
+) -> Result<Packed, SetFault>
+    requires modest { IsModestPart (part_of_field field) }
+    ensures is { SetsBox result
+        (veil_part fonts.now style width height marks (field_content fonts.now field)) }
+    ensures level { IfOk result (λ b. b.level ≤ 12 * part_nesting (part_of_field field) + 4) }
+{
+    let body = pack_field(alloc, fonts, style.uncramped(), field)?;
+    Ok(veil_box(body, width, height, marks))
 }
 
 #[cycle(setting)]
@@ -695,13 +762,6 @@ fn set_cells(
         push_row(&mut done, cells)?;
     }
     Ok(CellRows::from_vec(done))
-}
-
-fn push_box(boxes: &mut Vec<Packed>, body: Packed) -> Result<(), AllocError>
-    ensures { OnOk result (boxes.new.items ≡ boxes.old.items ++ body ∷ []) }
-{
-    boxes.push(body)?;
-    Ok(())
 }
 
 // ---- fractions

@@ -15,6 +15,7 @@ use Rattle.mt_plain.specs.MacroTexts.{macro_texts, accent_macros, delimiter_macr
 use Rattle.mt_plain.specs.PlainMacros.{plain_table, body_of as plain_body}
 use Rattle.mt_formula.specs.Formulas.{item_run}
 use Rattle.mt_rules.specs.AtomRow.{atom_row}
+use Rattle.mt_rules.specs.DisplayRows.{equations_line, rows_line}
 use Rattle.mt_rules.specs.Nuclei.{nucleus_row}
 use Rattle.mt_rules.specs.Scripts.{row_with_scripts}
 use Rattle.mt_convert.specs.FirstPass.{first_pass_of}
@@ -62,7 +63,7 @@ fonts width = record {
 
 -- what evaluating a source unfolds: its reading, and the rules of setting
 unfoldable computed : ⊤
-unfolding sets.sy source_pages document_pages formula_lines display_lines stacked_lines item_run run pages_from control plain_codes plain_table macro_texts accent_macros delimiter_macros other_macros family_macros function_macros limit_macros plain_body list_row halves_of first_pass_of second_pass_of atom_row nucleus_row row_with_scripts
+unfolding sets.sy source_pages document_pages formula_lines display_lines stacked_lines item_run run pages_from control plain_codes plain_table macro_texts accent_macros delimiter_macros other_macros family_macros function_macros limit_macros plain_body list_row halves_of first_pass_of second_pass_of atom_row nucleus_row row_with_scripts equations_line rows_line
 computed = tt
 
 abbrev Answered : Type 0
@@ -171,6 +172,32 @@ case_28 = refl
 case_29 : set (codes "$$aaaa\\eqno bb$$") ≡ Ok ((glyph 1 97 10 ∷ glyph 1 97 30 ∷ glyph 1 97 50 ∷ glyph 1 97 70 ∷ glyph_below 1 98 60 ∷ glyph_below 1 98 80 ∷ []) ∷ [])
 unfolding computed
 case_29 = refl
+
+-- equations with a number at the right and at the left end of the line, and rows in the middle of it
+case_33 : set (codes "$$\\eqalignno{a&b&1\\cr}$$") ≡ Ok ((glyph 1 97 30 ∷ glyph 1 98 50 ∷ glyph 0 49 90 ∷ []) ∷ [])
+unfolding computed
+case_33 = refl
+
+case_34 : set (codes "$$\\leqalignno{a&b&1\\cr}$$") ≡ Ok ((glyph 1 97 30 ∷ glyph 1 98 50 ∷ glyph 0 49 0 ∷ []) ∷ [])
+unfolding computed
+case_34 = refl
+
+case_35 : set (codes "$$\\displaylines{ab\\cr}$$") ≡ Ok ((glyph 1 97 30 ∷ glyph 1 98 50 ∷ []) ∷ [])
+unfolding computed
+case_35 = refl
+
+-- cells are set row by row: the left side, the right side, the number
+case_36 : set (codes "$$\\eqalignno{\\cal a&+\\cr}$$") ≡ Err (MissingFamily 1 2 Text)
+unfolding computed
+case_36 = refl
+
+case_37 : set (codes "$$\\eqalignno{a&b&+\\cr\\cal a&b\\cr}$$") ≡ Err (MissingChar 1 0 Text 43)
+unfolding computed
+case_37 = refl
+
+case_38 : set (codes "$$\\displaylines{+\\cr\\cal a\\cr}$$") ≡ Err (MissingChar 1 0 Text 43)
+unfolding computed
+case_38 = refl
 
 -- the number is set after the body, and a formula after the ones before it
 case_30 : set (codes "$$a\\eqno+$$ $+$") ≡ Err (MissingChar 1 0 Text 43)

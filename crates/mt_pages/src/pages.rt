@@ -203,11 +203,11 @@ impl<'a> PageSetter<'a> {
     ///
     /// # Errors
     ///
-    /// The first fault of the document, in the order of the source: `BadFormula` for a token outside of formulas (31 to
-    /// 36), a macro of a formula without an argument (21) and a token at which a formula cannot be read on (1 to 10);
-    /// `Budget` for a formula whose macros do not come to an end, and where the formulas have too many tokens together;
-    /// `TooDeep` where too many groups of a formula are open; `TooMuch` pages, at the formula that would begin one.
-    /// Where all formulas are read, the first fault of setting them, as [`page_lines`] says. Where all are set, the
+    /// The first fault of the document, in the order of the source: `BadFormula` for a token outside of formulas (causes
+    /// 31 to 36), a macro of a formula without an argument (21) and a token at which a formula cannot be read on (1 to 10
+    /// and 13); `Budget` for a formula whose macros do not come to an end, and where the formulas have too many tokens
+    /// together; `TooDeep` where too many groups of a formula are open; `TooMuch` pages, at the formula that would begin
+    /// one. Where all formulas are read, the first fault of setting them, as [`page_lines`] says. Where all are set, the
     /// first of these, page by page and in the order of the places: `Overflow` with a coordinate that is out of range,
     /// and the number of its formula; `TooMuch` at place 2,000,001. `OutOfMemory` where memory ran out.
     pub fn next_page(

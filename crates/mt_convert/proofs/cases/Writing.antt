@@ -11,6 +11,9 @@ use Rattle.mt_rules.specs.declared.kind.Limits.TheVariants.{Default}
 use Rattle.mt_rules.specs.Sequence.{Sequence, Element, Part, End, More, AtomElement, EmptyPart, SymbolPart, ListPart}
 use Rattle.mt_rules.specs.Setting.{Setting, ◌>>=◌}
 use Rattle.mt_rules.specs.Tables.{matrix_table, equations_table}
+use Rattle.mt_rules.specs.Veils.{veil_layout}
+use Rattle.mt_rules.specs.Roots.{root_row}
+use Rattle.mt_rules.specs.BigDelimiters.{big_delimiter}
 use Rattle.mt_convert.specs.FirstPass.{first_pass_of}
 use Rattle.mt_convert.specs.SecondPass.{second_pass_of}
 use Rattle.mt_convert.specs.ListRow.{halves_of, list_row}
@@ -63,5 +66,5 @@ from_top row = do
 -- ---- the rules, open
 
 unfoldable pub evaluated : ⊤
-unfolding rules.evaluated matrix_table equations_table first_pass_of second_pass_of halves_of list_row
+unfolding rules.evaluated matrix_table equations_table veil_layout root_row big_delimiter first_pass_of second_pass_of halves_of list_row
 evaluated = tt

@@ -7,15 +7,15 @@ use Rattle.mt_box.specs.Rows.{PieceBox}
 use Rattle.mt_rules.specs.declared.class.Class.{Class}
 use Rattle.mt_rules.specs.declared.class.Class.TheVariants as classes
 use Rattle.mt_rules.specs.declared.kind.Kind.{Kind}
-use Rattle.mt_rules.specs.declared.kind.Kind.TheVariants.{Plain, Radical, Accent, Over, Under, Vcenter}
+use Rattle.mt_rules.specs.declared.kind.Kind.TheVariants.{Plain, Radical, Accent, Over, Under, Vcenter, Veil}
 use Rattle.mt_rules.specs.declared.kind.Limits.{Limits}
 use Rattle.mt_rules.specs.declared.list.Look.{Look}
 use Rattle.mt_rules.specs.declared.list.Look.TheVariants.{Matrix, Equations}
 use Rattle.mt_rules.specs.declared.symbol.Symbol.{Symbol}
 use Rattle.mt_rules.specs.declared.symbol.Delim.{Delim}
 use Rattle.mt_rules.specs.declared.style.Style.{Style}
-use Rattle.mt_rules.specs.declared.style.Style.TheVariants.{T}
-use Rattle.mt_rules.specs.Styles.{size_of, sup_of, sub_of, cramped_of, num_of, den_of}
+use Rattle.mt_rules.specs.declared.style.Style.TheVariants.{T, Ss}
+use Rattle.mt_rules.specs.Styles.{size_of, sup_of, sub_of, cramped_of, uncramped_of, num_of, den_of}
 use Rattle.mt_rules.specs.Setting.{Setting, ◌>>=◌, make_row, pack_row}
 use Rattle.mt_rules.specs.Parameters.{default_rule_thickness}
 use Rattle.mt_rules.specs.Symbols.{find_symbol}
@@ -26,18 +26,20 @@ use Rattle.mt_rules.specs.Radicals.{radical}
 use Rattle.mt_rules.specs.Lines.{overline, underline}
 use Rattle.mt_rules.specs.Vcenter.{vcenter}
 use Rattle.mt_rules.specs.Tables.{matrix_table, equations_table}
+use Rattle.mt_rules.specs.Roots.{root_row}
+use Rattle.mt_rules.specs.Veils.{veil_layout}
 use Rattle.mt_rules.specs.Accents.{accent}
-use Rattle.mt_rules.specs.Nuclei.{RowByStyle, Content, NoContent, SymbolContent, ListContent, RowsContent, TableContent, is_empty, SymbolRole, OrdinarySymbol, Nucleus, nucleus_row, make_clean, clean_field, clean_list}
+use Rattle.mt_rules.specs.Nuclei.{RowByStyle, Content, NoContent, SymbolContent, ListContent, RowsContent, TableContent, RootContent, BigContent, is_empty, SymbolRole, OrdinarySymbol, Nucleus, nucleus_row, make_clean, clean_field, clean_list}
 use Rattle.mt_rules.specs.Operators.{uses_limits}
-use Rattle.mt_rules.specs.AtomRow.{AtomContent, script_box, some_box, nucleus_with_scripts, box_nucleus, part_with_scripts, row_of_list, nucleus_under_limits, operator_with_limits, nucleus_beside_scripts, operator_without_limits, operator_by_limits, ordinary_row, class_row, radical_part, overline_part, underline_part, pack_rows, vcenter_rows, cells_in_columns, pack_cells, table_strut, table_part, vcenter_part, content_skew, accent_outside, accent_inside, accent_by_scripts, is_symbol, accent_row, kind_row, atom_row, FractionContent, fraction_row}
+use Rattle.mt_rules.specs.AtomRow.{AtomContent, script_box, some_box, nucleus_with_scripts, box_nucleus, part_with_scripts, row_of_list, nucleus_under_limits, operator_with_limits, nucleus_beside_scripts, operator_without_limits, operator_by_limits, ordinary_row, class_row, radical_part, packed_field, radical_with_degree, radical_row, veil_part, overline_part, underline_part, pack_rows, vcenter_rows, cells_in_columns, pack_cells, table_strut, table_part, vcenter_part, content_skew, accent_outside, accent_inside, accent_by_scripts, is_symbol, accent_row, kind_row, atom_row, FractionContent, fraction_row}
 use Rattle.mt_convert.specs.Holding.{LayoutHolds, RowHolds}
 use Rattle.mt_convert.proofs.holds.Steps.{step_holds, next_holds, row_made}
 use Rattle.mt_convert.proofs.holds.Boxes.{packed_row, clean_box, SomeLayoutHolds, LayoutsHold}
 use Rattle.mt_convert.proofs.holds.Glyphs.{ExistsIn, symbol_found, accent_holds}
 use Rattle.mt_convert.proofs.holds.Delimiters.{AreSound}
-use Rattle.mt_convert.proofs.holds.Nuclei.{ListHolds, ListsHold, CellListsHold, ContentHolds, NucleusHolds, clean_list_holds, clean_field_holds, packed_list_holds, nucleus_row_holds, operator_nucleus_holds}
+use Rattle.mt_convert.proofs.holds.Nuclei.{ListHolds, ListsHold, CellListsHold, ContentHolds, NucleusHolds, clean_list_holds, clean_field_holds, packed_list_holds, big_nucleus_holds, nucleus_row_holds, operator_nucleus_holds}
 use Rattle.mt_convert.proofs.holds.Scripts.{scripts_hold, limits_hold}
-use Rattle.mt_convert.proofs.holds.Parts.{fraction_holds, radical_holds, overline_holds, underline_holds, vcenter_holds}
+use Rattle.mt_convert.proofs.holds.Parts.{fraction_holds, radical_holds, root_row_holds, veil_holds, overline_holds, underline_holds, vcenter_holds}
 use Rattle.mt_convert.proofs.holds.Tables.{CellsHold, matrix_holds, equations_hold}
 
 module _ (fonts : SetValue) where
@@ -76,18 +78,20 @@ module _ (fonts : SetValue) where
   list_nucleus list style h =
       step_holds (RowHolds fonts) (NucleusHolds fonts) (list style) (λ row. Ok (record { row = row; delta = pos 0 })) (h style) (λ row k. k)
 
-  under_limits : (style : Style) (field : Content) → ContentHolds fonts field → IfOk (nucleus_under_limits fonts style field) (NucleusHolds fonts)
-  under_limits style NoContent h = tt
-  under_limits style (SymbolContent symbol) h = operator_nucleus_holds fonts style symbol false
-  under_limits style (ListContent list) h = list_nucleus list style h
-  under_limits style (RowsContent rows) h = tt
-  under_limits style (TableContent look rows) h = tt
+  under_limits : (style : Style) (field : Content) → AreSound fonts → ContentHolds fonts field → IfOk (nucleus_under_limits fonts style field) (NucleusHolds fonts)
+  under_limits style NoContent sound h = tt
+  under_limits style (SymbolContent symbol) sound h = operator_nucleus_holds fonts style symbol false
+  under_limits style (ListContent list) sound h = list_nucleus list style h
+  under_limits style (RowsContent rows) sound h = tt
+  under_limits style (TableContent look rows) sound h = tt
+  under_limits style (RootContent degree body) sound h = tt
+  under_limits style (BigContent delim level) sound h = big_nucleus_holds fonts delim level sound
 
-  limits_row_holds : (style : Style) (field sup sub : Content) → ContentHolds fonts field → ContentHolds fonts sup → ContentHolds fonts sub → IfOk (operator_with_limits fonts style field sup sub) (RowHolds fonts)
-  limits_row_holds style field sup sub h a b =
+  limits_row_holds : (style : Style) (field sup sub : Content) → AreSound fonts → ContentHolds fonts field → ContentHolds fonts sup → ContentHolds fonts sub → IfOk (operator_with_limits fonts style field sup sub) (RowHolds fonts)
+  limits_row_holds style field sup sub sound h a b =
       step_holds (NucleusHolds fonts) (RowHolds fonts) (nucleus_under_limits fonts style field)
       (λ (nucleus : Nucleus). make_clean nucleus.row >>= (λ box. script_box fonts (sup_of style) sup >>= (λ above. script_box fonts (sub_of style) sub >>= (λ below. limits fonts (size_of style) box nucleus.delta above below >>= (λ all. make_row (PieceBox (pos 0) all ∷ []))))))
-      (under_limits style field h)
+      (under_limits style field sound h)
       (λ (nucleus : Nucleus) n. step_holds (LayoutHolds fonts) (RowHolds fonts) (make_clean nucleus.row)
       (λ box. script_box fonts (sup_of style) sup >>= (λ above. script_box fonts (sub_of style) sub >>= (λ below. limits fonts (size_of style) box nucleus.delta above below >>= (λ all. make_row (PieceBox (pos 0) all ∷ [])))))
       (clean_box fonts nucleus.row n)
@@ -102,42 +106,44 @@ module _ (fonts : SetValue) where
       (limits_hold fonts (size_of style) box nucleus.delta above below k x y)
       (λ all z. row_made (RowHolds fonts) (PieceBox (pos 0) all ∷ []) (z, tt))))))
 
-  beside_scripts : (style : Style) (field : Content) (subscript : Bool) → ContentHolds fonts field → IfOk (nucleus_beside_scripts fonts style field subscript) (NucleusHolds fonts)
-  beside_scripts style NoContent subscript h = tt
-  beside_scripts style (SymbolContent symbol) subscript h = operator_nucleus_holds fonts style symbol subscript
-  beside_scripts style (ListContent list) subscript h = packed_list_holds fonts list style h
-  beside_scripts style (RowsContent rows) subscript h = tt
-  beside_scripts style (TableContent look rows) subscript h = tt
+  beside_scripts : (style : Style) (field : Content) (subscript : Bool) → AreSound fonts → ContentHolds fonts field → IfOk (nucleus_beside_scripts fonts style field subscript) (NucleusHolds fonts)
+  beside_scripts style NoContent subscript sound h = tt
+  beside_scripts style (SymbolContent symbol) subscript sound h = operator_nucleus_holds fonts style symbol subscript
+  beside_scripts style (ListContent list) subscript sound h = packed_list_holds fonts list style h
+  beside_scripts style (RowsContent rows) subscript sound h = tt
+  beside_scripts style (TableContent look rows) subscript sound h = tt
+  beside_scripts style (RootContent degree body) subscript sound h = tt
+  beside_scripts style (BigContent delim level) subscript sound h = big_nucleus_holds fonts delim level sound
 
-  no_limits_row_holds : (style : Style) (field sup sub : Content) → ContentHolds fonts field → ContentHolds fonts sup → ContentHolds fonts sub → IfOk (operator_without_limits fonts style field sup sub) (RowHolds fonts)
-  no_limits_row_holds style field sup sub h a b =
+  no_limits_row_holds : (style : Style) (field sup sub : Content) → AreSound fonts → ContentHolds fonts field → ContentHolds fonts sup → ContentHolds fonts sub → IfOk (operator_without_limits fonts style field sup sub) (RowHolds fonts)
+  no_limits_row_holds style field sup sub sound h a b =
       step_holds (NucleusHolds fonts) (RowHolds fonts) (nucleus_beside_scripts fonts style field (not (is_empty sub)))
       (λ nucleus. nucleus_with_scripts fonts style nucleus sup sub)
-      (beside_scripts style field (not (is_empty sub)) h)
+      (beside_scripts style field (not (is_empty sub)) sound h)
       (λ nucleus n. with_scripts style nucleus sup sub n a b)
 
-  operator_by : (limited : Bool) (style : Style) (nucleus sup sub : Content) → ContentHolds fonts nucleus → ContentHolds fonts sup → ContentHolds fonts sub → IfOk (operator_by_limits limited fonts style nucleus sup sub) (RowHolds fonts)
-  operator_by true style nucleus sup sub h a b = limits_row_holds style nucleus sup sub h a b
-  operator_by false style nucleus sup sub h a b = no_limits_row_holds style nucleus sup sub h a b
+  operator_by : (limited : Bool) (style : Style) (nucleus sup sub : Content) → AreSound fonts → ContentHolds fonts nucleus → ContentHolds fonts sup → ContentHolds fonts sub → IfOk (operator_by_limits limited fonts style nucleus sup sub) (RowHolds fonts)
+  operator_by true style nucleus sup sub sound h a b = limits_row_holds style nucleus sup sub sound h a b
+  operator_by false style nucleus sup sub sound h a b = no_limits_row_holds style nucleus sup sub sound h a b
 
   -- ---- atoms of the plain kind
 
-  ordinary_holds : (style : Style) (role : SymbolRole) (nucleus sup sub : Content) → ContentHolds fonts nucleus → ContentHolds fonts sup → ContentHolds fonts sub → IfOk (ordinary_row fonts style role nucleus sup sub) (RowHolds fonts)
-  ordinary_holds style role nucleus sup sub h a b =
+  ordinary_holds : (style : Style) (role : SymbolRole) (nucleus sup sub : Content) → AreSound fonts → ContentHolds fonts nucleus → ContentHolds fonts sup → ContentHolds fonts sub → IfOk (ordinary_row fonts style role nucleus sup sub) (RowHolds fonts)
+  ordinary_holds style role nucleus sup sub sound h a b =
       step_holds (NucleusHolds fonts) (RowHolds fonts) (nucleus_row fonts style nucleus role (not (is_empty sub)))
       (λ n. nucleus_with_scripts fonts style n sup sub)
-      (nucleus_row_holds fonts style nucleus role (not (is_empty sub)) h)
+      (nucleus_row_holds fonts style nucleus role (not (is_empty sub)) sound h)
       (λ n k. with_scripts style n sup sub k a b)
 
-  class_holds : (class : Class) (style : Style) (role : SymbolRole) (choice : Limits) (nucleus sup sub : Content) → ContentHolds fonts nucleus → ContentHolds fonts sup → ContentHolds fonts sub → IfOk (class_row class fonts style role choice nucleus sup sub) (RowHolds fonts)
-  class_holds classes.Op style role choice nucleus sup sub h a b = operator_by (uses_limits choice style) style nucleus sup sub h a b
-  class_holds classes.Ord style role choice nucleus sup sub h a b = ordinary_holds style role nucleus sup sub h a b
-  class_holds classes.Bin style role choice nucleus sup sub h a b = ordinary_holds style role nucleus sup sub h a b
-  class_holds classes.Rel style role choice nucleus sup sub h a b = ordinary_holds style role nucleus sup sub h a b
-  class_holds classes.Open style role choice nucleus sup sub h a b = ordinary_holds style role nucleus sup sub h a b
-  class_holds classes.Close style role choice nucleus sup sub h a b = ordinary_holds style role nucleus sup sub h a b
-  class_holds classes.Punct style role choice nucleus sup sub h a b = ordinary_holds style role nucleus sup sub h a b
-  class_holds classes.Inner style role choice nucleus sup sub h a b = ordinary_holds style role nucleus sup sub h a b
+  class_holds : (class : Class) (style : Style) (role : SymbolRole) (choice : Limits) (nucleus sup sub : Content) → AreSound fonts → ContentHolds fonts nucleus → ContentHolds fonts sup → ContentHolds fonts sub → IfOk (class_row class fonts style role choice nucleus sup sub) (RowHolds fonts)
+  class_holds classes.Op style role choice nucleus sup sub sound h a b = operator_by (uses_limits choice style) style nucleus sup sub sound h a b
+  class_holds classes.Ord style role choice nucleus sup sub sound h a b = ordinary_holds style role nucleus sup sub sound h a b
+  class_holds classes.Bin style role choice nucleus sup sub sound h a b = ordinary_holds style role nucleus sup sub sound h a b
+  class_holds classes.Rel style role choice nucleus sup sub sound h a b = ordinary_holds style role nucleus sup sub sound h a b
+  class_holds classes.Open style role choice nucleus sup sub sound h a b = ordinary_holds style role nucleus sup sub sound h a b
+  class_holds classes.Close style role choice nucleus sup sub sound h a b = ordinary_holds style role nucleus sup sub sound h a b
+  class_holds classes.Punct style role choice nucleus sup sub sound h a b = ordinary_holds style role nucleus sup sub sound h a b
+  class_holds classes.Inner style role choice nucleus sup sub sound h a b = ordinary_holds style role nucleus sup sub sound h a b
 
   -- ---- parts round a nucleus
 
@@ -148,6 +154,37 @@ module _ (fonts : SetValue) where
   radical_part_holds : (style : Style) (sign : Delim) (nucleus : Content) → AreSound fonts → ContentHolds fonts nucleus → IfOk (radical_part fonts style sign nucleus) (LayoutHolds fonts)
   radical_part_holds style sign nucleus sound h =
       clean_then (cramped_of style) nucleus (λ body. radical fonts style sign body) h (λ body k. radical_holds fonts style sign body sound k)
+
+  packed_field_holds : (style : Style) (field : Content) → AreSound fonts → ContentHolds fonts field → IfOk (packed_field fonts style field) (LayoutHolds fonts)
+  packed_field_holds style field sound h =
+      step_holds (RowHolds fonts) (LayoutHolds fonts) (ordinary_row fonts style OrdinarySymbol field NoContent NoContent) (λ row. pack_row row)
+      (ordinary_holds style OrdinarySymbol field NoContent NoContent sound h tt tt) (λ row k. packed_row fonts row k)
+
+  degree_holds : (style : Style) (sign : Delim) (degree : RowByStyle) (body : Content) → AreSound fonts → ListHolds fonts degree → ContentHolds fonts body → IfOk (radical_with_degree fonts style sign degree body) (RowHolds fonts)
+  degree_holds style sign degree body sound h k =
+      step_holds (LayoutHolds fonts) (RowHolds fonts) (packed_field fonts Ss (ListContent degree))
+      (λ box. radical_part fonts (uncramped_of style) sign body >>= (λ radical. root_row fonts style box radical >>= (λ row. make_row row)))
+      (packed_field_holds Ss (ListContent degree) sound h)
+      (λ box x. step_holds (LayoutHolds fonts) (RowHolds fonts) (radical_part fonts (uncramped_of style) sign body)
+      (λ radical. root_row fonts style box radical >>= (λ row. make_row row))
+      (radical_part_holds (uncramped_of style) sign body sound k)
+      (λ radical y. step_holds (RowHolds fonts) (RowHolds fonts) (root_row fonts style box radical) (λ row. make_row row)
+      (root_row_holds fonts style box radical x y)
+      (λ row z. row_made (RowHolds fonts) row z)))
+
+  radical_row_holds : (style : Style) (sign : Delim) (nucleus sup sub : Content) → AreSound fonts → ContentHolds fonts nucleus → ContentHolds fonts sup → ContentHolds fonts sub → IfOk (radical_row fonts style sign nucleus sup sub) (RowHolds fonts)
+  radical_row_holds style sign NoContent sup sub sound h a b = part_holds style (radical_part fonts style sign NoContent) sup sub (radical_part_holds style sign NoContent sound h) a b
+  radical_row_holds style sign (SymbolContent symbol) sup sub sound h a b = part_holds style (radical_part fonts style sign (SymbolContent symbol)) sup sub (radical_part_holds style sign (SymbolContent symbol) sound h) a b
+  radical_row_holds style sign (ListContent list) sup sub sound h a b = part_holds style (radical_part fonts style sign (ListContent list)) sup sub (radical_part_holds style sign (ListContent list) sound h) a b
+  radical_row_holds style sign (RowsContent rows) sup sub sound h a b = part_holds style (radical_part fonts style sign (RowsContent rows)) sup sub (radical_part_holds style sign (RowsContent rows) sound h) a b
+  radical_row_holds style sign (TableContent look rows) sup sub sound h a b = part_holds style (radical_part fonts style sign (TableContent look rows)) sup sub (radical_part_holds style sign (TableContent look rows) sound h) a b
+  radical_row_holds style sign (RootContent degree body) sup sub sound h a b = degree_holds style sign degree body sound h.0 h.1
+  radical_row_holds style sign (BigContent delim level) sup sub sound h a b = part_holds style (radical_part fonts style sign (BigContent delim level)) sup sub (radical_part_holds style sign (BigContent delim level) sound h) a b
+
+  veil_part_holds : (style : Style) (width height marks : Bool) (nucleus : Content) → AreSound fonts → ContentHolds fonts nucleus → IfOk (veil_part fonts style width height marks nucleus) (LayoutHolds fonts)
+  veil_part_holds style width height marks nucleus sound h =
+      step_holds (LayoutHolds fonts) (LayoutHolds fonts) (packed_field fonts (uncramped_of style) nucleus) (λ box. Ok (veil_layout width height marks box))
+      (packed_field_holds (uncramped_of style) nucleus sound h) (λ box k. veil_holds fonts width height marks box k)
 
   overline_part_holds : (style : Style) (nucleus : Content) → ContentHolds fonts nucleus → IfOk (overline_part fonts style nucleus) (LayoutHolds fonts)
   overline_part_holds style nucleus h =
@@ -204,6 +241,8 @@ module _ (fonts : SetValue) where
   vcenter_part_holds style (ListContent list) h = vcenter_rows_hold style [] tt
   vcenter_part_holds style (RowsContent rows) h = vcenter_rows_hold style rows h
   vcenter_part_holds style (TableContent look rows) h = table_part_holds style look rows h
+  vcenter_part_holds style (RootContent degree body) h = vcenter_rows_hold style [] tt
+  vcenter_part_holds style (BigContent delim level) h = vcenter_rows_hold style [] tt
 
   -- ---- accents
 
@@ -218,8 +257,8 @@ module _ (fonts : SetValue) where
       (clean_field_holds fonts (cramped_of style) nucleus h)
       (λ (plain : Layout) k. part_holds style (accent fonts font symbol.code skew plain.extents plain) sup sub (accent_holds fonts font symbol.code skew plain.extents plain there k) a b))
 
-  inside_holds : (style : Style) (symbol : Symbol) (nucleus sup sub : Content) → ContentHolds fonts nucleus → ContentHolds fonts sup → ContentHolds fonts sub → IfOk (accent_inside fonts style symbol nucleus sup sub) (RowHolds fonts)
-  inside_holds style symbol nucleus sup sub h a b =
+  inside_holds : (style : Style) (symbol : Symbol) (nucleus sup sub : Content) → AreSound fonts → ContentHolds fonts nucleus → ContentHolds fonts sup → ContentHolds fonts sub → IfOk (accent_inside fonts style symbol nucleus sup sub) (RowHolds fonts)
+  inside_holds style symbol nucleus sup sub sound h a b =
       let skew = content_skew fonts (size_of style) nucleus in
       step_holds (λ font. ExistsIn fonts font symbol.code) (RowHolds fonts) (find_symbol fonts (size_of style) symbol)
       (λ font. clean_field fonts (cramped_of style) nucleus >>= (λ (plain : Layout). ordinary_row fonts style OrdinarySymbol nucleus sup sub >>= (λ row. pack_row row >>= (λ body. accent fonts font symbol.code skew plain.extents body >>= (λ box. make_row (PieceBox (pos 0) box ∷ []))))))
@@ -229,7 +268,7 @@ module _ (fonts : SetValue) where
       (clean_field_holds fonts (cramped_of style) nucleus h)
       (λ (plain : Layout) k. step_holds (RowHolds fonts) (RowHolds fonts) (ordinary_row fonts style OrdinarySymbol nucleus sup sub)
       (λ row. pack_row row >>= (λ body. accent fonts font symbol.code skew plain.extents body >>= (λ box. make_row (PieceBox (pos 0) box ∷ []))))
-      (ordinary_holds style OrdinarySymbol nucleus sup sub h a b)
+      (ordinary_holds style OrdinarySymbol nucleus sup sub sound h a b)
       (λ row x. step_holds (LayoutHolds fonts) (RowHolds fonts) (pack_row row)
       (λ body. accent fonts font symbol.code skew plain.extents body >>= (λ box. make_row (PieceBox (pos 0) box ∷ [])))
       (packed_row fonts row x)
@@ -238,23 +277,25 @@ module _ (fonts : SetValue) where
       (accent_holds fonts font symbol.code skew plain.extents body there y)
       (λ box z. row_made (RowHolds fonts) (PieceBox (pos 0) box ∷ []) (z, tt))))))
 
-  accent_by : (inside : Bool) (style : Style) (symbol : Symbol) (nucleus sup sub : Content) → ContentHolds fonts nucleus → ContentHolds fonts sup → ContentHolds fonts sub → IfOk (accent_by_scripts inside fonts style symbol nucleus sup sub) (RowHolds fonts)
-  accent_by true style symbol nucleus sup sub h a b = inside_holds style symbol nucleus sup sub h a b
-  accent_by false style symbol nucleus sup sub h a b = outside_holds style symbol nucleus sup sub h a b
+  accent_by : (inside : Bool) (style : Style) (symbol : Symbol) (nucleus sup sub : Content) → AreSound fonts → ContentHolds fonts nucleus → ContentHolds fonts sup → ContentHolds fonts sub → IfOk (accent_by_scripts inside fonts style symbol nucleus sup sub) (RowHolds fonts)
+  accent_by true style symbol nucleus sup sub sound h a b = inside_holds style symbol nucleus sup sub sound h a b
+  accent_by false style symbol nucleus sup sub sound h a b = outside_holds style symbol nucleus sup sub h a b
 
-  accent_row_holds : (style : Style) (symbol : Symbol) (nucleus sup sub : Content) → ContentHolds fonts nucleus → ContentHolds fonts sup → ContentHolds fonts sub → IfOk (accent_row fonts style symbol nucleus sup sub) (RowHolds fonts)
-  accent_row_holds style symbol nucleus sup sub h a b = accent_by (is_symbol nucleus && not (is_empty sup && is_empty sub)) style symbol nucleus sup sub h a b
+  accent_row_holds : (style : Style) (symbol : Symbol) (nucleus sup sub : Content) → AreSound fonts → ContentHolds fonts nucleus → ContentHolds fonts sup → ContentHolds fonts sub → IfOk (accent_row fonts style symbol nucleus sup sub) (RowHolds fonts)
+  accent_row_holds style symbol nucleus sup sub sound h a b = accent_by (is_symbol nucleus && not (is_empty sup && is_empty sub)) style symbol nucleus sup sub sound h a b
 
   -- ---- atoms of all kinds
 
   kind_holds : (kind : Kind) (style : Style) (role : SymbolRole) (choice : Limits) (nucleus sup sub : Content) → AreSound fonts → ContentHolds fonts nucleus → ContentHolds fonts sup → ContentHolds fonts sub → IfOk (kind_row kind fonts style role choice nucleus sup sub) (RowHolds fonts)
-  kind_holds (Plain class) style role choice nucleus sup sub sound h a b = class_holds class style role choice nucleus sup sub h a b
+  kind_holds (Plain class) style role choice nucleus sup sub sound h a b = class_holds class style role choice nucleus sup sub sound h a b
   kind_holds (Radical sign) style role choice nucleus sup sub sound h a b =
-      part_holds style (radical_part fonts style sign nucleus) sup sub (radical_part_holds style sign nucleus sound h) a b
-  kind_holds (Accent symbol) style role choice nucleus sup sub sound h a b = accent_row_holds style symbol nucleus sup sub h a b
+      radical_row_holds style sign nucleus sup sub sound h a b
+  kind_holds (Accent symbol) style role choice nucleus sup sub sound h a b = accent_row_holds style symbol nucleus sup sub sound h a b
   kind_holds Over style role choice nucleus sup sub sound h a b = part_holds style (overline_part fonts style nucleus) sup sub (overline_part_holds style nucleus h) a b
   kind_holds Under style role choice nucleus sup sub sound h a b = part_holds style (underline_part fonts style nucleus) sup sub (underline_part_holds style nucleus h) a b
   kind_holds Vcenter style role choice nucleus sup sub sound h a b = part_holds style (vcenter_part fonts style nucleus) sup sub (vcenter_part_holds style nucleus h) a b
+  kind_holds (Veil width height marks) style role choice nucleus sup sub sound h a b =
+      part_holds style (veil_part fonts style width height marks nucleus) sup sub (veil_part_holds style width height marks nucleus sound h) a b
 
   -- the three fields of an atom
   abbrev pub AtomHolds : AtomContent → Type 0

@@ -10,15 +10,19 @@ use Rattle.mt_tfm.proofs.ChainLemmas.{at_index}
 use Rattle.mt_family.specs.declared.size.Size.{Size}
 use Rattle.mt_family.specs.declared.size.Size.TheVariants.{Text, Script, Scriptscript}
 use Rattle.mt_family.specs.SetValue.{SetValue, number_in}
+use Rattle.mt_box.specs.Layout.{Layout}
+use Rattle.mt_box.specs.Rows.{pack}
 use Rattle.mt_rules.specs.declared.symbol.Symbol.{Symbol}
 use Rattle.mt_rules.specs.declared.symbol.Delim.{Delim}
-use Rattle.mt_rules.specs.Setting.{Setting, ◌>>◌, test_extents, make_box}
+use Rattle.mt_rules.specs.Setting.{Setting, ◌>>=◌, ◌>>◌, test_extents, make_box}
 use Rattle.mt_rules.specs.Symbols.{empty_font, font_of_number, extents_without_italic, height_plus_depth}
 use Rattle.mt_rules.specs.Candidates.{Candidate, candidate, chain_candidates, font_candidates, candidates_at, candidates_from, is_no_symbol, symbol_candidates, candidates, fits, first_fit, total_or_zero, tallest_candidate, chosen_candidate}
 use Rattle.mt_rules.specs.Extensibles.{repeats, test_repeats, recipe_piece, recipe_pieces, glyphs_places, first_height, glyphs_layout, test_glyphs, extensible_layout}
-use Rattle.mt_rules.specs.Delimiters.{null_delimiter, layout_by_recipe, candidate_layout, delimiter}
+use Rattle.mt_rules.specs.Delimiters.{DelimiterVariant, NoVariant, CharVariant, ExtensibleVariant, delimiter_variant, null_delimiter, layout_by_recipe, candidate_layout, piece_on_axis, delimiter}
+use Rattle.mt_rules.specs.BigDelimiters.{big_height, big_wanted, without_null_width, at_least_high, big_delimiter}
 use Rattle.mt_convert.specs.Holding.{GlyphHolds, PlacesHold, LayoutHolds}
-use Rattle.mt_convert.proofs.holds.Steps.{next_holds, after_extents, two_tests, box_made}
+use Rattle.mt_convert.proofs.holds.Steps.{step_holds, next_holds, after_extents, two_tests, box_made}
+use Rattle.mt_convert.proofs.holds.Boxes.{pack_holds}
 use Rattle.mt_convert.proofs.holds.Glyphs.{ExistsIn, glyph_holds, character_holds}
 
 -- the facts of each font
@@ -247,3 +251,21 @@ module _ (fonts : SetValue) where
       let cs = symbol_candidates fonts delim.small size ++ symbol_candidates fonts delim.large size in
       candidate_holds wanted (chosen_candidate wanted cs) h
       (chosen_exists wanted cs (exist_append (symbol_candidates fonts delim.small size) (symbol_candidates fonts delim.large size) (symbol_exist delim.small size) (symbol_exist delim.large size)))
+
+  -- ---- delimiters of fixed sizes
+
+  without_null : (variant : DelimiterVariant) (l : Layout) → LayoutHolds fonts l → LayoutHolds fonts (without_null_width variant l)
+  without_null NoVariant l h = h
+  without_null (CharVariant font code) l h = h
+  without_null (ExtensibleVariant font code n) l h = h
+
+  pub big_holds : (delim : Delim) (level : ℕ) → AreSound fonts → IfOk (big_delimiter fonts delim level) (LayoutHolds fonts)
+  unfolding big_delimiter
+  big_holds delim level sound =
+      let wanted = big_wanted fonts level in
+      let variant = delimiter_variant fonts delim Text wanted in
+      step_holds (LayoutHolds fonts) (LayoutHolds fonts) (delimiter fonts delim Text wanted)
+      (λ box. make_box (at_least_high (big_height level) (pack (piece_on_axis fonts Text (without_null_width variant box) ∷ []))))
+      (delimiter_holds delim Text wanted sound)
+      (λ box h. box_made (LayoutHolds fonts) (at_least_high (big_height level) (pack (piece_on_axis fonts Text (without_null_width variant box) ∷ [])))
+      (pack_holds fonts (piece_on_axis fonts Text (without_null_width variant box) ∷ []) (without_null variant box h, tt)))

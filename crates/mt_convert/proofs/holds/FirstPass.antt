@@ -22,7 +22,8 @@ use Rattle.mt_convert.specs.declared.flat.joining.SymbolPair.{SymbolPair}
 use Rattle.mt_convert.specs.Joining.{pair_with_next, pair_of_fonts}
 use Rattle.mt_convert.specs.Flat.{FlatItem, FlatAtom, FlatFraction, FlatLeft, FlatMiddle, FlatRight, FlatStyle, FlatMuSpace, FlatSpace, FlatMuKern, FlatKern, current_after_item, FrontTurn, Passes, Rewrites, as_symbol, first_as_symbol, pair_turn, atom_turn, list_for, is_space_or_kern, without_space, turn, current_after_items, flat_by, flat}
 use Rattle.mt_convert.specs.Halves.{HalfValue, HalfAtom, HalfLeft, HalfMiddle, HalfRight, HalfStyle, HalfKern, HalfSpace, Halves, next_class, settled_half, settled_halves, settle}
-use Rattle.mt_convert.specs.FirstPass.{in_points, glue_in_points, make_space, make_kern, set_item, set_items, first_pass_of}
+use Rattle.mt_rules.specs.MathUnits.{in_points}
+use Rattle.mt_convert.specs.FirstPass.{glue_in_points, make_space, make_kern, set_item, set_items, first_pass_of}
 use Rattle.mt_convert.specs.Holding.{RowHolds}
 use Rattle.mt_convert.proofs.holds.Steps.{step_holds, after_value}
 use Rattle.mt_convert.proofs.holds.Delimiters.{AreSound}

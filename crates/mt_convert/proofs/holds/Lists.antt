@@ -7,7 +7,7 @@ use Rattle.mt_box.specs.declared.piece.Piece.{Piece}
 use Rattle.mt_box.specs.Rows.{PieceValue, piece_values}
 use Rattle.mt_rules.specs.declared.style.Style.{Style}
 use Rattle.mt_rules.specs.Setting.{◌>>=◌}
-use Rattle.mt_rules.specs.Sequence.{Sequence, Element, Part, Rows, End, More, AtomElement, FractionElement, LeftElement, MiddleElement, RightElement, StyleElement, ChoiceElement, MuSpaceElement, SpaceElement, MuKernElement, KernElement, NonscriptElement, EmptyPart, SymbolPart, ListPart, RowsPart, TablePart, TableGrid, NoTableRows, MoreTableRows, NoRows, MoreRows, sequence_size}
+use Rattle.mt_rules.specs.Sequence.{Sequence, Element, Part, Rows, End, More, AtomElement, FractionElement, LeftElement, MiddleElement, RightElement, StyleElement, ChoiceElement, MuSpaceElement, SpaceElement, MuKernElement, KernElement, NonscriptElement, EmptyPart, SymbolPart, ListPart, RowsPart, TablePart, RootPart, BigPart, TableGrid, NoTableRows, MoreTableRows, NoRows, MoreRows, sequence_size}
 use Rattle.mt_convert.specs.declared.fault.SetFault.{SetFault}
 use Rattle.mt_convert.specs.Calls.{SetsRow}
 use Rattle.mt_convert.specs.Contents.{ItemContents}
@@ -58,6 +58,8 @@ module _ (fonts : SetValue) (sound : All IsSoundFont fonts.fonts) where
     content_holds (ListPart list) = λ style. two_passes (sequence_size list) style (items_of fonts list) (items_hold list)
     content_holds (RowsPart rows) = each_row_holds rows
     content_holds (TablePart look grid) = each_cell_holds grid
+    content_holds (RootPart degree body) = (λ style. two_passes (sequence_size degree) style (items_of fonts degree) (items_hold degree), content_holds body)
+    content_holds (BigPart delim level) = tt
 
     each_row_holds : (rows : Rows) → ListsHold fonts (rows_by_style fonts rows)
     each_row_holds NoRows = tt

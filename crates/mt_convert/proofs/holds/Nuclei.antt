@@ -8,16 +8,19 @@ use Rattle.mt_family.specs.SetValue.{SetValue}
 use Rattle.mt_box.specs.Layout.{Layout}
 use Rattle.mt_box.specs.Rows.{PieceValue, PieceGlyph, PieceBox, PieceKern}
 use Rattle.mt_rules.specs.declared.symbol.Symbol.{Symbol}
+use Rattle.mt_rules.specs.declared.symbol.Delim.{Delim}
 use Rattle.mt_rules.specs.declared.style.Style.{Style}
 use Rattle.mt_rules.specs.Styles.{size_of}
 use Rattle.mt_rules.specs.Setting.{◌>>=◌, ◌>>◌, make_box, make_row, pack_row}
 use Rattle.mt_rules.specs.Symbols.{font_of_number, find_symbol, extents_without_italic}
 use Rattle.mt_rules.specs.Delimiters.{piece_on_axis}
-use Rattle.mt_rules.specs.Nuclei.{RowByStyle, Content, NoContent, SymbolContent, ListContent, RowsContent, TableContent, SymbolRole, OrdinarySymbol, Nucleus, test_role, role_italic, nucleus_with_italic, glyph_nucleus, symbol_nucleus, make_clean, clean_symbol, clean_list, clean_field, packed_list, nucleus_row}
+use Rattle.mt_rules.specs.BigDelimiters.{big_delimiter}
+use Rattle.mt_rules.specs.Nuclei.{RowByStyle, Content, NoContent, SymbolContent, ListContent, RowsContent, TableContent, RootContent, BigContent, SymbolRole, OrdinarySymbol, Nucleus, test_role, role_italic, nucleus_with_italic, glyph_nucleus, symbol_nucleus, make_clean, clean_symbol, clean_list, clean_field, packed_list, big_nucleus, nucleus_row}
 use Rattle.mt_rules.specs.Operators.{operator_code, box_without_italic, nucleus_on_axis, operator_nucleus}
 use Rattle.mt_convert.specs.Holding.{LayoutHolds, RowHolds}
 use Rattle.mt_convert.proofs.holds.Steps.{step_holds, next_holds, after_extents, box_made, row_made}
 use Rattle.mt_convert.proofs.holds.Boxes.{packed_row, clean_box}
+use Rattle.mt_convert.proofs.holds.Delimiters.{AreSound, big_holds}
 use Rattle.mt_convert.proofs.holds.Glyphs.{ExistsIn, glyph_holds, symbol_found}
 
 module _ (fonts : SetValue) where
@@ -42,6 +45,8 @@ module _ (fonts : SetValue) where
   ContentHolds (ListContent list) = ListHolds list
   ContentHolds (RowsContent rows) = ListsHold rows
   ContentHolds (TableContent look rows) = CellListsHold rows
+  ContentHolds (RootContent degree body) = ListHolds degree × ContentHolds body
+  ContentHolds (BigContent delim level) = ⊤
 
   abbrev pub NucleusHolds : Nucleus → Type 0
   NucleusHolds n = RowHolds fonts n.row
@@ -94,6 +99,8 @@ module _ (fonts : SetValue) where
   clean_field_holds style (ListContent list) h = clean_list_holds list style h
   clean_field_holds style (RowsContent rows) h = tt
   clean_field_holds style (TableContent look rows) h = tt
+  clean_field_holds style (RootContent degree body) h = tt
+  clean_field_holds style (BigContent delim level) h = tt
 
   -- ---- nuclei
 
@@ -105,13 +112,20 @@ module _ (fonts : SetValue) where
       (λ row k. step_holds (LayoutHolds fonts) NucleusHolds (pack_row row) (λ box. Ok (record { row = PieceBox (pos 0) box ∷ []; delta = pos 0 }))
       (packed_row fonts row k) (λ box b. (b, tt)))
 
-  pub nucleus_row_holds : (style : Style) (field : Content) (role : SymbolRole) (subscript : Bool) → ContentHolds field → IfOk (nucleus_row fonts style field role subscript) NucleusHolds
+  pub big_nucleus_holds : (delim : Delim) (level : ℕ) → AreSound fonts → IfOk (big_nucleus fonts delim level) NucleusHolds
+  big_nucleus_holds delim level sound =
+      step_holds (LayoutHolds fonts) NucleusHolds (big_delimiter fonts delim level) (λ box. Ok (record { row = PieceBox (pos 0) box ∷ []; delta = pos 0 }))
+      (big_holds fonts delim level sound) (λ box h. (h, tt))
+
+  pub nucleus_row_holds : (style : Style) (field : Content) (role : SymbolRole) (subscript : Bool) → AreSound fonts → ContentHolds field → IfOk (nucleus_row fonts style field role subscript) NucleusHolds
   unfolding nucleus_row
-  nucleus_row_holds style NoContent role subscript h = tt
-  nucleus_row_holds style (SymbolContent symbol) role subscript h = symbol_nucleus_holds (size_of style) symbol role subscript
-  nucleus_row_holds style (ListContent list) role subscript h = packed_list_holds list style h
-  nucleus_row_holds style (RowsContent rows) role subscript h = tt
-  nucleus_row_holds style (TableContent look rows) role subscript h = tt
+  nucleus_row_holds style NoContent role subscript sound h = tt
+  nucleus_row_holds style (SymbolContent symbol) role subscript sound h = symbol_nucleus_holds (size_of style) symbol role subscript
+  nucleus_row_holds style (ListContent list) role subscript sound h = packed_list_holds list style h
+  nucleus_row_holds style (RowsContent rows) role subscript sound h = tt
+  nucleus_row_holds style (TableContent look rows) role subscript sound h = tt
+  nucleus_row_holds style (RootContent degree body) role subscript sound h = tt
+  nucleus_row_holds style (BigContent delim level) role subscript sound h = big_nucleus_holds delim level sound
 
   -- ---- large operators
 

@@ -1,27 +1,30 @@
 -- The boxes of fractions, radicals, lines and rows hold where their bodies do.
-use Rattle.std.proofs.Common.{ℤ, pos, neg_ℤ, ◌+ℤ◌, ◌-ℤ◌, ◌*ℤ◌, List, [], ◌∷◌, ◌++◌, Bool, true, false, if◌then◌else◌}
-use Rattle.std.specs.Prelude.{IfOk}
+use Rattle.std.proofs.Common.{ℤ, pos, negsuc, neg_ℤ, ◌+ℤ◌, ◌-ℤ◌, ◌*ℤ◌, List, [], ◌∷◌, ◌++◌, Bool, true, false, if◌then◌else◌}
+use Rattle.std.specs.Prelude.{IfOk, Ok}
 use Rattle.std.specs.Int.{int_max}
 use Rattle.std.specs.Ordering.{int_eq}
 use Rattle.mt_scaled.specs.Number.{Within, max_dimen, half_of}
 use Rattle.mt_family.specs.declared.size.Size.{Size}
 use Rattle.mt_family.specs.SetValue.{SetValue}
 use Rattle.mt_box.specs.Layout.{Layout, all_moved}
-use Rattle.mt_box.specs.Rows.{PieceBox}
+use Rattle.mt_box.specs.Rows.{PieceBox, PieceKern}
 use Rattle.mt_box.specs.Columns.{rule_places}
 use Rattle.mt_box.specs.Boxes.{rebox}
 use Rattle.mt_rules.specs.declared.symbol.Delim.{Delim}
 use Rattle.mt_rules.specs.declared.style.Style.{Style}
 use Rattle.mt_rules.specs.Styles.{size_of}
-use Rattle.mt_rules.specs.Setting.{◌>>=◌, ◌>>◌, make_box, pack_row, test_rule}
+use Rattle.mt_rules.specs.Setting.{◌>>=◌, ◌>>◌, make_box, pack_row, test_rule, test_value}
 use Rattle.mt_rules.specs.Parameters.{axis_height, default_rule_thickness}
 use Rattle.mt_rules.specs.Delimiters.{delimiter, piece_on_axis}
 use Rattle.mt_rules.specs.Fractions.{shifts_without_rule, shifts_with_rule, layout_without_rule, layout_with_rule, box_with_rule, fraction_body, fraction_delimiter_size, fraction}
 use Rattle.mt_rules.specs.Radicals.{sign_size, clearance, under_rule, radical}
+use Rattle.mt_rules.specs.MathUnits.{in_points}
+use Rattle.mt_rules.specs.Roots.{degree_raise, root_row}
+use Rattle.mt_rules.specs.Veils.{veil_layout}
 use Rattle.mt_rules.specs.Lines.{overline_layout, overline, underline_layout, underline}
 use Rattle.mt_rules.specs.Vcenter.{line_gap, places_after, lines_total, lines_places, vcenter_layout, vcenter}
-use Rattle.mt_convert.specs.Holding.{PlacesHold, LayoutHolds}
-use Rattle.mt_convert.proofs.holds.Steps.{step_holds, after_rule_test, box_made}
+use Rattle.mt_convert.specs.Holding.{PlacesHold, LayoutHolds, RowHolds}
+use Rattle.mt_convert.proofs.holds.Steps.{step_holds, after_rule_test, after_value, box_made}
 use Rattle.mt_convert.proofs.holds.Boxes.{moved_hold, places_hold_append, rule_holds, packed_row, rebox_holds, LayoutsHold}
 use Rattle.mt_convert.proofs.holds.Delimiters.{AreSound, delimiter_holds}
 
@@ -142,3 +145,21 @@ module _ (fonts : SetValue) where
   vcenter_holds size ls h =
       let axis = axis_height fonts size in
       box_made (LayoutHolds fonts) (vcenter_layout axis ls) (lines_hold ls (axis +ℤ half_of (lines_total ls)) h)
+
+  -- ---- a degree and its radical
+
+  pub root_row_holds : (style : Style) (degree radical : Layout) → LayoutHolds fonts degree → LayoutHolds fonts radical → IfOk (root_row fonts style degree radical) (RowHolds fonts)
+  unfolding root_row
+  root_row_holds style degree radical h k =
+      let before = in_points fonts style (pos 327680) in
+      let back = in_points fonts style (negsuc 655359) in
+      let row = PieceKern before ∷ PieceBox (degree_raise radical.extents) degree ∷ PieceKern back ∷ PieceBox (pos 0) radical ∷ [] in
+      after_value (RowHolds fonts) before (test_value back >> Ok row)
+      (λ _. after_value (RowHolds fonts) back (Ok row) (λ _. (tt, (h, (tt, (k, tt))))))
+
+  -- ---- what a phantom leaves
+
+  pub veil_holds : (width height marks : Bool) (l : Layout) → LayoutHolds fonts l → LayoutHolds fonts (veil_layout width height marks l)
+  unfolding veil_layout
+  veil_holds width height true l h = h
+  veil_holds width height false l h = tt

@@ -14,7 +14,7 @@ use Rattle.mt_rules.specs.Delimiters.{delimiter, piece_on_axis, boundary_size}
 use Rattle.mt_convert.specs.declared.flat.current.Current.{Current}
 use Rattle.mt_convert.specs.Current.{opening}
 use Rattle.mt_convert.specs.Halves.{HalfValue, HalfAtom, HalfLeft, HalfMiddle, HalfRight, HalfStyle, HalfKern, HalfSpace, Halves}
-use Rattle.mt_convert.specs.FirstPass.{math_unit}
+use Rattle.mt_rules.specs.MathUnits.{math_unit}
 use Rattle.mt_convert.specs.SecondPass.{spacing_pieces, pieces_between, space_before, current_after_half, boundary_piece, boundary_pieces, half_pieces, all_pieces, row_of_halves, second_pass_of}
 use Rattle.mt_convert.specs.Holding.{LayoutHolds, PieceHolds, RowHolds}
 use Rattle.mt_convert.proofs.holds.Steps.{step_holds, row_made}

@@ -6,7 +6,7 @@ use Rattle.mt_rules.specs.declared.kind.Kind.{Kind}
 use Rattle.mt_rules.specs.declared.kind.Limits.{Limits}
 use Rattle.mt_rules.specs.declared.list.Look.{Look}
 use Rattle.mt_rules.specs.declared.symbol.Delim.{Delim}
-use Rattle.mt_rules.specs.Sequence.{Sequence, Part, Rows, AtomElement, FractionElement, ListPart, RowsPart, TablePart, MoreRows, TableGrid, MoreTableRows}
+use Rattle.mt_rules.specs.Sequence.{Sequence, Part, Rows, AtomElement, FractionElement, ListPart, RowsPart, TablePart, RootPart, MoreRows, TableGrid, MoreTableRows}
 use Rattle.mt_rules.specs.Modest.{IsModestList, ThicknessAmount}
 use Rattle.mt_convert.specs.declared.set.nucleus.SetNucleus.{SetNucleus}
 use Rattle.mt_convert.specs.Halfway.{RowFits}
@@ -29,6 +29,16 @@ pub grid_of_part : (p : Part) (look : Look) (grid : TableGrid) → p ≡ TablePa
 grid_of_part p look grid e h =
     let g = subst IsModestPart e h in
     record { nesting = g.nesting; items = g.items; amounts = g.amounts }
+
+pub degree_of_part : (p : Part) (degree : Sequence) (body : Part) → p ≡ RootPart degree body → IsModestPart p → IsModestPart (ListPart degree)
+degree_of_part p degree body e h =
+    let g = subst IsModestPart e h in
+    record { nesting = omega (arith, g.nesting); items = omega (arith, g.items); amounts = g.amounts.0 }
+
+pub body_of_part : (p : Part) (degree : Sequence) (body : Part) → p ≡ RootPart degree body → IsModestPart p → IsModestPart body
+body_of_part p degree body e h =
+    let g = subst IsModestPart e h in
+    record { nesting = omega (arith, g.nesting); items = omega (arith, g.items); amounts = g.amounts.1 }
 
 pub modest_nucleus : (kind : Kind) (limits : Limits) (nucleus sup sub : Part) → IsModestElement (AtomElement kind limits nucleus sup sub) → IsModestPart nucleus
 modest_nucleus kind limits nucleus sup sub h = record { nesting = omega (arith, h.nesting); items = omega (arith, h.items); amounts = h.amounts.0 }

@@ -58,8 +58,8 @@ space_reach h glue e = subst HalfReachInRange (sym e) (record { height = omega (
 pub kern_reach : (h : Half) (amount : ℤ) → h ≡ half.Kern amount → HalfReachInRange h
 kern_reach h amount e = subst HalfReachInRange (sym e) (record { height = omega (arith, ints); depth = omega (arith, ints) })
 
-pub space_few : (h : Half) (glue : Glue) → h ≡ half.Space glue → count_of h ≤ 3
-space_few h glue e = subst (λ x. count_of x ≤ 3) (sym e) (omega arith)
+pub space_few : (h : Half) (glue : Glue) → h ≡ half.Space glue → count_of h ≤ 4
+space_few h glue e = subst (λ x. count_of x ≤ 4) (sym e) (omega arith)
 
-pub kern_few : (h : Half) (amount : ℤ) → h ≡ half.Kern amount → count_of h ≤ 3
-kern_few h amount e = subst (λ x. count_of x ≤ 3) (sym e) (omega arith)
+pub kern_few : (h : Half) (amount : ℤ) → h ≡ half.Kern amount → count_of h ≤ 4
+kern_few h amount e = subst (λ x. count_of x ≤ 4) (sym e) (omega arith)

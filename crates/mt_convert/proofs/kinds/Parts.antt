@@ -1,5 +1,5 @@
 -- Boxes, scripts and nuclei, set step by step.
-use Rattle.std.proofs.Common.{◌≡◌, ap, sym, ◌∙◌, subst, refl, Option, Some, None, false, true, Bool, ◌⊎◌, inl, inr}
+use Rattle.std.proofs.Common.{◌≡◌, ℕ, ap, sym, ◌∙◌, subst, refl, Option, Some, None, false, true, Bool}
 use Rattle.std.specs.Prelude.{Ok, Err, List, if◌then◌else◌, pos, ⊤}
 use Rattle.mt_family.specs.SetValue.{SetValue}
 use Rattle.mt_box.specs.Layout.{Layout}
@@ -12,11 +12,11 @@ use Rattle.mt_rules.specs.Styles.{size_of, sup_of, sub_of}
 use Rattle.mt_rules.specs.Setting.{Setting, ◌>>=◌, pack_row, empty_layout}
 use Rattle.mt_rules.specs.View.{part_of_field}
 use Rattle.mt_rules.specs.declared.list.Field.{Field}
-use Rattle.mt_rules.specs.declared.list.Field.TheVariants.{Empty, Rows as OfRows, Table as OfTable}
-use Rattle.mt_rules.specs.declared.list.Table.{Table}
-use Rattle.mt_rules.specs.Sequence.{Sequence, Rows, Part, EmptyPart, SymbolPart, ListPart, RowsPart, TablePart}
-use Rattle.mt_rules.specs.Nuclei.{Content, SymbolContent, SymbolRole, Nucleus, clean_symbol, clean_list, clean_field, make_clean, packed_list, nucleus_row, empty_nucleus, symbol_nucleus}
-use Rattle.mt_rules.specs.AtomRow.{box_nucleus, script_box, some_box}
+use Rattle.mt_rules.specs.declared.list.Field.TheVariants.{Empty, Sym, List as OfList, Rows as OfRows, Table as OfTable, Root as OfRoot, Big as OfBig}
+use Rattle.mt_rules.specs.declared.symbol.Delim.{Delim}
+use Rattle.mt_rules.specs.Sequence.{Sequence, Part, EmptyPart, SymbolPart, ListPart, RowsPart, TablePart, RootPart, BigPart}
+use Rattle.mt_rules.specs.Nuclei.{Content, SymbolContent, BigContent, SymbolRole, Nucleus, clean_symbol, clean_list, clean_field, make_clean, packed_list, big_nucleus, nucleus_row, empty_nucleus, symbol_nucleus}
+use Rattle.mt_rules.specs.AtomRow.{box_nucleus, nucleus_beside_scripts, script_box, some_box}
 use Rattle.mt_convert.specs.declared.fault.SetFault.{SetFault}
 use Rattle.mt_convert.specs.Calls.{SetFails}
 use Rattle.mt_convert.specs.ListRow.{list_row, halves_of, content_of}
@@ -50,12 +50,11 @@ pub clean_list_is : (fonts : SetValue) (style : Style) (p : Part) (list : Sequen
 unfolding clean_field
 clean_list_is fonts style p list e = ap (λ q. clean_field fonts style (content_of fonts q)) e
 
+-- neither a symbol nor a list
 abbrev pub HasNoBox : Part → Type 0
-HasNoBox EmptyPart = ⊤
 HasNoBox (SymbolPart symbol) = ⊥
 HasNoBox (ListPart list) = ⊥
-HasNoBox (RowsPart rows) = ⊤
-HasNoBox (TablePart look grid) = ⊤
+HasNoBox _ = ⊤
 
 pub clean_empty_is : (fonts : SetValue) (style : Style) (p : Part) → HasNoBox p → clean_field fonts style (content_of fonts p) ≡ Ok empty_layout
 unfolding clean_field
@@ -64,11 +63,17 @@ clean_empty_is fonts style (SymbolPart symbol) h = absurd h
 clean_empty_is fonts style (ListPart list) h = absurd h
 clean_empty_is fonts style (RowsPart rows) h = refl
 clean_empty_is fonts style (TablePart look grid) h = refl
+clean_empty_is fonts style (RootPart degree body) h = refl
+clean_empty_is fonts style (BigPart delim level) h = refl
 
-pub has_no_box : (f : Field) → (f ≡ Empty) ⊎ (((rows : Rows) × (f ≡ OfRows rows)) ⊎ ((table : Table) × (f ≡ OfTable table))) → HasNoBox (part_of_field f)
-has_no_box f (inl e) = subst (λ x. HasNoBox (part_of_field x)) (sym e) tt
-has_no_box f (inr (inl h)) = subst (λ x. HasNoBox (part_of_field x)) (sym h.1) tt
-has_no_box f (inr (inr h)) = subst (λ x. HasNoBox (part_of_field x)) (sym h.1) tt
+pub has_no_box : (f : Field) → ((symbol : Symbol) → f ≡ Sym symbol → ⊥) → ((list : Sequence) → f ≡ OfList list → ⊥) → HasNoBox (part_of_field f)
+has_no_box Empty s l = tt
+has_no_box (Sym symbol) s l = absurd (s symbol refl)
+has_no_box (OfList list) s l = absurd (l list refl)
+has_no_box (OfRows rows) s l = tt
+has_no_box (OfTable table) s l = tt
+has_no_box (OfRoot root) s l = tt
+has_no_box (OfBig delim level) s l = tt
 
 -- ---- a script
 
@@ -133,38 +138,64 @@ class_of_list Inner fonts style role list has_subscript = refl
 pub list_nucleus_is : (class : Class) (fonts : SetValue) (style : Style) (role : SymbolRole) (p : Part) (list : Sequence) (has_subscript : Bool) → p ≡ ListPart list → class_nucleus class fonts style role (content_of fonts p) has_subscript ≡ packed_list (list_content fonts list) style
 list_nucleus_is class fonts style role p list has_subscript e = ap (λ q. class_nucleus class fonts style role (content_of fonts q) has_subscript) e ∙ class_of_list class fonts style role list has_subscript
 
-class_of_none : (class : Class) (fonts : SetValue) (style : Style) (role : SymbolRole) (has_subscript : Bool) → class_nucleus class fonts style role (content_of fonts EmptyPart) has_subscript ≡ Ok empty_nucleus
-unfolding nucleus_row
-class_of_none Ord fonts style role has_subscript = refl
-class_of_none Op fonts style role has_subscript = refl
-class_of_none Bin fonts style role has_subscript = refl
-class_of_none Rel fonts style role has_subscript = refl
-class_of_none Open fonts style role has_subscript = refl
-class_of_none Close fonts style role has_subscript = refl
-class_of_none Punct fonts style role has_subscript = refl
-class_of_none Inner fonts style role has_subscript = refl
+-- nor a big delimiter
+abbrev pub HasNoNucleus : Part → Type 0
+HasNoNucleus (SymbolPart symbol) = ⊥
+HasNoNucleus (ListPart list) = ⊥
+HasNoNucleus (BigPart delim level) = ⊥
+HasNoNucleus _ = ⊤
 
-pub empty_nucleus_is : (class : Class) (fonts : SetValue) (style : Style) (role : SymbolRole) (p : Part) (has_subscript : Bool) → HasNoBox p → class_nucleus class fonts style role (content_of fonts p) has_subscript ≡ Ok empty_nucleus
+pub has_no_nucleus : (f : Field) → ((symbol : Symbol) → f ≡ Sym symbol → ⊥) → ((list : Sequence) → f ≡ OfList list → ⊥) → ((delim : Delim) (level : ℕ) → f ≡ OfBig delim level → ⊥) → HasNoNucleus (part_of_field f)
+has_no_nucleus Empty s l b = tt
+has_no_nucleus (Sym symbol) s l b = absurd (s symbol refl)
+has_no_nucleus (OfList list) s l b = absurd (l list refl)
+has_no_nucleus (OfRows rows) s l b = tt
+has_no_nucleus (OfTable table) s l b = tt
+has_no_nucleus (OfRoot root) s l b = tt
+has_no_nucleus (OfBig delim level) s l b = absurd (b delim level refl)
+
+empty_row_is : (fonts : SetValue) (style : Style) (role : SymbolRole) (p : Part) (has_subscript : Bool) → HasNoNucleus p → nucleus_row fonts style (content_of fonts p) role has_subscript ≡ Ok empty_nucleus
 unfolding nucleus_row
-empty_nucleus_is class fonts style role EmptyPart has_subscript h = class_of_none class fonts style role has_subscript
-empty_nucleus_is class fonts style role (SymbolPart symbol) has_subscript h = absurd h
-empty_nucleus_is class fonts style role (ListPart list) has_subscript h = absurd h
-empty_nucleus_is Ord fonts style role (RowsPart rows) has_subscript h = refl
-empty_nucleus_is Op fonts style role (RowsPart rows) has_subscript h = refl
-empty_nucleus_is Bin fonts style role (RowsPart rows) has_subscript h = refl
-empty_nucleus_is Rel fonts style role (RowsPart rows) has_subscript h = refl
-empty_nucleus_is Open fonts style role (RowsPart rows) has_subscript h = refl
-empty_nucleus_is Close fonts style role (RowsPart rows) has_subscript h = refl
-empty_nucleus_is Punct fonts style role (RowsPart rows) has_subscript h = refl
-empty_nucleus_is Inner fonts style role (RowsPart rows) has_subscript h = refl
-empty_nucleus_is Ord fonts style role (TablePart look grid) has_subscript h = refl
-empty_nucleus_is Op fonts style role (TablePart look grid) has_subscript h = refl
-empty_nucleus_is Bin fonts style role (TablePart look grid) has_subscript h = refl
-empty_nucleus_is Rel fonts style role (TablePart look grid) has_subscript h = refl
-empty_nucleus_is Open fonts style role (TablePart look grid) has_subscript h = refl
-empty_nucleus_is Close fonts style role (TablePart look grid) has_subscript h = refl
-empty_nucleus_is Punct fonts style role (TablePart look grid) has_subscript h = refl
-empty_nucleus_is Inner fonts style role (TablePart look grid) has_subscript h = refl
+empty_row_is fonts style role EmptyPart has_subscript h = refl
+empty_row_is fonts style role (SymbolPart symbol) has_subscript h = absurd h
+empty_row_is fonts style role (ListPart list) has_subscript h = absurd h
+empty_row_is fonts style role (RowsPart rows) has_subscript h = refl
+empty_row_is fonts style role (TablePart look grid) has_subscript h = refl
+empty_row_is fonts style role (RootPart degree body) has_subscript h = refl
+empty_row_is fonts style role (BigPart delim level) has_subscript h = absurd h
+
+empty_beside_is : (fonts : SetValue) (style : Style) (p : Part) (has_subscript : Bool) → HasNoNucleus p → nucleus_beside_scripts fonts style (content_of fonts p) has_subscript ≡ Ok empty_nucleus
+empty_beside_is fonts style EmptyPart has_subscript h = refl
+empty_beside_is fonts style (SymbolPart symbol) has_subscript h = absurd h
+empty_beside_is fonts style (ListPart list) has_subscript h = absurd h
+empty_beside_is fonts style (RowsPart rows) has_subscript h = refl
+empty_beside_is fonts style (TablePart look grid) has_subscript h = refl
+empty_beside_is fonts style (RootPart degree body) has_subscript h = refl
+empty_beside_is fonts style (BigPart delim level) has_subscript h = absurd h
+
+pub empty_nucleus_is : (class : Class) (fonts : SetValue) (style : Style) (role : SymbolRole) (p : Part) (has_subscript : Bool) → HasNoNucleus p → class_nucleus class fonts style role (content_of fonts p) has_subscript ≡ Ok empty_nucleus
+empty_nucleus_is Ord fonts style role p has_subscript h = empty_row_is fonts style role p has_subscript h
+empty_nucleus_is Op fonts style role p has_subscript h = empty_beside_is fonts style p has_subscript h
+empty_nucleus_is Bin fonts style role p has_subscript h = empty_row_is fonts style role p has_subscript h
+empty_nucleus_is Rel fonts style role p has_subscript h = empty_row_is fonts style role p has_subscript h
+empty_nucleus_is Open fonts style role p has_subscript h = empty_row_is fonts style role p has_subscript h
+empty_nucleus_is Close fonts style role p has_subscript h = empty_row_is fonts style role p has_subscript h
+empty_nucleus_is Punct fonts style role p has_subscript h = empty_row_is fonts style role p has_subscript h
+empty_nucleus_is Inner fonts style role p has_subscript h = empty_row_is fonts style role p has_subscript h
+
+class_of_big : (class : Class) (fonts : SetValue) (style : Style) (role : SymbolRole) (delim : Delim) (level : ℕ) (has_subscript : Bool) → class_nucleus class fonts style role (BigContent delim level) has_subscript ≡ big_nucleus fonts delim level
+unfolding nucleus_row
+class_of_big Ord fonts style role delim level has_subscript = refl
+class_of_big Op fonts style role delim level has_subscript = refl
+class_of_big Bin fonts style role delim level has_subscript = refl
+class_of_big Rel fonts style role delim level has_subscript = refl
+class_of_big Open fonts style role delim level has_subscript = refl
+class_of_big Close fonts style role delim level has_subscript = refl
+class_of_big Punct fonts style role delim level has_subscript = refl
+class_of_big Inner fonts style role delim level has_subscript = refl
+
+pub big_nucleus_is : (class : Class) (fonts : SetValue) (style : Style) (role : SymbolRole) (p : Part) (delim : Delim) (level : ℕ) (has_subscript : Bool) → p ≡ BigPart delim level → class_nucleus class fonts style role (content_of fonts p) has_subscript ≡ big_nucleus fonts delim level
+big_nucleus_is class fonts style role p delim level has_subscript e = ap (λ q. class_nucleus class fonts style role (content_of fonts q) has_subscript) e ∙ class_of_big class fonts style role delim level has_subscript
 
 -- the row of a list, packed
 pub packed_made : (P : Setting Nucleus → Type 0) (fonts : SetValue) (list : Sequence) (style : Style) (row : List PieceValue) (box : Layout) → list_row fonts style list ≡ Ok row → pack_row row ≡ Ok box → P (Ok (box_nucleus box)) → P (packed_list (list_content fonts list) style)
@@ -195,12 +226,17 @@ operator_joined (Err fault) = refl
 pub list_operator_is : (fonts : SetValue) (style : Style) (p : Part) (list : Sequence) → p ≡ ListPart list → operator_box fonts style (content_of fonts p) ≡ as_operator (clean_list (list_content fonts list) style)
 list_operator_is fonts style p list e = ap (λ q. operator_box fonts style (content_of fonts q)) e ∙ operator_joined (list_content fonts list style)
 
-pub empty_operator_is : (fonts : SetValue) (style : Style) (p : Part) → HasNoBox p → operator_box fonts style (content_of fonts p) ≡ as_operator (Ok empty_layout)
+pub big_operator_is : (fonts : SetValue) (style : Style) (p : Part) (delim : Delim) (level : ℕ) → p ≡ BigPart delim level → operator_box fonts style (content_of fonts p) ≡ operator_box fonts style (BigContent delim level)
+big_operator_is fonts style p delim level e = ap (λ q. operator_box fonts style (content_of fonts q)) e
+
+pub empty_operator_is : (fonts : SetValue) (style : Style) (p : Part) → HasNoNucleus p → operator_box fonts style (content_of fonts p) ≡ as_operator (Ok empty_layout)
 empty_operator_is fonts style EmptyPart h = refl
 empty_operator_is fonts style (SymbolPart symbol) h = absurd h
 empty_operator_is fonts style (ListPart list) h = absurd h
 empty_operator_is fonts style (RowsPart rows) h = refl
 empty_operator_is fonts style (TablePart look grid) h = refl
+empty_operator_is fonts style (RootPart degree body) h = refl
+empty_operator_is fonts style (BigPart delim level) h = absurd h
 
 -- ---- a symbol in an atom that is no operator
 

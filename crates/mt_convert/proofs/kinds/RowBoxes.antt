@@ -14,9 +14,9 @@ use Rattle.mt_rules.specs.Styles.{size_of}
 use Rattle.mt_rules.specs.Vcenter.{vcenter}
 use Rattle.mt_rules.specs.View.{part_of_field}
 use Rattle.mt_rules.specs.declared.list.Field.{Field}
-use Rattle.mt_rules.specs.declared.list.Field.TheVariants.{Empty, Sym, List as OfList, Rows as OfRows, Table as OfTable}
+use Rattle.mt_rules.specs.declared.list.Field.TheVariants.{Empty, Sym, List as OfList, Rows as OfRows, Table as OfTable, Root as OfRoot, Big as OfBig}
 use Rattle.mt_rules.specs.declared.list.Table.{Table}
-use Rattle.mt_rules.specs.Sequence.{Part, EmptyPart, SymbolPart, ListPart, RowsPart, TablePart, Sequence, Rows, rows_length, rows_size, sequence_size}
+use Rattle.mt_rules.specs.Sequence.{Part, EmptyPart, SymbolPart, ListPart, RowsPart, TablePart, RootPart, BigPart, Sequence, Rows, rows_length, rows_size, sequence_size}
 use Rattle.mt_rules.specs.Rows.{rows_of}
 use Rattle.mt_rules.specs.Modest.{IsModestList, rows_items, rows_nesting, list_nesting}
 use Rattle.mt_rules.specs.AtomRow.{pack_rows, vcenter_part}
@@ -128,9 +128,7 @@ vcenter_made P fonts style size p rows boxes e s made h =
 abbrev pub HasNoRows : Part → Type 0
 HasNoRows (RowsPart rows) = ⊥
 HasNoRows (TablePart look grid) = ⊥
-HasNoRows EmptyPart = ⊤
-HasNoRows (SymbolPart symbol) = ⊤
-HasNoRows (ListPart list) = ⊤
+HasNoRows _ = ⊤
 
 pub vcenter_empty : (P : Setting Layout → Type 0) (fonts : SetValue) (style : Style) (size : Size) (p : Part) (boxes : List Layout) → HasNoRows p → size ≡ size_of style → boxes ≡ [] → P (vcenter fonts size boxes) → P (vcenter_part fonts style (content_of fonts p))
 vcenter_empty P fonts style size (RowsPart rows) boxes n e g h = absurd n
@@ -138,6 +136,8 @@ vcenter_empty P fonts style size (TablePart look grid) boxes n e g h = absurd n
 vcenter_empty P fonts style size EmptyPart boxes n e g h = subst (λ b. P (vcenter fonts (size_of style) b)) g (subst (λ t. P (vcenter fonts t boxes)) e h)
 vcenter_empty P fonts style size (SymbolPart symbol) boxes n e g h = subst (λ b. P (vcenter fonts (size_of style) b)) g (subst (λ t. P (vcenter fonts t boxes)) e h)
 vcenter_empty P fonts style size (ListPart list) boxes n e g h = subst (λ b. P (vcenter fonts (size_of style) b)) g (subst (λ t. P (vcenter fonts t boxes)) e h)
+vcenter_empty P fonts style size (RootPart degree body) boxes n e g h = subst (λ b. P (vcenter fonts (size_of style) b)) g (subst (λ t. P (vcenter fonts t boxes)) e h)
+vcenter_empty P fonts style size (BigPart delim level) boxes n e g h = subst (λ b. P (vcenter fonts (size_of style) b)) g (subst (λ t. P (vcenter fonts t boxes)) e h)
 
 pub without_rows : (f : Field) → ((rows : Rows) → f ≡ OfRows rows → ⊥) → ((table : Table) → f ≡ OfTable table → ⊥) → HasNoRows (part_of_field f)
 without_rows Empty n m = tt
@@ -145,6 +145,8 @@ without_rows (Sym symbol) n m = tt
 without_rows (OfList list) n m = tt
 without_rows (OfRows rows) n m = n rows refl
 without_rows (OfTable table) n m = m table refl
+without_rows (OfRoot root) n m = tt
+without_rows (OfBig delim level) n m = tt
 
 pub all_of_none : (P : BoxValue → Type 0) (boxes : List BoxValue) → boxes ≡ [] → All P boxes
 all_of_none P boxes e = subst (All P) (sym e) (λ k d lt. absurd (omega (arith, lt)))

@@ -7,7 +7,7 @@ use Rattle.mt_box.specs.Rows.{PieceValue, PieceBox}
 use Rattle.mt_rules.specs.declared.class.Class.{Class}
 use Rattle.mt_rules.specs.declared.class.Class.TheVariants.{Op}
 use Rattle.mt_rules.specs.declared.kind.Kind.{Kind}
-use Rattle.mt_rules.specs.declared.kind.Kind.TheVariants.{Plain, Radical, Accent, Over, Under, Vcenter}
+use Rattle.mt_rules.specs.declared.kind.Kind.TheVariants.{Plain, Radical, Accent, Over, Under, Vcenter, Veil}
 use Rattle.mt_rules.specs.declared.style.Style.{Style}
 use Rattle.mt_rules.specs.declared.symbol.Symbol.{Symbol}
 use Rattle.mt_rules.specs.Styles.{size_of, cramped_of, sup_of, sub_of}
@@ -16,8 +16,9 @@ use Rattle.mt_rules.specs.Symbols.{find_symbol}
 use Rattle.mt_rules.specs.Scripts.{row_with_scripts}
 use Rattle.mt_rules.specs.Limits.{limits}
 use Rattle.mt_rules.specs.Accents.{accent}
+use Rattle.mt_rules.specs.Roots.{root_row}
 use Rattle.mt_rules.specs.Nuclei.{Content, SymbolRole, Nucleus, nucleus_row, clean_field, make_clean}
-use Rattle.mt_rules.specs.AtomRow.{box_nucleus, nucleus_beside_scripts, radical_part, overline_part, underline_part, vcenter_part, content_skew, nucleus_under_limits, script_box}
+use Rattle.mt_rules.specs.AtomRow.{box_nucleus, nucleus_beside_scripts, radical_part, overline_part, underline_part, vcenter_part, veil_part, content_skew, nucleus_under_limits, script_box}
 
 abbrev pub as_nucleus : Setting Layout → Setting Nucleus
 as_nucleus part = do
@@ -43,6 +44,8 @@ kind_nucleus (Accent symbol) fonts style role nucleus subscript = as_nucleus (ac
 kind_nucleus Over fonts style role nucleus subscript = as_nucleus (overline_part fonts style nucleus)
 kind_nucleus Under fonts style role nucleus subscript = as_nucleus (underline_part fonts style nucleus)
 kind_nucleus Vcenter fonts style role nucleus subscript = as_nucleus (vcenter_part fonts style nucleus)
+kind_nucleus (Veil width height marks) fonts style role nucleus subscript =
+    as_nucleus (veil_part fonts style width height marks nucleus)
 
 -- ---- an operator under limits
 
@@ -71,6 +74,12 @@ row_between fonts size box delta above below = do
 
 abbrev pub row_of_box : Layout → Setting (List PieceValue)
 row_of_box box = make_row (PieceBox (pos 0) box ∷ [])
+
+-- a degree and its radical
+abbrev pub row_of_root : SetValue → Style → Layout → Layout → Setting (List PieceValue)
+row_of_root fonts style degree radical = do
+  row ← root_row fonts style degree radical
+  make_row row
 
 -- scripts, which are set now
 abbrev pub row_with_fields : SetValue → Style → Nucleus → Content → Content → Setting (List PieceValue)

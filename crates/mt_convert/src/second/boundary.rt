@@ -1,6 +1,5 @@
 //! Boundaries and middles: their size, and their boxes.
-ghost use Rattle.std.specs.Prelude.{◌≡◌, ◌≤◌, ◌^◌, ◌*ℤ◌, ◌-ℤ◌, IfOk, int_div, pos};
-ghost use Rattle.std.specs.Int.{int_max};
+ghost use Rattle.std.specs.Prelude.{◌≡◌, ◌≤◌, ◌^◌, IfOk};
 ghost use Rattle.mt_scaled.specs.Number.{Within};
 ghost use Rattle.mt_box.specs.Rows.{IsMeasurable, level_of_piece};
 ghost use Rattle.mt_rules.specs.Styles.{size_of};
@@ -12,9 +11,8 @@ use crate::SetFault;
 use mt_box::Piece;
 use mt_delim::delimiter_box;
 use mt_family::{FontSet, Size};
-use mt_rules::parameters::axis_height;
-use mt_rules::{Delim, Style};
-use mt_scaled::{Length, x_over_n};
+use mt_rules::{Delim, Style, boundary_size};
+use mt_scaled::Length;
 use std::alloc::Global;
 
 // The size of the style in which a list begins, and the wanted size of its boundaries and middles.
@@ -38,33 +36,9 @@ pub(crate) fn boundary_frame(
     ensures small { Within (2 ^ 40) result.wanted.sp }
 {
     let size = style.size();
-    let axis = axis_height(fonts, size);
     BoundaryFrame {
         size,
-        wanted: wanted_for(depth.plus(axis).at_least(height.minus(axis))),
-    }
-}
-
-// The wanted size for what reaches so far from the axis.
-#[tactic(auto, using(std::proofs::lemmas::Int::ints, std::proofs::lemmas::Int::clamps))]
-fn wanted_for(reach: Length) -> Length
-    requires { Within (2 ^ 33) reach.sp }
-    ensures is { result.sp ≡ int_max (int_div reach.sp (pos 500) *ℤ pos 901) ((pos 2 *ℤ reach.sp) -ℤ pos 327680) }
-    ensures small { Within (2 ^ 40) result.sp }
-{
-    reach
-        .twice()
-        .minus(Length { sp: 327680 })
-        .at_least(share(reach))
-}
-
-fn share(reach: Length) -> Length
-    requires { Within (2 ^ 33) reach.sp }
-    ensures is { result.sp ≡ int_div reach.sp (pos 500) *ℤ pos 901 }
-    ensures small { Within (2 ^ 35) result.sp }
-{
-    Length {
-        sp: x_over_n(reach.sp, 500) * 901,
+        wanted: boundary_size(fonts, size, height, depth),
     }
 }
 

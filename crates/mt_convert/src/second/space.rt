@@ -7,10 +7,9 @@ ghost use Rattle.mt_convert.specs.SecondPass.{glue_piece, spacing_pieces, space_
 ghost use Rattle.mt_convert.specs.Halfway.{MayMeet};
 
 use crate::flat::current::Current;
-use crate::set::lengths::math_unit;
 use mt_box::Piece;
 use mt_family::FontSet;
-use mt_rules::{Class, Glue};
+use mt_rules::{Class, Glue, math_unit};
 use mt_scaled::Length;
 use mt_spacing::{Gap, math_glue, space_between};
 

@@ -1,7 +1,7 @@
 //! Symbols found, and the boxes of rows (tex.web, sections 720 and 722).
-ghost use Rattle.std.specs.Prelude.{◌≡◌, ◌≤◌, ◌+◌, ◌^◌, ◌∷◌, [], ℕ, IfOk, IsTrue, Ok, length};
+ghost use Rattle.std.specs.Prelude.{◌≡◌, ◌≤◌, ◌+◌, ◌^◌, ◌∷◌, [], ℕ, All, IfOk, IsTrue, Ok, length};
 ghost use Rattle.mt_scaled.specs.Number.{Within};
-ghost use Rattle.mt_tfm.specs.Font.{exists};
+ghost use Rattle.mt_tfm.specs.Font.{IsSoundFont, exists};
 ghost use Rattle.mt_box.specs.Extents.{ExtentsInRange};
 ghost use Rattle.mt_box.specs.Rows.{PieceGlyph, PieceKern, piece_values};
 ghost use Rattle.mt_rules.specs.Nuclei;
@@ -18,6 +18,13 @@ use mt_rules::{Style, Symbol, extents_without_italic};
 use mt_scaled::Length;
 use mt_tfm::Font;
 use std::alloc::Global;
+
+// Does nothing. Its contract says what every font of a set keeps.
+pub(crate) fn look_at_fonts(fonts: &FontSet)
+    ensures { All IsSoundFont fonts.now.fonts }
+{
+    fonts.font_count();
+}
 
 // The number of the font in which a symbol is found.
 pub(crate) fn find_symbol(fonts: &FontSet, size: Size, symbol: Symbol) -> Result<u16, SetFault>

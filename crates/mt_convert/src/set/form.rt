@@ -8,7 +8,7 @@ ghost use Rattle.mt_rules.specs.Setting.{Setting};
 ghost use Rattle.mt_rules.specs.View.{part_of_field};
 ghost use Rattle.mt_box.specs.Layout.{Layout};
 ghost use Rattle.mt_convert.specs.inner.Answers.{SetsBox, SetsNucleus, SetsOperator};
-ghost use Rattle.mt_convert.specs.inner.Forms.{accent_form, as_operator, form_of};
+ghost use Rattle.mt_convert.specs.inner.Forms.{accent_form, as_operator, form_of, radical_form};
 ghost use Rattle.mt_convert.specs.inner.AtomSteps.{as_nucleus, class_nucleus};
 ghost use Rattle.mt_convert.specs.inner.Nucleus.{NucleusIsSmall};
 ghost use Rattle.mt_convert.specs.inner.Turns.{role_value};
@@ -19,7 +19,7 @@ use crate::flat::passed::JoiningRole;
 use crate::set::nucleus::{SetNucleus, SetOperator, box_nucleus, operator_nucleus, symbol_nucleus};
 use mt_box::Packed;
 use mt_family::FontSet;
-use mt_rules::{Atom, Class, Field, Kind, Limits, Style, Symbol};
+use mt_rules::{Atom, Class, Delim, Field, Kind, Limits, Style, Symbol};
 use mt_scaled::Length;
 use std::alloc::Global;
 
@@ -34,6 +34,11 @@ pub enum AtomForm {
         accent: Symbol,
         /// The symbol.
         symbol: Symbol,
+    },
+    /// A radical with its degree, which has no scripts.
+    Root {
+        /// The radical sign.
+        sign: Delim,
     },
     /// A nucleus with its scripts beside it.
     Beside,
@@ -58,6 +63,7 @@ pub(crate) fn form_of(style: Style, atom: &Atom) -> AtomForm
     match atom.kind {
         Kind::Plain(Class::Op) if uses_limits(atom.limits, style) => AtomForm::Limits,
         Kind::Accent(accent) => accent_form(accent, &atom.nucleus, &atom.sup, &atom.sub),
+        Kind::Radical(sign) => radical_form(sign, &atom.nucleus),
         _ => AtomForm::Beside,
     }
 }
@@ -71,6 +77,16 @@ fn accent_form(accent: Symbol, nucleus: &Field, sup: &Field, sub: &Field) -> Ato
             accent,
             symbol: *symbol,
         },
+        _ => AtomForm::Beside,
+    }
+}
+
+// The form of a radical: a degree stands beside it.
+fn radical_form(sign: Delim, nucleus: &Field) -> AtomForm
+    ensures { result ≡ radical_form sign (part_of_field nucleus.now) }
+{
+    match nucleus {
+        Field::Root(_) => AtomForm::Root { sign },
         _ => AtomForm::Beside,
     }
 }

@@ -1,10 +1,8 @@
 //! Spaces and kerns of a list, and the kern after an atom that is joined with the next one.
-ghost use Rattle.std.specs.Prelude.{◌≡◌, ◌^◌, ◌++◌, ◌∷◌, [], ℕ, IfOk, OnOk};
-ghost use Rattle.mt_scaled.specs.Number.{Within};
-ghost use Rattle.mt_rules.specs.Modest.{GlueAmounts, IsAmount};
+ghost use Rattle.std.specs.Prelude.{◌≡◌, ◌++◌, ◌∷◌, [], ℕ, IfOk, OnOk};
+ghost use Rattle.mt_rules.specs.Modest.{GlueAmounts};
 ghost use Rattle.mt_convert.specs.declared.half.Half.TheVariants as half_of_list;
-ghost use Rattle.mt_convert.specs.FirstPass.{glue_in_points, in_points, make_kern, make_space};
-ghost use Rattle.mt_convert.specs.FirstPass.{math_unit as unit_of};
+ghost use Rattle.mt_convert.specs.FirstPass.{glue_in_points, make_kern, make_space};
 ghost use Rattle.mt_convert.specs.Halfway.{HalfFits};
 ghost use Rattle.mt_convert.specs.inner.Answers.{SetsHalf};
 ghost use Rattle.mt_convert.specs.inner.Lengths.{SetsKern, kern_halves};
@@ -12,19 +10,9 @@ ghost use Rattle.mt_convert.specs.inner.Lengths.{SetsKern, kern_halves};
 use crate::SetFault;
 use crate::half::Half;
 use mt_family::FontSet;
-use mt_rules::{Glue, Style};
-use mt_scaled::{Length, in_range, mu_mult, mu_of_quad};
+use mt_rules::{Glue, Style, in_points};
+use mt_scaled::{Length, in_range};
 use std::alloc::AllocError;
-
-// The size of a math unit in a style.
-pub(crate) fn math_unit(fonts: &FontSet, style: Style) -> Length
-    ensures is { result.sp ≡ unit_of fonts.now style }
-    ensures small { Within (2 ^ 31) result.sp }
-{
-    Length {
-        sp: mu_of_quad(fonts.sy(6, style.size())),
-    }
-}
 
 // A space, tested: its width, then its shrink.
 pub(crate) fn make_space(glue: Glue) -> Result<Half, SetFault>
@@ -51,16 +39,6 @@ pub(crate) fn make_kern(amount: Length) -> Result<Half, SetFault>
         return Err(SetFault::Overflow(amount.sp));
     }
     Ok(Half::Kern(amount.sp))
-}
-
-// A length in math units, in scaled points.
-pub(crate) fn in_points(fonts: &FontSet, style: Style, amount: Length) -> Length
-    requires { IsAmount amount.sp }
-    ensures { result.sp ≡ in_points fonts.now style amount.sp }
-{
-    Length {
-        sp: mu_mult(amount.sp, math_unit(fonts, style).sp),
-    }
 }
 
 // A space in math units, in scaled points.

@@ -11,11 +11,12 @@ ghost use Rattle.mt_box.specs.declared.piece.Piece.TheVariants.{Kern as KernPiec
 ghost use Rattle.mt_rules.specs.AtomRow;
 ghost use Rattle.mt_rules.specs.Delimiters.{piece_on_axis};
 ghost use Rattle.mt_rules.specs.Nuclei;
-ghost use Rattle.mt_rules.specs.Nuclei.{SymbolContent};
+ghost use Rattle.mt_rules.specs.Nuclei.{BigContent, SymbolContent};
 ghost use Rattle.mt_rules.specs.Operators;
 ghost use Rattle.mt_rules.specs.Parameters;
 ghost use Rattle.mt_rules.specs.Setting.{make_box};
 ghost use Rattle.mt_rules.specs.Styles.{size_of};
+ghost use Rattle.mt_rules.specs.declared.style.Style.{Style};
 ghost use Rattle.mt_convert.specs.declared.fault.SetFault.TheVariants.{OutOfMemory};
 ghost use Rattle.mt_convert.specs.inner.Answers.{SetsBox, SetsNucleus, SetsOperator};
 ghost use Rattle.mt_convert.specs.inner.AtomSteps;
@@ -28,8 +29,9 @@ use crate::set::clean::{clean_symbol, cleaned, find_symbol};
 use crate::set::row::push_piece;
 use mt_box::{Extents, Packed, Piece, Row, first_out};
 use mt_family::{FontSet, Size};
+use mt_parts::big_box;
 use mt_rules::parameters::axis_height;
-use mt_rules::{Style, Symbol, extents_without_italic, with_width};
+use mt_rules::{Delim, Style, Symbol, extents_without_italic, with_width};
 use mt_scaled::{Length, in_range};
 use mt_tfm::Font;
 use std::alloc::Global;
@@ -312,6 +314,42 @@ pub(crate) fn symbol_operator(
     ensures delta { IfOk result (λ o. Within (2 ^ 31) o.delta.sp) }
 {
     let SetNucleus { row, delta } = operator_nucleus(alloc, fonts, style, symbol, false)?;
+    Ok(SetOperator {
+        body: cleaned(alloc, row)?,
+        delta,
+    })
+}
+
+// ---- a big delimiter
+
+// The nucleus of a delimiter of a fixed size.
+#[inline(never)]
+pub(crate) fn big_nucleus(
+    alloc: Global,
+    fonts: &FontSet,
+    delim: Delim,
+    level: u8,
+) -> Result<SetNucleus, SetFault>
+    ensures is { SetsNucleus result (Nuclei.big_nucleus fonts.now delim level) }
+    ensures fits { IfOk result (NucleusIsSmall 3) }
+{
+    let body = big_box(alloc, fonts, delim, level)?;
+    box_nucleus(alloc, body)
+}
+
+// An operator under limits that is a delimiter of a fixed size.
+pub(crate) fn big_operator(
+    alloc: Global,
+    fonts: &FontSet,
+    delim: Delim,
+    level: u8,
+) -> Result<SetOperator, SetFault>
+    ensures is { (style : Style) → SetsOperator result
+        (AtomSteps.operator_box fonts.now style (BigContent delim level)) }
+    ensures level { IfOk result (λ o. o.body.level ≤ 4) }
+    ensures delta { IfOk result (λ o. Within (2 ^ 31) o.delta.sp) }
+{
+    let SetNucleus { row, delta } = big_nucleus(alloc, fonts, delim, level)?;
     Ok(SetOperator {
         body: cleaned(alloc, row)?,
         delta,

@@ -19,13 +19,15 @@ ghost use Rattle.mt_convert.specs.Calls.{SetsRow};
 ghost use Rattle.mt_convert.specs.Halfway.{RowFits};
 ghost use Rattle.mt_convert.specs.inner.Answers.{ReachInRange, SetsBox};
 ghost use Rattle.mt_convert.specs.inner.Fields.{field_content};
-ghost use Rattle.mt_convert.specs.inner.AtomSteps.{lone_box};
+ghost use Rattle.mt_convert.specs.inner.AtomSteps.{lone_box, row_of_root};
 
 use crate::SetFault;
-use crate::set::row::push_piece;
+use crate::set::row::{push_piece, tested};
 use mt_box::{Extents, Packed, Piece, Row};
 use mt_family::{FontSet, Size};
-use mt_parts::{accent_box, fraction_box, overline_box, radical_box, underline_box, vcenter_box};
+use mt_parts::{
+    accent_box, fraction_box, overline_box, radical_box, root_row, underline_box, vcenter_box,
+};
 use mt_rules::parameters::default_rule_thickness;
 use mt_rules::{Delim, Field, PackedList, Style, Symbol};
 use mt_scaled::Length;
@@ -44,6 +46,26 @@ pub(crate) fn radical(
     ensures level { IfOk result (λ b. b.level ≤ body.level + 2) }
 {
     Ok(radical_box(alloc, fonts, style, sign, body)?)
+}
+
+// The row of a degree and its radical.
+#[inline(never)]
+pub(crate) fn with_degree(
+    alloc: Global,
+    fonts: &FontSet,
+    style: Style,
+    degree: Packed,
+    radical: Packed,
+) -> Result<Row, SetFault>
+    requires degree_level { degree.level ≤ 4000 }
+    requires radical_level { radical.level ≤ 4000 }
+    ensures is { SetsRow result (row_of_root fonts.now style (layout_of degree) (layout_of radical)) }
+    ensures few { IfOk result (λ row. length row ≤ 4) }
+    ensures fits { IfOk result (λ row. (n : ℕ) → degree.level ≤ n → radical.level ≤ n → RowFits n row) }
+    ensures reach { IfOk result ReachInRange }
+{
+    let row = root_row(alloc, fonts, style, degree, radical)?;
+    tested(row)
 }
 
 #[inline(never)]

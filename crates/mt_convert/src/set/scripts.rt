@@ -56,7 +56,7 @@ pub(crate) fn without_scripts(nucleus: SetNucleus) -> Result<Row, SetFault>
     ensures is { (fonts : SetValue) (style : Style) →
         SetsRow result (row_beside fonts style (nucleus_value nucleus) None None) }
     ensures few { IfOk result (λ row. length row ≤ 3) }
-    ensures fits { IfOk result (λ row. (n : ℕ) → RowFits n nucleus.row → RowFits (n + 2) row) }
+    ensures fits { IfOk result (λ row. (n : ℕ) → RowFits n nucleus.row → RowFits n row) }
     ensures reach { IfOk result ReachInRange }
 {
     let SetNucleus { row, .. } = nucleus;

@@ -66,6 +66,14 @@ fn both_sides(row: TableRow) -> TableRow
     TableRow::from_vec(cells)
 }
 
+// A box at the end of those that are there.
+pub(crate) fn push_box(boxes: &mut Vec<Packed>, body: Packed) -> Result<(), AllocError>
+    ensures { OnOk result (boxes.new.items ≡ boxes.old.items ++ body ∷ []) }
+{
+    boxes.push(body)?;
+    Ok(())
+}
+
 // A row of cells at the end of those that are there.
 pub(crate) fn push_row(rows: &mut Vec<CellRow>, row: CellRow) -> Result<(), AllocError>
     ensures { OnOk result (rows.new.items ≡ rows.old.items ++ row ∷ []) }

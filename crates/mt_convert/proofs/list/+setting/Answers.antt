@@ -5,14 +5,15 @@ use Rattle.std.proofs.lemmas.Result.{err_from_is_err_and}
 use Rattle.mt_box.specs.Layout.{layout_of}
 use Rattle.mt_box.specs.Rows.{piece_values}
 use Rattle.mt_box.proofs.Lists.{no_more}
-use Rattle.mt_rules.specs.AtomRow.{overline_part, pack_rows, radical_part, underline_part, vcenter_part}
+use Rattle.mt_rules.specs.AtomRow.{overline_part, pack_rows, radical_part, underline_part, vcenter_part, veil_part}
 use Rattle.mt_rules.specs.Lines
 use Rattle.mt_scaled.specs.Number.{Within, max_dimen}
 use Rattle.mt_rules.specs.Classes.{forward_of}
+use Rattle.mt_rules.specs.MathUnits.{in_points}
 use Rattle.mt_rules.specs.Modest.{element_nesting, grid_nesting, list_nesting, part_nesting, rows_nesting}
 use Rattle.mt_rules.specs.Nuclei.{clean_field, clean_list, make_clean}
 use Rattle.mt_rules.specs.Radicals
-use Rattle.mt_rules.specs.Sequence.{element_size, part_size, rows_length, rows_size}
+use Rattle.mt_rules.specs.Sequence.{RootPart, element_size, part_size, rows_length, rows_size}
 use Rattle.mt_rules.specs.Setting.{empty_layout}
 use Rattle.mt_rules.specs.Styles.{cramped_of, size_of}
 use Rattle.mt_rules.specs.Symbols.{find_symbol}
@@ -31,14 +32,15 @@ use Rattle.mt_convert.specs.inner.Turns.{atom_passed, element_of_passed, flat_it
 use Rattle.mt_convert.proofs.Appending.{fails_then}
 use Rattle.mt_convert.proofs.kinds.Accents.{accent_given, accent_part_made, finding_fails, inside_finding_fails, inside_nucleus_fails, inside_plain_fails, inside_row_fails, inside_row_here, over_row_fails, over_row_made, plain_fails, row_packing_fails}
 use Rattle.mt_convert.proofs.kinds.Atoms.{beside_row, inside_row, limits_row}
-use Rattle.mt_convert.proofs.kinds.Bounds.{den_of_fraction, row_fits_more, grid_of_part, list_of_part, nucleus_fits_more, modest_nucleus, num_of_fraction, rows_of_part, modest_sub, modest_sup, thickness_of_fraction}
+use Rattle.mt_convert.proofs.kinds.Bounds.{body_of_part, degree_of_part, den_of_fraction, row_fits_more, grid_of_part, list_of_part, nucleus_fits_more, modest_nucleus, num_of_fraction, rows_of_part, modest_sub, modest_sup, thickness_of_fraction}
 use Rattle.mt_convert.proofs.SetNuclei.{if_ok_map}
 use Rattle.mt_convert.proofs.kinds.Chains.{first_made}
 use Rattle.mt_convert.proofs.kinds.Fractions.{den_fails, fraction_made, num_fails}
 use Rattle.mt_convert.proofs.Fitting.{kept_word}
 use Rattle.mt_convert.proofs.kinds.Items.{atom_item_fails, atom_item_made, fraction_item_fails, fraction_item_made, kern_few, kern_reach, row_reach, space_few, space_reach}
 use Rattle.mt_convert.proofs.Turning.{same_empty}
-use Rattle.mt_convert.proofs.kinds.Parts.{both_made, clean_empty_is, clean_list_is, clean_symbol_is, empty_nucleus_is, empty_operator_is, has_no_box, list_fails, list_made, list_nucleus_is, list_operator_is, no_script, no_scripts, packed_made, packing_fails, script_fails, script_made, sub_fails, sup_fails, symbol_nucleus_is, symbol_operator_is}
+use Rattle.mt_convert.proofs.kinds.Parts.{big_nucleus_is, big_operator_is, both_made, clean_empty_is, clean_list_is, clean_symbol_is, empty_nucleus_is, empty_operator_is, has_no_box, has_no_nucleus, list_fails, list_made, list_nucleus_is, list_operator_is, no_script, no_scripts, packed_made, packing_fails, script_fails, script_made, sub_fails, sup_fails, symbol_nucleus_is, symbol_operator_is}
+use Rattle.mt_convert.proofs.kinds.Roots.{body_fails, degree_fails, field_made, no_degree, nucleus_fails, of_root, root_form, root_made, row_fails as field_row_fails, veil_fails, veil_made}
 use Rattle.mt_convert.proofs.kinds.RowBoxes.{all_of_none, box_fails, next_row, next_size, without_rows, row_fails, rows_count, rows_end, rows_few, rows_start, rows_step, vcenter_empty, vcenter_fails, vcenter_made}
 use Rattle.mt_convert.proofs.kinds.TableBoxes.{cells_end, cells_fail, cells_few, cells_start, cells_step, next_cells, next_cells_size, vcenter_table}
 use Rattle.mt_convert.proofs.BothPasses.{list_err, list_set, list_fits}
@@ -173,7 +175,7 @@ pub set_item-returns-in-MuSpace-clause-fits : goal.set_item-returns-in-MuSpace-c
 set_item-returns-in-MuSpace-clause-fits t c = if_ok_map c.make_space.result _ (HalfFits (12 * element_nesting (element_of_passed (passed_value c.args.passed)))) c.make_space.ensures.fits (λ h f. f (12 * element_nesting (element_of_passed (passed_value c.args.passed))))
 
 pub set_item-returns-in-MuSpace-clause-few : goal.set_item-returns-in-MuSpace-clause-few
-set_item-returns-in-MuSpace-clause-few t c = if_ok_map c.make_space.result _ (λ h. count_of h ≤ 3) c.make_space.ensures.same (λ h e. space_few h _ e)
+set_item-returns-in-MuSpace-clause-few t c = if_ok_map c.make_space.result _ (λ h. count_of h ≤ 4) c.make_space.ensures.same (λ h e. space_few h _ e)
 
 pub set_item-returns-in-MuSpace-clause-reach : goal.set_item-returns-in-MuSpace-clause-reach
 set_item-returns-in-MuSpace-clause-reach t c = if_ok_map c.make_space.result _ HalfReachInRange c.make_space.ensures.same (λ h e. space_reach h _ e)
@@ -182,7 +184,7 @@ pub set_item-returns-in-Space-clause-fits : goal.set_item-returns-in-Space-claus
 set_item-returns-in-Space-clause-fits t c = if_ok_map c.make_space-in-Space.result _ (HalfFits (12 * element_nesting (element_of_passed (passed_value c.args.passed)))) c.make_space-in-Space.ensures.fits (λ h f. f (12 * element_nesting (element_of_passed (passed_value c.args.passed))))
 
 pub set_item-returns-in-Space-clause-few : goal.set_item-returns-in-Space-clause-few
-set_item-returns-in-Space-clause-few t c = if_ok_map c.make_space-in-Space.result _ (λ h. count_of h ≤ 3) c.make_space-in-Space.ensures.same (λ h e. space_few h _ e)
+set_item-returns-in-Space-clause-few t c = if_ok_map c.make_space-in-Space.result _ (λ h. count_of h ≤ 4) c.make_space-in-Space.ensures.same (λ h e. space_few h _ e)
 
 pub set_item-returns-in-Space-clause-reach : goal.set_item-returns-in-Space-clause-reach
 set_item-returns-in-Space-clause-reach t c = if_ok_map c.make_space-in-Space.result _ HalfReachInRange c.make_space-in-Space.ensures.same (λ h e. space_reach h _ e)
@@ -191,7 +193,7 @@ pub set_item-returns-in-MuKern-clause-fits : goal.set_item-returns-in-MuKern-cla
 set_item-returns-in-MuKern-clause-fits t c = if_ok_map c.make_kern.result _ (HalfFits (12 * element_nesting (element_of_passed (passed_value c.args.passed)))) c.make_kern.ensures.fits (λ h f. f (12 * element_nesting (element_of_passed (passed_value c.args.passed))))
 
 pub set_item-returns-in-MuKern-clause-few : goal.set_item-returns-in-MuKern-clause-few
-set_item-returns-in-MuKern-clause-few t c = if_ok_map c.make_kern.result _ (λ h. count_of h ≤ 3) c.make_kern.ensures.same (λ h e. kern_few h _ e)
+set_item-returns-in-MuKern-clause-few t c = if_ok_map c.make_kern.result _ (λ h. count_of h ≤ 4) c.make_kern.ensures.same (λ h e. kern_few h _ e)
 
 pub set_item-returns-in-MuKern-clause-reach : goal.set_item-returns-in-MuKern-clause-reach
 set_item-returns-in-MuKern-clause-reach t c = if_ok_map c.make_kern.result _ HalfReachInRange c.make_kern.ensures.same (λ h e. kern_reach h _ e)
@@ -200,7 +202,7 @@ pub set_item-returns-in-Kern-clause-fits : goal.set_item-returns-in-Kern-clause-
 set_item-returns-in-Kern-clause-fits t c = if_ok_map c.make_kern-in-Kern.result _ (HalfFits (12 * element_nesting (element_of_passed (passed_value c.args.passed)))) c.make_kern-in-Kern.ensures.fits (λ h f. f (12 * element_nesting (element_of_passed (passed_value c.args.passed))))
 
 pub set_item-returns-in-Kern-clause-few : goal.set_item-returns-in-Kern-clause-few
-set_item-returns-in-Kern-clause-few t c = if_ok_map c.make_kern-in-Kern.result _ (λ h. count_of h ≤ 3) c.make_kern-in-Kern.ensures.same (λ h e. kern_few h _ e)
+set_item-returns-in-Kern-clause-few t c = if_ok_map c.make_kern-in-Kern.result _ (λ h. count_of h ≤ 4) c.make_kern-in-Kern.ensures.same (λ h e. kern_few h _ e)
 
 pub set_item-returns-in-Kern-clause-reach : goal.set_item-returns-in-Kern-clause-reach
 set_item-returns-in-Kern-clause-reach t c = if_ok_map c.make_kern-in-Kern.result _ HalfReachInRange c.make_kern-in-Kern.ensures.same (λ h e. kern_reach h _ e)
@@ -222,7 +224,7 @@ set_item-returns-in-Space-clause-is t c = subst (SetsHalf c.make_space-in-Space.
 pub set_item-returns-in-MuKern-clause-is : goal.set_item-returns-in-MuKern-clause-is
 set_item-returns-in-MuKern-clause-is t c =
     let f : FitsSigned w64 c.in-MuKern.amount = search rules in
-    subst (SetsHalf c.make_kern.result) (sym (ap (λ p. FirstPass.set_item c.args.fonts.now c.args.current (flat_item c.args.fonts.now (passed_value p))) c.in-MuKern.is)) (subst (λ x. SetsHalf c.make_kern.result (FirstPass.make_kern x)) (c.in_points.ensures ∙ ap (FirstPass.in_points c.args.fonts.now c.args.current.style) (kept_word c.in-MuKern.amount f)) c.make_kern.ensures.is)
+    subst (SetsHalf c.make_kern.result) (sym (ap (λ p. FirstPass.set_item c.args.fonts.now c.args.current (flat_item c.args.fonts.now (passed_value p))) c.in-MuKern.is)) (subst (λ x. SetsHalf c.make_kern.result (FirstPass.make_kern x)) (c.in_points.ensures ∙ ap (in_points c.args.fonts.now c.args.current.style) (kept_word c.in-MuKern.amount f)) c.make_kern.ensures.is)
 
 pub set_item-returns-in-Kern-clause-is : goal.set_item-returns-in-Kern-clause-is
 set_item-returns-in-Kern-clause-is t c =
@@ -240,7 +242,7 @@ set_atom-returns-in-Limits-clause-is t c = subst (SetsRow c.set_under_limits.res
 pub set_atom-returns-in-Limits-clause-fits : goal.set_atom-returns-in-Limits-clause-fits
 set_atom-returns-in-Limits-clause-fits t c =
     let most = (max (part_nesting (part_of_field c.args.atom.nucleus)) (max (part_nesting (part_of_field c.args.atom.sup)) (part_nesting (part_of_field c.args.atom.sub)))) in
-    if_ok_map c.set_under_limits.result _ (RowFits (12 * (most + 1))) c.set_under_limits.ensures.fits (λ row f. row_fits_more (12 * most + 2 + 3) (12 * (most + 1)) row (omega arith) (f (12 * most + 2) (omega arith) (record { sup = omega arith; sub = omega arith })))
+    if_ok_map c.set_under_limits.result _ (RowFits (12 * (most + 1))) c.set_under_limits.ensures.fits (λ row f. row_fits_more (12 * most + 4 + 3) (12 * (most + 1)) row (omega arith) (f (12 * most + 4) (omega arith) (record { sup = omega arith; sub = omega arith })))
 
 pub set_atom-set_accent_inside-requires : goal.set_atom-set_accent_inside-requires
 set_atom-set_accent_inside-requires t c = (omega (arith, c.decreases), (modest_sup c.args.atom.kind c.args.atom.limits (part_of_field c.args.atom.nucleus) (part_of_field c.args.atom.sup) (part_of_field c.args.atom.sub) c.requires.modest, modest_sub c.args.atom.kind c.args.atom.limits (part_of_field c.args.atom.nucleus) (part_of_field c.args.atom.sup) (part_of_field c.args.atom.sub) c.requires.modest))
@@ -252,6 +254,21 @@ pub set_atom-returns-in-AccentInside-clause-fits : goal.set_atom-returns-in-Acce
 set_atom-returns-in-AccentInside-clause-fits t c =
     let most = (max (part_nesting (part_of_field c.args.atom.nucleus)) (max (part_nesting (part_of_field c.args.atom.sup)) (part_nesting (part_of_field c.args.atom.sub)))) in
     if_ok_map c.set_accent_inside.result _ (RowFits (12 * (most + 1))) c.set_accent_inside.ensures.fits (λ row f. row_fits_more (12 * most + 1 + 4) (12 * (most + 1)) row (omega arith) (f (12 * most + 1) (record { sup = omega arith; sub = omega arith })))
+
+pub set_atom-set_root-requires : goal.set_atom-set_root-requires
+set_atom-set_root-requires t c =
+    let f = root_form c.args.fonts.now c.args.style (role_value c.args.role) c.args.atom.kind c.args.atom.limits (part_of_field c.args.atom.nucleus) (part_of_field c.args.atom.sup) (part_of_field c.args.atom.sub) c.in-Root.sign (sym c.in-Root.is ∙ c.form_of-form.ensures) in
+    (omega (arith, c.decreases), (f.degree, modest_nucleus c.args.atom.kind c.args.atom.limits (part_of_field c.args.atom.nucleus) (part_of_field c.args.atom.sup) (part_of_field c.args.atom.sub) c.requires.modest))
+
+pub set_atom-returns-in-Root-clause-is : goal.set_atom-returns-in-Root-clause-is
+set_atom-returns-in-Root-clause-is t c =
+    let f = root_form c.args.fonts.now c.args.style (role_value c.args.role) c.args.atom.kind c.args.atom.limits (part_of_field c.args.atom.nucleus) (part_of_field c.args.atom.sup) (part_of_field c.args.atom.sub) c.in-Root.sign (sym c.in-Root.is ∙ c.form_of-form.ensures) in
+    subst (SetsRow c.set_root.result) (sym f.is) (c.set_root.ensures.is (field_content c.args.fonts.now c.args.atom.sup) (field_content c.args.fonts.now c.args.atom.sub))
+
+pub set_atom-returns-in-Root-clause-fits : goal.set_atom-returns-in-Root-clause-fits
+set_atom-returns-in-Root-clause-fits t c =
+    let most = (max (part_nesting (part_of_field c.args.atom.nucleus)) (max (part_nesting (part_of_field c.args.atom.sup)) (part_nesting (part_of_field c.args.atom.sub)))) in
+    if_ok_map c.set_root.result _ (RowFits (12 * (most + 1))) c.set_root.ensures.fits (λ row f. row_fits_more (12 * part_nesting (part_of_field c.args.atom.nucleus) + 4) (12 * (most + 1)) row (omega arith) f)
 
 pub set_atom-set_nucleus-requires : goal.set_atom-set_nucleus-requires
 set_atom-set_nucleus-requires t c = (omega (arith, c.decreases), modest_nucleus c.args.atom.kind c.args.atom.limits (part_of_field c.args.atom.nucleus) (part_of_field c.args.atom.sup) (part_of_field c.args.atom.sub) c.requires.modest)
@@ -271,7 +288,7 @@ set_atom-returns-then-not-has_subscript-clause-is t c = subst (SetsRow c.without
 pub set_atom-returns-then-not-has_subscript-clause-fits : goal.set_atom-returns-then-not-has_subscript-clause-fits
 set_atom-returns-then-not-has_subscript-clause-fits t c =
     let most = (max (part_nesting (part_of_field c.args.atom.nucleus)) (max (part_nesting (part_of_field c.args.atom.sup)) (part_nesting (part_of_field c.args.atom.sub)))) in
-    if_ok_map c.without_scripts.result _ (RowFits (12 * (most + 1))) c.without_scripts.ensures.fits (λ row f. row_fits_more (12 * most + 4 + 2) (12 * (most + 1)) row (omega arith) (f (12 * most + 4) (row_fits_more (12 * part_nesting (part_of_field c.args.atom.nucleus) + 4) (12 * most + 4) c.in_ok-nucleus-in-Beside.nucleus.row (omega arith) c.in_ok-nucleus-in-Beside.ensures.fits.fits)))
+    if_ok_map c.without_scripts.result _ (RowFits (12 * (most + 1))) c.without_scripts.ensures.fits (λ row f. row_fits_more (12 * most + 4) (12 * (most + 1)) row (omega arith) (f (12 * most + 4) (row_fits_more (12 * part_nesting (part_of_field c.args.atom.nucleus) + 4) (12 * most + 4) c.in_ok-nucleus-in-Beside.nucleus.row (omega arith) c.in_ok-nucleus-in-Beside.ensures.fits.fits)))
 
 pub set_atom-set_scripts-requires : goal.set_atom-set_scripts-requires
 set_atom-set_scripts-requires t c =
@@ -327,7 +344,7 @@ pub set_nucleus-set_plain-requires : goal.set_nucleus-set_plain-requires
 set_nucleus-set_plain-requires t c = (omega (arith, c.decreases), c.requires.modest)
 
 pub set_nucleus-returns-in-Plain : goal.set_nucleus-returns-in-Plain
-set_nucleus-returns-in-Plain t c = record { is = subst (λ k. SetsNucleus c.set_plain.result (kind_nucleus k c.args.fonts.now c.args.style (role_value c.args.role) (field_content c.args.fonts.now c.args.field) c.args.has_subscript)) (sym c.in-Plain.is) c.set_plain.ensures.is; fits = c.set_plain.ensures.fits }
+set_nucleus-returns-in-Plain t c = record { is = subst (λ k. SetsNucleus c.set_plain.result (kind_nucleus k c.args.fonts.now c.args.style (role_value c.args.role) (field_content c.args.fonts.now c.args.field) c.args.has_subscript)) (sym c.in-Plain.is) c.set_plain.ensures.is; fits = if_ok_map c.set_plain.result _ (NucleusIsSmall (12 * part_nesting (part_of_field c.args.field) + 4)) c.set_plain.ensures.fits (λ n h. nucleus_fits_more (12 * part_nesting (part_of_field c.args.field) + 3) (12 * part_nesting (part_of_field c.args.field) + 4) n (omega arith) h) }
 
 pub set_nucleus-set_part-requires : goal.set_nucleus-set_part-requires
 set_nucleus-set_part-requires t c = (omega (arith, c.decreases), (c.requires.modest, c.in_default.not-Plain))
@@ -359,6 +376,12 @@ set_part-set_underline-requires t c = (omega (arith, c.decreases), c.requires.mo
 pub set_part-returns-in-Under : goal.set_part-returns-in-Under
 set_part-returns-in-Under t c = record { is = λ role has_subscript. subst (λ k. SetsNucleus c.part_nucleus-in-Under.result (kind_nucleus k c.args.fonts.now c.args.style role (field_content c.args.fonts.now c.args.field) has_subscript)) (sym c.in-Under.is) (c.part_nucleus-in-Under.ensures.is (underline_part c.args.fonts.now c.args.style (field_content c.args.fonts.now c.args.field)) c.set_underline.ensures.is); fits = c.part_nucleus-in-Under.ensures.fits (12 * part_nesting (part_of_field c.args.field) + 4) (if_ok_map c.set_underline.result _ (λ b. b.level ≤ 12 * part_nesting (part_of_field c.args.field) + 4) c.set_underline.ensures.level (λ b h. omega (arith, h))) }
 
+pub set_part-set_veil-requires : goal.set_part-set_veil-requires
+set_part-set_veil-requires t c = (omega (arith, c.decreases), c.requires.modest)
+
+pub set_part-returns-in-Veil : goal.set_part-returns-in-Veil
+set_part-returns-in-Veil t c = record { is = λ role has_subscript. subst (λ k. SetsNucleus c.part_nucleus-in-Veil.result (kind_nucleus k c.args.fonts.now c.args.style role (field_content c.args.fonts.now c.args.field) has_subscript)) (sym c.in-Veil.is) (c.part_nucleus-in-Veil.ensures.is (veil_part c.args.fonts.now c.args.style c.in-Veil.width c.in-Veil.height c.in-Veil.marks (field_content c.args.fonts.now c.args.field)) c.set_veil.ensures.is); fits = c.part_nucleus-in-Veil.ensures.fits (12 * part_nesting (part_of_field c.args.field) + 4) c.set_veil.ensures.level }
+
 pub set_part-set_vcenter-requires : goal.set_part-set_vcenter-requires
 set_part-set_vcenter-requires t c = (omega (arith, c.decreases), c.requires.modest)
 
@@ -368,7 +391,7 @@ set_part-returns-in-Vcenter t c = record { is = λ role has_subscript. subst (λ
 -- ---- `set_plain`
 
 pub set_plain-returns-in-Sym : goal.set_plain-returns-in-Sym
-set_plain-returns-in-Sym t c = record { is = subst (SetsNucleus c.class_nucleus.result) (sym (symbol_nucleus_is c.args.class c.args.fonts.now c.args.style (role_value c.args.role) (part_of_field c.args.field) c.in-Sym.symbol c.args.has_subscript (ap part_of_field c.in-Sym.is))) c.class_nucleus.ensures.is; fits = if_ok_map c.class_nucleus.result _ (NucleusIsSmall (12 * part_nesting (part_of_field c.args.field) + 4)) c.class_nucleus.ensures.fits (λ n h. nucleus_fits_more 1 (12 * part_nesting (part_of_field c.args.field) + 4) n (omega arith) h) }
+set_plain-returns-in-Sym t c = record { is = subst (SetsNucleus c.class_nucleus.result) (sym (symbol_nucleus_is c.args.class c.args.fonts.now c.args.style (role_value c.args.role) (part_of_field c.args.field) c.in-Sym.symbol c.args.has_subscript (ap part_of_field c.in-Sym.is))) c.class_nucleus.ensures.is; fits = if_ok_map c.class_nucleus.result _ (NucleusIsSmall (12 * part_nesting (part_of_field c.args.field) + 3)) c.class_nucleus.ensures.fits (λ n h. nucleus_fits_more 1 (12 * part_nesting (part_of_field c.args.field) + 3) n (omega arith) h) }
 
 pub set_plain-pack_list-requires : goal.set_plain-pack_list-requires
 set_plain-pack_list-requires t c =
@@ -377,10 +400,13 @@ set_plain-pack_list-requires t c =
     (omega (arith, s, c.decreases), list_of_part (part_of_field c.args.field) c.in-List.list e c.requires.modest)
 
 pub set_plain-returns-in-List : goal.set_plain-returns-in-List
-set_plain-returns-in-List t c = record { is = subst (SetsNucleus c.pack_list.result) (sym (list_nucleus_is c.args.class c.args.fonts.now c.args.style (role_value c.args.role) (part_of_field c.args.field) c.in-List.list c.args.has_subscript (ap part_of_field c.in-List.is))) c.pack_list.ensures.is; fits = subst (λ p. IfOk c.pack_list.result (NucleusIsSmall (12 * part_nesting p + 4))) (sym (ap part_of_field c.in-List.is)) (if_ok_map c.pack_list.result _ (NucleusIsSmall (12 * list_nesting c.in-List.list + 4)) c.pack_list.ensures.fits (λ n h. nucleus_fits_more (12 * list_nesting c.in-List.list + 1) (12 * list_nesting c.in-List.list + 4) n (omega arith) h)) }
+set_plain-returns-in-List t c = record { is = subst (SetsNucleus c.pack_list.result) (sym (list_nucleus_is c.args.class c.args.fonts.now c.args.style (role_value c.args.role) (part_of_field c.args.field) c.in-List.list c.args.has_subscript (ap part_of_field c.in-List.is))) c.pack_list.ensures.is; fits = subst (λ p. IfOk c.pack_list.result (NucleusIsSmall (12 * part_nesting p + 3))) (sym (ap part_of_field c.in-List.is)) (if_ok_map c.pack_list.result _ (NucleusIsSmall (12 * list_nesting c.in-List.list + 3)) c.pack_list.ensures.fits (λ n h. nucleus_fits_more (12 * list_nesting c.in-List.list + 1) (12 * list_nesting c.in-List.list + 3) n (omega arith) h)) }
+
+pub set_plain-returns-in-Big : goal.set_plain-returns-in-Big
+set_plain-returns-in-Big t c = record { is = subst (SetsNucleus c.big_nucleus.result) (sym (big_nucleus_is c.args.class c.args.fonts.now c.args.style (role_value c.args.role) (part_of_field c.args.field) c.in-Big.delim c.in-Big.level c.args.has_subscript (ap part_of_field c.in-Big.is))) c.big_nucleus.ensures.is; fits = if_ok_map c.big_nucleus.result _ (NucleusIsSmall (12 * part_nesting (part_of_field c.args.field) + 3)) c.big_nucleus.ensures.fits (λ n h. nucleus_fits_more 3 (12 * part_nesting (part_of_field c.args.field) + 3) n (omega arith) h) }
 
 pub set_plain-returns : goal.set_plain-returns
-set_plain-returns t c = record { is = empty_nucleus_is c.args.class c.args.fonts.now c.args.style (role_value c.args.role) (part_of_field c.args.field) c.args.has_subscript (has_no_box c.args.field c.in-Empty.is) ∙ ap (λ n. Ok n) (sym c.empty_nucleus.ensures.is); fits = nucleus_fits_more 0 (12 * part_nesting (part_of_field c.args.field) + 4) c.empty_nucleus.result (omega arith) c.empty_nucleus.ensures.fits }
+set_plain-returns t c = record { is = empty_nucleus_is c.args.class c.args.fonts.now c.args.style (role_value c.args.role) (part_of_field c.args.field) c.args.has_subscript (has_no_nucleus c.args.field c.in_default.not-Sym c.in_default.not-List c.in_default.not-Big) ∙ ap (λ n. Ok n) (sym c.empty_nucleus.ensures.is); fits = nucleus_fits_more 0 (12 * part_nesting (part_of_field c.args.field) + 3) c.empty_nucleus.result (omega arith) c.empty_nucleus.ensures.fits }
 
 -- ---- `pack_list`
 
@@ -401,13 +427,48 @@ pack_list-returns-in_err-body-clause-is t c =
 pub pack_list-returns : goal.pack_list-returns
 pack_list-returns t c = record { is = packed_made (SetsNucleus c.box_nucleus.result) c.args.fonts.now c.args.list c.args.style (piece_values c.in_ok-row.row) (layout_of c.in_ok-body.body) c.in_ok-row.ensures.is c.in_ok-body.ensures.is c.box_nucleus.ensures.is; fits = if_ok_map c.box_nucleus.result _ (NucleusIsSmall (12 * list_nesting c.args.list + 1)) c.box_nucleus.ensures.fits (λ n h. nucleus_fits_more c.in_ok-body.body.level (12 * list_nesting c.args.list + 1) n (c.in_ok-body.ensures.level (12 * list_nesting c.args.list) c.in_ok-row.ensures.fits) h) }
 
+-- ---- `pack_field`
+
+pub pack_field-set_plain-requires : goal.pack_field-set_plain-requires
+pack_field-set_plain-requires t c = (omega (arith, c.decreases), c.requires.modest)
+
+pub pack_field-returns-in_err-nucleus-clause-is : goal.pack_field-returns-in_err-nucleus-clause-is
+pack_field-returns-in_err-nucleus-clause-is t c =
+    let p = err_from_is_err_and c.from_residual.result c.from_residual.ensures.1 in rw (p.1, p.2) (nucleus_fails _ c.args.fonts.now c.args.style (field_content c.args.fonts.now c.args.field) c.in_err-nucleus.ensures.is)
+
+pub pack_field-without_scripts-requires : goal.pack_field-without_scripts-requires
+pack_field-without_scripts-requires t c = record { fits = nucleus_fits_more (12 * part_nesting (part_of_field c.args.field) + 3) 4000 c.in_ok-nucleus.nucleus (omega (arith, c.requires.modest.nesting)) c.in_ok-nucleus.ensures.fits }
+
+pub pack_field-returns-in_err-without_scripts-clause-is : goal.pack_field-returns-in_err-without_scripts-clause-is
+pack_field-returns-in_err-without_scripts-clause-is t c =
+    let p = err_from_is_err_and c.from_residual-in_err-without_scripts.result c.from_residual-in_err-without_scripts.ensures.1 in rw (p.1, p.2) (field_row_fails _ c.args.fonts.now c.args.style (field_content c.args.fonts.now c.args.field) (nucleus_value c.in_ok-nucleus.nucleus) c.in_ok-nucleus.ensures.is (c.in_err-without_scripts.ensures.is c.args.fonts.now c.args.style))
+
+pub pack_field-packed-requires : goal.pack_field-packed-requires
+pack_field-packed-requires t c =
+    record { few = omega (arith, c.in_ok-without_scripts.ensures.few); fits = c.in_ok-without_scripts.ensures.fits 4000 (row_fits_more (12 * part_nesting (part_of_field c.args.field) + 3) 4000 c.in_ok-nucleus.nucleus.row (omega (arith, c.requires.modest.nesting)) c.in_ok-nucleus.ensures.fits.fits) }
+
+pub pack_field-returns : goal.pack_field-returns
+pack_field-returns t c = record { is = field_made (SetsBox c.packed.result) c.args.fonts.now c.args.style (field_content c.args.fonts.now c.args.field) (nucleus_value c.in_ok-nucleus.nucleus) (piece_values c.in_ok-without_scripts.field-0) c.in_ok-nucleus.ensures.is (c.in_ok-without_scripts.ensures.is c.args.fonts.now c.args.style) c.packed.ensures.is; level = if_ok_map c.packed.result _ (λ b. b.level ≤ 12 * part_nesting (part_of_field c.args.field) + 4) c.packed.ensures.level (λ b f. omega (arith, f (12 * part_nesting (part_of_field c.args.field) + 3) (c.in_ok-without_scripts.ensures.fits (12 * part_nesting (part_of_field c.args.field) + 3) c.in_ok-nucleus.ensures.fits.fits))) }
+
+-- ---- `set_veil`
+
+pub set_veil-pack_field-requires : goal.set_veil-pack_field-requires
+set_veil-pack_field-requires t c = (omega (arith, c.decreases), c.requires.modest)
+
+pub set_veil-returns-in_err-body-clause-is : goal.set_veil-returns-in_err-body-clause-is
+set_veil-returns-in_err-body-clause-is t c =
+    let p = err_from_is_err_and c.from_residual.result c.from_residual.ensures.1 in rw (p.1, p.2) (veil_fails _ c.args.fonts.now c.args.style c.uncramped.result c.args.width c.args.height c.args.marks (field_content c.args.fonts.now c.args.field) c.uncramped.ensures c.in_err-body.ensures.is)
+
+pub set_veil-returns : goal.set_veil-returns
+set_veil-returns t c = record { is = veil_made c.args.fonts.now c.args.style c.uncramped.result c.args.width c.args.height c.args.marks (field_content c.args.fonts.now c.args.field) (layout_of c.in_ok-body.body) (layout_of c.veil_box.result) c.uncramped.ensures c.in_ok-body.ensures.is c.veil_box.ensures.is; level = omega (arith, c.in_ok-body.ensures.level, c.veil_box.ensures.level) }
+
 -- ---- `set_operator`
 
 pub set_operator-returns-in-Sym-clause-is : goal.set_operator-returns-in-Sym-clause-is
 set_operator-returns-in-Sym-clause-is t c = subst (SetsOperator c.symbol_operator.result) (sym (symbol_operator_is c.args.fonts.now c.args.style (part_of_field c.args.field) c.in-Sym.symbol (ap part_of_field c.in-Sym.is))) c.symbol_operator.ensures.is
 
 pub set_operator-returns-in-Sym-clause-level : goal.set_operator-returns-in-Sym-clause-level
-set_operator-returns-in-Sym-clause-level t c = if_ok_map c.symbol_operator.result _ (λ o. o.body.level ≤ 12 * part_nesting (part_of_field c.args.field) + 2) c.symbol_operator.ensures.level (λ o h. omega (arith, h))
+set_operator-returns-in-Sym-clause-level t c = if_ok_map c.symbol_operator.result _ (λ o. o.body.level ≤ 12 * part_nesting (part_of_field c.args.field) + 4) c.symbol_operator.ensures.level (λ o h. omega (arith, h))
 
 pub set_operator-clean_list-requires : goal.set_operator-clean_list-requires
 set_operator-clean_list-requires t c =
@@ -419,13 +480,19 @@ pub set_operator-returns-in-List-clause-is : goal.set_operator-returns-in-List-c
 set_operator-returns-in-List-clause-is t c = subst (SetsOperator c.part_operator.result) (sym (list_operator_is c.args.fonts.now c.args.style (part_of_field c.args.field) c.in-List.list (ap part_of_field c.in-List.is))) (c.part_operator.ensures.is (clean_list (list_content c.args.fonts.now c.in-List.list) c.args.style) c.clean_list.ensures.is)
 
 pub set_operator-returns-in-List-clause-level : goal.set_operator-returns-in-List-clause-level
-set_operator-returns-in-List-clause-level t c = c.part_operator.ensures.level (12 * part_nesting (part_of_field c.args.field) + 2) (subst (λ p. IfOk c.clean_list.result (λ b. b.level ≤ 12 * part_nesting p + 2)) (sym (ap part_of_field c.in-List.is)) (if_ok_map c.clean_list.result _ (λ b. b.level ≤ 12 * list_nesting c.in-List.list + 2) c.clean_list.ensures.level (λ b h. omega (arith, h))))
+set_operator-returns-in-List-clause-level t c = c.part_operator.ensures.level (12 * part_nesting (part_of_field c.args.field) + 4) (subst (λ p. IfOk c.clean_list.result (λ b. b.level ≤ 12 * part_nesting p + 4)) (sym (ap part_of_field c.in-List.is)) (if_ok_map c.clean_list.result _ (λ b. b.level ≤ 12 * list_nesting c.in-List.list + 4) c.clean_list.ensures.level (λ b h. omega (arith, h))))
+
+pub set_operator-returns-in-Big-clause-is : goal.set_operator-returns-in-Big-clause-is
+set_operator-returns-in-Big-clause-is t c = subst (SetsOperator c.big_operator.result) (sym (big_operator_is c.args.fonts.now c.args.style (part_of_field c.args.field) c.in-Big.delim c.in-Big.level (ap part_of_field c.in-Big.is))) (c.big_operator.ensures.is c.args.style)
+
+pub set_operator-returns-in-Big-clause-level : goal.set_operator-returns-in-Big-clause-level
+set_operator-returns-in-Big-clause-level t c = if_ok_map c.big_operator.result _ (λ o. o.body.level ≤ 12 * part_nesting (part_of_field c.args.field) + 4) c.big_operator.ensures.level (λ o h. omega (arith, h))
 
 pub set_operator-returns-clause-is : goal.set_operator-returns-clause-is
-set_operator-returns-clause-is t c = subst (SetsOperator c.part_operator-in-Empty.result) (sym (empty_operator_is c.args.fonts.now c.args.style (part_of_field c.args.field) (has_no_box c.args.field c.in-Empty.is))) (c.part_operator-in-Empty.ensures.is (Ok empty_layout) c.empty_box.ensures.is)
+set_operator-returns-clause-is t c = subst (SetsOperator c.part_operator-in_default.result) (sym (empty_operator_is c.args.fonts.now c.args.style (part_of_field c.args.field) (has_no_nucleus c.args.field c.in_default.not-Sym c.in_default.not-List c.in_default.not-Big))) (c.part_operator-in_default.ensures.is (Ok empty_layout) c.empty_box.ensures.is)
 
 pub set_operator-returns-clause-level : goal.set_operator-returns-clause-level
-set_operator-returns-clause-level t c = c.part_operator-in-Empty.ensures.level (12 * part_nesting (part_of_field c.args.field) + 2) (if_ok_map c.empty_box.result _ (λ b. b.level ≤ 12 * part_nesting (part_of_field c.args.field) + 2) c.empty_box.ensures.level (λ b h. omega (arith, h)))
+set_operator-returns-clause-level t c = c.part_operator-in_default.ensures.level (12 * part_nesting (part_of_field c.args.field) + 4) (if_ok_map c.empty_box.result _ (λ b. b.level ≤ 12 * part_nesting (part_of_field c.args.field) + 4) c.empty_box.ensures.level (λ b h. omega (arith, h)))
 
 -- ---- `set_scripts`
 
@@ -476,7 +543,7 @@ set_under_limits-returns-clause-is t c = first_made (SetsRow c.set_limits.result
 
 pub set_under_limits-returns-clause-fits : goal.set_under_limits-returns-clause-fits
 set_under_limits-returns-clause-fits t c =
-    if_ok_map c.set_limits.result _ (λ row. (n : ℕ) → 12 * part_nesting (part_of_field c.args.nucleus) + 2 ≤ n → ScriptLevels n (part_of_field c.args.sup) (part_of_field c.args.sub) → RowFits (n + 3) row) c.set_limits.ensures.fits
+    if_ok_map c.set_limits.result _ (λ row. (n : ℕ) → 12 * part_nesting (part_of_field c.args.nucleus) + 4 ≤ n → ScriptLevels n (part_of_field c.args.sup) (part_of_field c.args.sub) → RowFits (n + 3) row) c.set_limits.ensures.fits
     (λ row f n h s. f n (omega (arith, c.in_ok-operator.ensures.level, h)) s)
 
 pub set_limits-set_script-requires : goal.set_limits-set_script-requires
@@ -538,7 +605,7 @@ pub clean_field-returns-in-List : goal.clean_field-returns-in-List
 clean_field-returns-in-List t c = record { is = subst (SetsBox c.clean_list.result) (sym (clean_list_is c.args.fonts.now c.args.style (part_of_field c.args.field) c.in-List.list (ap part_of_field c.in-List.is))) c.clean_list.ensures.is; level = subst (λ p. IfOk c.clean_list.result (λ b. b.level ≤ 12 * part_nesting p + 1)) (sym (ap part_of_field c.in-List.is)) c.clean_list.ensures.level }
 
 pub clean_field-returns : goal.clean_field-returns
-clean_field-returns t c = record { is = subst (SetsBox c.empty_box.result) (sym (clean_empty_is c.args.fonts.now c.args.style (part_of_field c.args.field) (has_no_box c.args.field c.in-Empty.is))) c.empty_box.ensures.is; level = if_ok_map c.empty_box.result _ (λ b. b.level ≤ 12 * part_nesting (part_of_field c.args.field) + 1) c.empty_box.ensures.level (λ b h. omega (arith, h)) }
+clean_field-returns t c = record { is = subst (SetsBox c.empty_box.result) (sym (clean_empty_is c.args.fonts.now c.args.style (part_of_field c.args.field) (has_no_box c.args.field c.in_default.not-Sym c.in_default.not-List))) c.empty_box.ensures.is; level = if_ok_map c.empty_box.result _ (λ b. b.level ≤ 12 * part_nesting (part_of_field c.args.field) + 1) c.empty_box.ensures.level (λ b h. omega (arith, h)) }
 
 -- ---- `clean_list`
 
@@ -569,6 +636,57 @@ set_radical-radical-requires t c = omega (arith, c.in_ok-body.ensures.level, c.r
 
 pub set_radical-returns : goal.set_radical-returns
 set_radical-returns t c = record { is = first_made (SetsBox c.radical.result) (clean_field c.args.fonts.now (cramped_of c.args.style) (field_content c.args.fonts.now c.args.field)) (layout_of c.in_ok-body.body) (λ b. Radicals.radical c.args.fonts.now c.args.style c.args.sign b) (ap (λ t. clean_field c.args.fonts.now t (field_content c.args.fonts.now c.args.field)) (sym c.cramped.ensures) ∙ c.in_ok-body.ensures.is) c.radical.ensures.is; level = if_ok_map c.radical.result _ (λ b. b.level ≤ 12 * part_nesting (part_of_field c.args.field) + 3) c.radical.ensures.level (λ b h. omega (arith, h, c.in_ok-body.ensures.level)) }
+
+-- ---- `set_root`
+
+pub set_root-pack_field-requires : goal.set_root-pack_field-requires
+set_root-pack_field-requires t c =
+    let e = ap part_of_field c.in-Root.is ∙ ap (λ r. RootPart r.degree r.body) (sym c.into_inner-root.ensures ∙ sym c.root.view_is) in
+    let s = ap part_size e in
+    (omega (arith, s, c.decreases), degree_of_part (part_of_field c.args.nucleus) c.root.inside.degree (part_of_field c.root.inside.body) e c.requires.modest)
+
+pub set_root-returns-in_err-degree-clause-is : goal.set_root-returns-in_err-degree-clause-is
+set_root-returns-in_err-degree-clause-is t c =
+    let e = ap part_of_field c.in-Root.is ∙ ap (λ r. RootPart r.degree r.body) (sym c.into_inner-root.ensures ∙ sym c.root.view_is) in
+    let p = err_from_is_err_and c.from_residual.result c.from_residual.ensures.1 in
+    rw (p.1, p.2) (λ sup sub. of_root (SetFails c.in_err-degree.field-0.0) c.args.fonts.now c.args.style c.args.sign (part_of_field c.args.nucleus) c.root.inside.degree (part_of_field c.root.inside.body) sup sub e
+    (degree_fails _ c.args.fonts.now c.args.style c.args.sign (list_content c.args.fonts.now c.root.inside.degree) (field_content c.args.fonts.now c.root.inside.body) c.in_err-degree.ensures.is))
+
+pub set_root-set_radical-requires : goal.set_root-set_radical-requires
+set_root-set_radical-requires t c =
+    let e = ap part_of_field c.in-Root.is ∙ ap (λ r. RootPart r.degree r.body) (sym c.into_inner-root.ensures ∙ sym c.root.view_is) in
+    let s = ap part_size e in
+    (omega (arith, s, c.decreases), body_of_part (part_of_field c.args.nucleus) c.root.inside.degree (part_of_field c.root.inside.body) e c.requires.modest)
+
+pub set_root-returns-in_err-radical-clause-is : goal.set_root-returns-in_err-radical-clause-is
+set_root-returns-in_err-radical-clause-is t c =
+    let e = ap part_of_field c.in-Root.is ∙ ap (λ r. RootPart r.degree r.body) (sym c.into_inner-root.ensures ∙ sym c.root.view_is) in
+    let p = err_from_is_err_and c.from_residual-in_err-radical.result c.from_residual-in_err-radical.ensures.1 in
+    rw (p.1, p.2) (λ sup sub. of_root (SetFails c.in_err-radical.field-0.0) c.args.fonts.now c.args.style c.args.sign (part_of_field c.args.nucleus) c.root.inside.degree (part_of_field c.root.inside.body) sup sub e
+    (body_fails _ c.args.fonts.now c.args.style c.uncramped.result c.args.sign (list_content c.args.fonts.now c.root.inside.degree) (field_content c.args.fonts.now c.root.inside.body) (layout_of c.in_ok-degree.degree) c.uncramped.ensures c.in_ok-degree.ensures.is c.in_err-radical.ensures.is))
+
+pub set_root-with_degree-requires-clause-degree_level : goal.set_root-with_degree-requires-clause-degree_level
+set_root-with_degree-requires-clause-degree_level t c =
+    let e = ap part_of_field c.in-Root.is ∙ ap (λ r. RootPart r.degree r.body) (sym c.into_inner-root.ensures ∙ sym c.root.view_is) in
+    omega (arith, ap part_nesting e, c.in_ok-degree.ensures.level, c.requires.modest.nesting)
+
+pub set_root-with_degree-requires-clause-radical_level : goal.set_root-with_degree-requires-clause-radical_level
+set_root-with_degree-requires-clause-radical_level t c =
+    let e = ap part_of_field c.in-Root.is ∙ ap (λ r. RootPart r.degree r.body) (sym c.into_inner-root.ensures ∙ sym c.root.view_is) in
+    omega (arith, ap part_nesting e, c.in_ok-radical.ensures.level, c.requires.modest.nesting)
+
+pub set_root-returns-clause-is : goal.set_root-returns-clause-is
+set_root-returns-clause-is t c =
+    let e = ap part_of_field c.in-Root.is ∙ ap (λ r. RootPart r.degree r.body) (sym c.into_inner-root.ensures ∙ sym c.root.view_is) in
+    λ sup sub. of_root (SetsRow c.with_degree.result) c.args.fonts.now c.args.style c.args.sign (part_of_field c.args.nucleus) c.root.inside.degree (part_of_field c.root.inside.body) sup sub e
+    (root_made (SetsRow c.with_degree.result) c.args.fonts.now c.args.style c.uncramped.result c.args.sign (list_content c.args.fonts.now c.root.inside.degree) (field_content c.args.fonts.now c.root.inside.body) (layout_of c.in_ok-degree.degree) (layout_of c.in_ok-radical.radical) c.uncramped.ensures c.in_ok-degree.ensures.is c.in_ok-radical.ensures.is c.with_degree.ensures.is)
+
+pub set_root-returns-clause-fits : goal.set_root-returns-clause-fits
+set_root-returns-clause-fits t c =
+    let e = ap part_of_field c.in-Root.is ∙ ap (λ r. RootPart r.degree r.body) (sym c.into_inner-root.ensures ∙ sym c.root.view_is) in
+    let n = ap part_nesting e in
+    if_ok_map c.with_degree.result _ (RowFits (12 * part_nesting (part_of_field c.args.nucleus) + 4)) c.with_degree.ensures.fits
+    (λ row f. f (12 * part_nesting (part_of_field c.args.nucleus) + 4) (omega (arith, n, c.in_ok-degree.ensures.level)) (omega (arith, n, c.in_ok-radical.ensures.level)))
 
 -- ---- `set_overline`
 

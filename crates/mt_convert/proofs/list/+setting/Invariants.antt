@@ -65,11 +65,20 @@ decreases-set_vcenter l = 10 * part_size (part_of_field l.field) + 2
 abbrev pub decreases-set_plain : goal.decreases-set_plain
 decreases-set_plain l = 10 * part_size (part_of_field l.field) + 2
 
+abbrev pub decreases-pack_field : goal.decreases-pack_field
+decreases-pack_field l = 10 * part_size (part_of_field l.field) + 3
+
+abbrev pub decreases-set_veil : goal.decreases-set_veil
+decreases-set_veil l = 10 * part_size (part_of_field l.field) + 4
+
+abbrev pub decreases-set_root : goal.decreases-set_root
+decreases-set_root l = 10 * part_size (part_of_field l.nucleus) + 4
+
 abbrev pub decreases-set_part : goal.decreases-set_part
-decreases-set_part l = 10 * part_size (part_of_field l.field) + 3
+decreases-set_part l = 10 * part_size (part_of_field l.field) + 5
 
 abbrev pub decreases-set_nucleus : goal.decreases-set_nucleus
-decreases-set_nucleus l = 10 * part_size (part_of_field l.field) + 4
+decreases-set_nucleus l = 10 * part_size (part_of_field l.field) + 6
 
 abbrev pub decreases-set_operator : goal.decreases-set_operator
 decreases-set_operator l = 10 * part_size (part_of_field l.field) + 3

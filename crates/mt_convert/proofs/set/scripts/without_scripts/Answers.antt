@@ -1,10 +1,9 @@
-use Rattle.std.proofs.Common.{ℕ, ◌≤◌, ◌+◌, length, subst, arith}
+use Rattle.std.proofs.Common.{ℕ, ◌≤◌, length, subst, arith}
 use Rattle.mt_convert.specs.Calls.{SetsRow}
 use Rattle.mt_convert.specs.Halfway.{RowFits}
 use Rattle.mt_convert.specs.inner.Nucleus.{nucleus_value}
 use Rattle.mt_convert.proofs.Fitting.{if_ok_same}
 use Rattle.mt_convert.proofs.SetRows.{beside_nothing}
-use Rattle.mt_convert.proofs.kinds.Bounds.{row_fits_more}
 use Rattle.mt_convert.proofs.set.scripts.without_scripts.Goals as goal
 
 pub tested-requires-clause-few : goal.tested-requires-clause-few
@@ -21,5 +20,4 @@ returns-clause-few c = if_ok_same c.tested.result c.args.nucleus.row (λ row. le
 
 pub returns-clause-fits : goal.returns-clause-fits
 returns-clause-fits c =
-    if_ok_same c.tested.result c.args.nucleus.row (λ row. (n : ℕ) → RowFits n c.args.nucleus.row → RowFits (n + 2) row) c.tested.ensures.same
-    (λ n h. row_fits_more n (n + 2) c.args.nucleus.row (omega arith) h)
+    if_ok_same c.tested.result c.args.nucleus.row (λ row. (n : ℕ) → RowFits n c.args.nucleus.row → RowFits n row) c.tested.ensures.same (λ n h. h)
