@@ -6,8 +6,10 @@ pub mod Walk
 pub mod MachineLemmas
 -- what is kept of a file after an operation
 pub mod OpenFiles
--- the turns of the loop
-pub mod AfterOperations
+-- what the next opcode does
+pub mod Turns
+-- what `read_dvi` keeps of a file, and its answers
+pub mod KeptLemmas
 -- how many operands an opcode has
 pub mod Sizes
 -- which opcodes are which operations

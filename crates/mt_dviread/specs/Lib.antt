@@ -2,5 +2,11 @@
 pub mod Errors
 -- the faults that errors tell
 pub mod Faults
+-- what the reader keeps of a file, and what it tells of the next opcode
+pub mod Sees
+-- what an operation does to the pages of a file
+pub mod Deeds
+-- the opcode at an offset
+pub mod OpcodeAt
 -- of the reader's inner functions: only their contracts cite it
 pub mod inner

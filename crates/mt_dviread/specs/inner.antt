@@ -6,5 +6,7 @@ pub mod Operations
 pub mod Defined
 -- what its machine does
 pub mod Performs
--- what it keeps of a file, and what an operation does to that
-pub mod Sees
+-- what an operation does to what it keeps of a file
+pub mod Follows
+-- what `read_dvi` keeps of the places of a file
+pub mod Kept

@@ -2,6 +2,7 @@
 ghost use Rattle.std.specs.Prelude.{◌≡◌};
 ghost use Rattle.mt_dviread.specs.Errors.{dvi_error_number, dvi_error_place};
 
+use std::alloc::AllocError;
 use thiserror::Error;
 
 /// Why a DVI file is refused: its first fault, with the offset of the opcode at fault.
@@ -90,5 +91,16 @@ impl DviError {
             | DviError::TooMany(at) => Some(at),
             DviError::OutOfMemory => None,
         }
+    }
+}
+
+impl From<AllocError> for DviError {
+    ghost use Rattle.std.specs.Prelude.{◌≡◌};
+    ghost use Rattle.mt_dviread.specs.declared.error.DviError.TheVariants.{OutOfMemory};
+
+    ghost from_gives = { λ _ error. error ≡ OutOfMemory };
+
+    fn from(_: AllocError) -> Self {
+        DviError::OutOfMemory
     }
 }

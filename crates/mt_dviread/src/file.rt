@@ -1,26 +1,34 @@
 //! What is read of a file so far, and what an operation does to it.
-ghost use Rattle.std.specs.Prelude.{◌≡◌, ◌<◌, ◌^◌, ◌∷◌, ◌++◌, OnOk, nat_le, [], List, ℕ, ◌==◌, ◌&&◌, length};
+ghost use Rattle.std.specs.Prelude.{◌≡◌, ◌<◌, ◌≤◌, ◌+◌, ◌^◌, nat_le, [], List, ℕ, ◌==◌, ◌&&◌, length, IfOk, IfSome, Ok, Some};
 ghost use Rattle.std.specs.List.{list_all};
 ghost use Rattle.std.specs.Ordering.{int_eq};
 ghost use Rattle.mt_family.specs.SetValue.{SetValue};
+ghost use Rattle.mt_dvi.specs.Limits.{max_pushes};
 ghost use Rattle.mt_dvi.specs.Codes as codes;
-ghost use Rattle.mt_dvi.specs.Codes.{Pre, Post, Bop};
+ghost use Rattle.mt_dvi.specs.Codes.{Pre, Post};
 ghost use Rattle.mt_dvi.specs.File as files;
 ghost use Rattle.mt_dvi.specs.Machine as machine;
+ghost use Rattle.mt_dviread.specs.declared.deed.Deed.{Deed};
+ghost use Rattle.mt_dviread.specs.declared.deed.Deed.TheVariants.{Passes, BeginsPage, EndsPage};
 ghost use Rattle.mt_dviread.specs.declared.file.Phase.TheVariants.{AfterPost, BetweenPages};
+ghost use Rattle.mt_dviread.specs.Deeds.{IsNear, IsNearDeed};
 ghost use Rattle.mt_dviread.specs.inner.Operations.{IsOperation, IsPreamble, IsPostamble, IsDefinition};
-ghost use Rattle.mt_dviread.specs.inner.Sees.{Sees, Goes, Follows, Fills};
+ghost use Rattle.mt_dviread.specs.inner.Follows.{Goes, Fills, Does, EndsFile, Follows, Counts};
+ghost use Rattle.mt_dviread.specs.Sees.{Sees, IsWithin, Turns};
 
 use crate::cause::Cause;
+use crate::deed::Deed;
 use crate::definitions::Definitions;
-use crate::operation::{Definition, Operation, Postamble, Preamble};
-use crate::page::OpenPage;
-use mt_box::{Place, PlaceList};
+use crate::error::DviError;
+use crate::machine::Machine;
+use crate::number::{front, past};
+use crate::operands::operand_size;
+use crate::operation::{Definition, Operation, Postamble, Preamble, decode};
+use mt_box::Place;
 use mt_dvi::MAX_PLACES;
 use mt_dvi::opcode::{IDENTIFIER, PADDING};
 use mt_family::FontSet;
-use std::alloc::{AllocError, Global};
-use std::mem;
+use std::alloc::Global;
 
 // The unit is the fraction num / den of 10^-7 meters: these make it a scaled point.
 const NUM: u32 = 25_400_000;
@@ -40,33 +48,26 @@ pub enum Phase {
     AfterPost,
 }
 
-/// Whether a file goes on after an operation.
-#[derive(Clone, Copy, Debug, PartialEq, Eq)]
-pub enum AfterOperation {
-    /// It goes on.
-    Continues,
-    /// It has been read to its end.
-    Ends,
-}
-
-/// What has been read of a file so far.
+/// A DVI file that is read opcode by opcode (tex.web §585 to §594). It keeps what tells whether the next
+/// opcode may stand there and what it does, but no places.
 #[derive(Drop)]
 pub struct OpenFile<'a> {
-    /// The offset of the next opcode.
-    pub at: usize,
+    // The offset of the next opcode, and the bytes from there on.
+    at: usize,
+    rest: &'a [u8],
     phase: Phase,
     // The magnification of pre.
     mag: i32,
     definitions: Definitions<'a>,
-    /// The pages that have ended.
-    pub pages: Vec<PlaceList>,
-    page: OpenPage,
+    // The number of pages that have ended.
+    page_count: usize,
+    machine: Machine,
     // The offset of the last bop, -1 where there is none.
     last: i64,
     // The greatest depth of the stack so far.
     deepest: usize,
-    /// The number of places so far.
-    pub place_count: u64,
+    // The number of places so far.
+    pub(crate) place_count: u64,
     // The offset of post.
     post_at: usize,
 }
@@ -87,16 +88,19 @@ fn is_preamble(preamble: Preamble) -> bool
 
 impl<'a> OpenFile<'a> {
     /// The file before its first byte.
-    pub fn at_start(alloc: Global) -> OpenFile<'a>
-        ensures { (fonts : SetValue) → Sees fonts result files.at_start }
+    pub fn at_start(alloc: Global, bytes: &'a [u8]) -> OpenFile<'a>
+        ensures sees { (fonts : SetValue) → Sees fonts result files.at_start }
+        ensures rest { result.rest.now ≡ bytes.now }
+        ensures within { IsWithin result }
     {
         OpenFile {
             at: 0,
+            rest: bytes,
             phase: Phase::BeforePre,
             mag: 0,
             definitions: Definitions::none(alloc),
-            pages: Vec::new(alloc),
-            page: OpenPage::empty(alloc),
+            page_count: 0,
+            machine: Machine::at_bop(alloc),
             last: -1,
             deepest: 0,
             place_count: 0,
@@ -104,32 +108,107 @@ impl<'a> OpenFile<'a> {
         }
     }
 
-    /// Performs the operation of the next opcode, which has these bytes after it.
-    pub fn step(
+    /// The offset of the next opcode.
+    pub fn at(&self) -> usize
+        ensures { result ≡ self.now.at }
+    {
+        self.at
+    }
+
+    /// The bytes from the next opcode on.
+    pub fn rest(&self) -> &'a [u8]
+        ensures { result.now ≡ self.now.rest.now }
+    {
+        self.rest
+    }
+
+    /// The magnification in thousandths that pre states, 0 before it.
+    pub fn mag(&self) -> i32
+        ensures { result ≡ self.now.mag }
+    {
+        self.mag
+    }
+
+    /// How many registers push has saved in the page, at most 1,000.
+    pub fn depth(&self) -> usize
+        ensures is { result ≡ length self.now.machine.saved }
+        ensures small { result ≤ max_pushes }
+    {
+        self.machine.saved_count()
+    }
+
+    /// The number in the set of the font that is selected in the page, if any.
+    pub fn font(&self) -> Option<u16>
+        ensures { result ≡ self.now.machine.font }
+    {
+        self.machine.font()
+    }
+
+    /// Performs the next opcode, and tells what it does to the pages; `None` where it ends the file.
+    ///
+    /// # Errors
+    ///
+    /// The fault of this opcode, with its offset. `OutOfMemory` where memory ran out.
+    pub fn next(&mut self, alloc: Global, fonts: &FontSet) -> Result<Option<Deed>, DviError>
+        requires within { IsWithin self.old }
+        ensures turns { (file : files.File) → Sees fonts.now self.old file
+            → Turns fonts.now file self.old.rest.now result self.new }
+        ensures near { IfOk result (λ deed. IfSome deed IsNearDeed) }
+        ensures within { IfOk result (λ deed. IsWithin self.new) }
+        ensures shorter { (deed : Deed) → result ≡ Ok (Some deed)
+            → length self.new.rest.now < length self.old.rest.now }
+        ensures same { IfOk result (λ deed. self.new.at + length self.new.rest.now
+            ≡ self.old.at + length self.old.rest.now) }
+    {
+        let [opcode, ..] = self.rest else {
+            return Err(DviError::Truncated(self.at as u64));
+        };
+        let later = past(self.rest, 1);
+        let size = operand_size(*opcode, later);
+        if later.len() < size {
+            return Err(DviError::Truncated(self.at as u64));
+        }
+        let operation = decode(*opcode, front(later, size));
+        let after = past(later, size);
+        let deed = match self.step(alloc, fonts, operation, after) {
+            Ok(deed) => deed,
+            Err(cause) => return Err(cause.at(self.at as u64)),
+        };
+        self.at += size + 1;
+        self.rest = after;
+        Ok(deed)
+    }
+
+    // Performs the operation of the next opcode, which has these bytes after it.
+    fn step(
         &mut self,
         alloc: Global,
         fonts: &FontSet,
         operation: Operation<'a>,
         after: &[u8],
-    ) -> Result<AfterOperation, Cause>
-        requires small { self.old.at < 2 ^ 63 }
+    ) -> Result<Option<Deed>, Cause>
+        requires within { IsWithin self.old }
         ensures follows { (file : files.File) (meant : codes.Operation)
             → Sees fonts.now self.old file → IsOperation operation.entry meant
-            → Follows fonts.now result self.new (files.file_step fonts.now file meant after.now) }
+            → Follows fonts.now file.phase file meant result self.new
+            (files.file_step fonts.now file meant after.now) }
+        ensures near { IfOk result (λ deed. IfSome deed IsNearDeed) }
         ensures at { self.new.at ≡ self.old.at }
+        ensures rest { self.new.rest ≡ self.old.rest }
+        ensures pages { self.new.page_count ≤ self.old.page_count + 1 }
     {
         match self.phase {
             Phase::BeforePre => {
                 self.before_pre(operation)?;
-                Ok(AfterOperation::Continues)
+                Ok(Some(Deed::Passes))
             }
             Phase::BetweenPages => {
-                self.between_pages(alloc, fonts, operation)?;
-                Ok(AfterOperation::Continues)
+                let deed = self.between_pages(alloc, fonts, operation)?;
+                Ok(Some(deed))
             }
             Phase::InPage => {
-                self.in_page(alloc, fonts, operation)?;
-                Ok(AfterOperation::Continues)
+                let deed = self.in_page(alloc, fonts, operation)?;
+                Ok(Some(deed))
             }
             Phase::AfterPost => self.after_post(fonts, operation, after),
         }
@@ -138,8 +217,8 @@ impl<'a> OpenFile<'a> {
     fn before_pre(&mut self, operation: Operation<'a>) -> Result<(), Cause>
         ensures goes { (fonts : SetValue) (file : files.File) (meant : codes.Operation)
             → Sees fonts self.old file → file.again ≡ [] → IsOperation operation.entry meant
-            → Goes fonts result self.new (files.before_pre_step file meant) }
-        ensures at { self.new.at ≡ self.old.at }
+            → Goes fonts Passes file result self.new (files.before_pre_step file meant) }
+        ensures others { self.new ≡ record (self.old) { phase = self.new.phase; mag = self.new.mag } }
     {
         match operation {
             Operation::Pre(preamble) => self.begin(preamble),
@@ -150,8 +229,8 @@ impl<'a> OpenFile<'a> {
     fn begin(&mut self, preamble: Preamble) -> Result<(), Cause>
         ensures goes { (fonts : SetValue) (file : files.File) (meant : codes.Preamble)
             → Sees fonts self.old file → file.again ≡ [] → IsPreamble preamble meant
-            → Goes fonts result self.new (files.before_pre_step file (Pre meant)) }
-        ensures at { self.new.at ≡ self.old.at }
+            → Goes fonts Passes file result self.new (files.before_pre_step file (Pre meant)) }
+        ensures others { self.new ≡ record (self.old) { phase = self.new.phase; mag = self.new.mag } }
     {
         if !is_preamble(preamble) {
             return Err(Cause::BadPreamble);
@@ -172,8 +251,8 @@ impl<'a> OpenFile<'a> {
     fn define(&mut self, fonts: &FontSet, definition: Definition<'a>) -> Result<(), Cause>
         ensures goes { (file : files.File) (meant : codes.Definition)
             → Sees fonts.now self.old file → file.again ≡ [] → IsDefinition definition.entry meant
-            → Goes fonts.now result self.new (files.define_step file meant) }
-        ensures at { self.new.at ≡ self.old.at }
+            → Goes fonts.now Passes file result self.new (files.define_step file meant) }
+        ensures others { self.new ≡ record (self.old) { definitions = self.new.definitions } }
     {
         self.definitions.define(fonts, definition)
     }
@@ -183,8 +262,8 @@ impl<'a> OpenFile<'a> {
         requires phase { self.old.phase ≡ AfterPost }
         ensures goes { (file : files.File) (meant : codes.Definition)
             → Sees fonts.now self.old file → IsDefinition definition.entry meant
-            → Goes fonts.now result self.new (files.define_again_step file meant) }
-        ensures at { self.new.at ≡ self.old.at }
+            → Goes fonts.now Passes file result self.new (files.define_again_step file meant) }
+        ensures others { self.new ≡ record (self.old) { definitions = self.new.definitions } }
     {
         self.definitions.define(fonts, definition)
     }
@@ -194,18 +273,31 @@ impl<'a> OpenFile<'a> {
         alloc: Global,
         fonts: &FontSet,
         operation: Operation<'a>,
-    ) -> Result<(), Cause>
+    ) -> Result<Deed, Cause>
         requires small { self.old.at < 2 ^ 63 }
-        ensures goes { (file : files.File) (meant : codes.Operation)
+        ensures does { (file : files.File) (meant : codes.Operation)
             → Sees fonts.now self.old file → file.again ≡ [] → IsOperation operation.entry meant
-            → Goes fonts.now result self.new (files.between_pages_step file meant) }
+            → Does fonts.now files.BetweenPages file meant result self.new
+            (files.between_pages_step file meant) }
+        ensures near { IfOk result IsNearDeed }
         ensures at { self.new.at ≡ self.old.at }
+        ensures rest { self.new.rest ≡ self.old.rest }
+        ensures pages { self.new.page_count ≡ self.old.page_count }
     {
         match operation {
-            Operation::Bop(before) => self.begin_page(alloc, before),
-            Operation::Post(postamble) => self.end_pages(postamble),
-            Operation::Define(definition) => self.define(fonts, definition),
-            Operation::Nop => Ok(()),
+            Operation::Bop(before) => {
+                self.begin_page(alloc, before)?;
+                Ok(Deed::BeginsPage)
+            }
+            Operation::Post(postamble) => {
+                self.end_pages(postamble)?;
+                Ok(Deed::Passes)
+            }
+            Operation::Define(definition) => {
+                self.define(fonts, definition)?;
+                Ok(Deed::Passes)
+            }
+            Operation::Nop => Ok(Deed::Passes),
             _ => Err(Cause::BadOpcode),
         }
     }
@@ -214,14 +306,16 @@ impl<'a> OpenFile<'a> {
         requires small { self.old.at < 2 ^ 63 }
         ensures goes { (fonts : SetValue) (file : files.File) (counts : List ℕ)
             → Sees fonts self.old file → file.again ≡ []
-            → Goes fonts result self.new (files.bop_step file counts before) }
+            → Goes fonts BeginsPage file result self.new (files.bop_step file counts before) }
         ensures at { self.new.at ≡ self.old.at }
+        ensures rest { self.new.rest ≡ self.old.rest }
+        ensures pages { self.new.page_count ≡ self.old.page_count }
     {
         if i64::from(before) != self.last {
             return Err(Cause::BadPointer);
         }
         self.phase = Phase::InPage;
-        self.page = OpenPage::empty(alloc);
+        self.machine = Machine::at_bop(alloc);
         self.last = self.at as i64;
         Ok(())
     }
@@ -237,9 +331,9 @@ impl<'a> OpenFile<'a> {
     // post's magnification, its depth of the stack and its number of pages are right.
     fn sums_up(&self, mag: i32, depth: u32, pages: u32) -> bool
         ensures { result ≡ (int_eq mag self.now.mag
-            && (nat_le self.now.deepest depth && (pages == length self.now.pages.items))) }
+            && (nat_le self.now.deepest depth && (pages == self.now.page_count))) }
     {
-        mag == self.mag && self.deepest <= depth as usize && pages as usize == self.pages.len()
+        mag == self.mag && self.deepest <= depth as usize && pages as usize == self.page_count
     }
 
     // The extents of the pages are not tested.
@@ -255,8 +349,9 @@ impl<'a> OpenFile<'a> {
     fn end_pages(&mut self, postamble: Postamble) -> Result<(), Cause>
         ensures goes { (fonts : SetValue) (file : files.File) (meant : codes.Postamble)
             → Sees fonts self.old file → IsPostamble postamble meant
-            → Goes fonts result self.new (files.between_pages_step file (Post meant)) }
-        ensures at { self.new.at ≡ self.old.at }
+            → Goes fonts Passes file result self.new (files.between_pages_step file (Post meant)) }
+        ensures others { self.new
+            ≡ record (self.old) { phase = self.new.phase; post_at = self.new.post_at } }
     {
         if !self.is_postamble(postamble) {
             return Err(Cause::BadPost);
@@ -271,71 +366,83 @@ impl<'a> OpenFile<'a> {
         alloc: Global,
         fonts: &FontSet,
         operation: Operation<'a>,
-    ) -> Result<(), Cause>
-        ensures goes { (file : files.File) (meant : codes.Operation)
+    ) -> Result<Deed, Cause>
+        requires small { self.old.page_count < 2 ^ 63 }
+        ensures does { (file : files.File) (meant : codes.Operation)
             → Sees fonts.now self.old file → file.again ≡ [] → IsOperation operation.entry meant
-            → Goes fonts.now result self.new (files.in_page_step fonts.now file meant) }
+            → Does fonts.now files.InPage file meant result self.new
+            (files.in_page_step fonts.now file meant) }
+        ensures near { IfOk result IsNearDeed }
         ensures at { self.new.at ≡ self.old.at }
+        ensures rest { self.new.rest ≡ self.old.rest }
+        ensures pages { self.new.page_count ≤ self.old.page_count + 1 }
     {
         match operation {
-            Operation::Eop => self.end_page(alloc),
-            Operation::Define(definition) => self.define(fonts, definition),
-            Operation::Special => Ok(()),
-            operation => self.perform(fonts, operation),
+            Operation::Eop => {
+                self.end_page(alloc)?;
+                Ok(Deed::EndsPage)
+            }
+            Operation::Define(definition) => {
+                self.define(fonts, definition)?;
+                Ok(Deed::Passes)
+            }
+            Operation::Special => Ok(Deed::Performs(None)),
+            Operation::Select(_) => {
+                self.perform(fonts, operation)?;
+                Ok(Deed::Selects)
+            }
+            _ => {
+                let place = self.perform(fonts, operation)?;
+                Ok(Deed::Performs(place))
+            }
         }
     }
 
     fn end_page(&mut self, alloc: Global) -> Result<(), Cause>
+        requires small { self.old.page_count < 2 ^ 63 }
         ensures goes { (fonts : SetValue) (file : files.File)
             → Sees fonts self.old file → file.again ≡ []
-            → Goes fonts result self.new (files.eop_step file) }
+            → Goes fonts EndsPage file result self.new (files.eop_step file) }
         ensures at { self.new.at ≡ self.old.at }
+        ensures rest { self.new.rest ≡ self.old.rest }
+        ensures pages { self.new.page_count ≤ self.old.page_count + 1 }
     {
-        if self.page.machine.saved_count() != 0 {
+        if self.machine.saved_count() != 0 {
             return Err(Cause::BadOpcode);
         }
         self.phase = Phase::BetweenPages;
-        let page = mem::replace(&mut self.page, OpenPage::empty(alloc));
-        self.keep(PlaceList::from_vec(page.places))?;
-        Ok(())
-    }
-
-    // Takes a page that has ended.
-    fn keep(&mut self, page: PlaceList) -> Result<(), AllocError>
-        ensures pages { OnOk result (self.new.pages.items ≡ self.old.pages.items ++ page ∷ []) }
-        ensures others { self.new ≡ record (self.old) { pages = self.new.pages } }
-    {
-        self.pages.push(page)?;
+        self.machine = Machine::at_bop(alloc);
+        self.page_count += 1;
         Ok(())
     }
 
     // Performs an operation of the page.
-    fn perform(&mut self, fonts: &FontSet, operation: Operation<'a>) -> Result<(), Cause>
-        ensures goes { (file : files.File) (meant : codes.Operation)
+    fn perform(&mut self, fonts: &FontSet, operation: Operation<'a>) -> Result<Option<Place>, Cause>
+        ensures fills { (file : files.File) (meant : codes.Operation)
             → Sees fonts.now self.old file → file.again ≡ [] → IsOperation operation.entry meant
-            → Goes fonts.now result self.new (files.effect_step file
+            → Fills fonts.now file result self.new (files.effect_step file
             (machine.perform fonts.now file.fonts file.machine meant)) }
+        ensures near { IfOk result (λ place. IfSome place IsNear) }
         ensures at { self.new.at ≡ self.old.at }
+        ensures rest { self.new.rest ≡ self.old.rest }
+        ensures pages { self.new.page_count ≡ self.old.page_count }
     {
-        let place = self
-            .page
-            .machine
-            .perform(fonts, &self.definitions, operation)?;
-        self.deepest = self.deepest.max(self.page.machine.saved_count());
-        self.fill(place)
+        let place = self.machine.perform(fonts, &self.definitions, operation)?;
+        self.deepest = self.deepest.max(self.machine.saved_count());
+        self.count(place)?;
+        Ok(place)
     }
 
-    /// Takes the place that an operation fills, if any.
-    pub fn fill(&mut self, place: Option<Place>) -> Result<(), Cause>
-        ensures fills { Fills result self.old self.new place }
-        ensures at { self.new.at ≡ self.old.at }
+    // Counts the place that an operation fills, if any.
+    pub(crate) fn count(&mut self, place: Option<Place>) -> Result<(), Cause>
+        ensures counts { Counts result self.old self.new place }
+        ensures others { self.new ≡ record (self.old) { place_count = self.new.place_count } }
     {
-        if let Some(place) = place {
+        if place.is_some() {
             if self.place_count >= MAX_PLACES {
                 return Err(Cause::TooMany);
             }
             self.place_count += 1;
-            self.page.places.push(place).map_err(AllocError::from)?;
         }
         Ok(())
     }
@@ -345,34 +452,39 @@ impl<'a> OpenFile<'a> {
         fonts: &FontSet,
         operation: Operation<'a>,
         after: &[u8],
-    ) -> Result<AfterOperation, Cause>
+    ) -> Result<Option<Deed>, Cause>
         requires phase { self.old.phase ≡ AfterPost }
         ensures follows { (file : files.File) (meant : codes.Operation)
             → Sees fonts.now self.old file → IsOperation operation.entry meant
-            → Follows fonts.now result self.new (files.after_post_step file meant after.now) }
-        ensures at { self.new.at ≡ self.old.at }
+            → Follows fonts.now files.AfterPost file meant result self.new
+            (files.after_post_step file meant after.now) }
+        ensures near { IfOk result (λ deed. IfSome deed IsNearDeed) }
+        ensures others { self.new ≡ record (self.old) { definitions = self.new.definitions } }
     {
         match operation {
-            Operation::PostPost { post, version } => self.end(post, version, after),
+            Operation::PostPost { post, version } => {
+                self.end(post, version, after)?;
+                Ok(None)
+            }
             Operation::Define(definition) => {
                 self.define_again(fonts, definition)?;
-                Ok(AfterOperation::Continues)
+                Ok(Some(Deed::Passes))
             }
-            Operation::Nop => Ok(AfterOperation::Continues),
+            Operation::Nop => Ok(Some(Deed::Passes)),
             _ => Err(Cause::BadOpcode),
         }
     }
 
     // At least four bytes are left, and all of them are 223.
-    fn end(&self, post: u32, version: u32, after: &[u8]) -> Result<AfterOperation, Cause>
+    fn end(&self, post: u32, version: u32, after: &[u8]) -> Result<(), Cause>
         ensures { (fonts : SetValue) (file : files.File) → Sees fonts self.now file
-            → Follows fonts result self.now (files.post_post_step file post version after.now) }
+            → EndsFile file result self.now (files.post_post_step file post version after.now) }
     {
         if after.len() < 4 {
             return Err(Cause::Truncated);
         }
         if post as usize == self.post_at && version == u32::from(IDENTIFIER) && is_padding(after) {
-            Ok(AfterOperation::Ends)
+            Ok(())
         } else {
             Err(Cause::BadPost)
         }

@@ -1,19 +1,24 @@
-//! Reading DVI files (tex.web, part 31): the places of their pages, or their first fault.
+//! Reading DVI files (tex.web, part 31): the places of their pages, or their first fault; the files opcode
+//! by opcode; and the opcode at an offset.
 #![tactic(auto)]
 
 mod cause;
 mod coordinate;
+mod deed;
 mod definitions;
 mod error;
 mod file;
 mod machine;
 mod number;
+mod opcode;
 mod operands;
 mod operation;
-mod page;
 mod read;
 #[cfg(test)]
 mod tests;
 
+pub use deed::Deed;
 pub use error::DviError;
+pub use file::OpenFile;
+pub use opcode::{Opcode, opcode_at};
 pub use read::{MAX_DVI, read_dvi};

@@ -1,11 +1,13 @@
 //! The machine inside a page: its registers, and what an operation does to them (tex.web §585).
-ghost use Rattle.std.specs.Prelude.{◌≡◌, ◌<◌, ◌≤◌, ◌+◌, ◌+ℤ◌, List, length, nat_abs, IfOk, IfErr, true, false};
+ghost use Rattle.std.specs.Prelude.{◌≡◌, ◌<◌, ◌≤◌, ◌+◌, ◌+ℤ◌, List, length, nat_abs, IfOk, IfErr, IfSome, true, false};
 ghost use Rattle.mt_dviread.specs.declared.cause.Cause.TheVariants.{MissingChar};
 ghost use Rattle.mt_family.specs.SetValue.{SetValue};
 ghost use Rattle.mt_tfm.specs.Font.{exists};
+ghost use Rattle.mt_dvi.specs.Limits.{max_pushes};
 ghost use Rattle.mt_dvi.specs.Codes as codes;
 ghost use Rattle.mt_dvi.specs.Fonts.{first_definition};
 ghost use Rattle.mt_dvi.specs.Machine as machine;
+ghost use Rattle.mt_dviread.specs.Deeds.{IsNear};
 ghost use Rattle.mt_dviread.specs.inner.Operations.{IsOperation, register_of};
 ghost use Rattle.mt_dviread.specs.inner.Defined.{Knows};
 ghost use Rattle.mt_dviread.specs.inner.Performs.{Performs, MovesTo, MovesMachine, registers_of};
@@ -109,7 +111,8 @@ pub struct Machine {
 }
 
 impl Model for Machine {
-    ghost use Rattle.std.specs.Prelude.{map, reverse};
+    ghost use Rattle.std.specs.Prelude.{map, reverse, length, ◌≤◌};
+    ghost use Rattle.mt_dvi.specs.Limits.{max_pushes};
     ghost use Rattle.mt_dvi.specs.Machine as machine;
     ghost use Rattle.mt_dviread.specs.inner.Performs.{registers_of};
 
@@ -120,6 +123,8 @@ impl Model for Machine {
       saved = map registers_of (reverse m.saved.items);
       font = m.font;
     } };
+
+    ghost invariant = { λ m. length m.saved.items ≤ max_pushes };
 }
 
 // The character of a code, if the font has it.
@@ -152,17 +157,26 @@ impl Machine {
         }
     }
 
-    /// How many registers are saved.
+    /// How many registers are saved, at most 1,000.
     pub fn saved_count(&self) -> usize
-        ensures { result ≡ length self.now.saved }
+        ensures is { result ≡ length self.now.saved }
+        ensures small { result ≤ max_pushes }
     {
         self.saved.len()
     }
 
+    /// The number in the set of the font that is selected, if any.
+    pub fn font(&self) -> Option<u16>
+        ensures { result ≡ self.now.font }
+    {
+        self.font
+    }
+
     // Takes the registers after a move, and fills no place.
     fn moved(&mut self, now: Result<Registers, Cause>) -> Result<Option<Place>, Cause>
-        ensures { (meant : machine.Registers) → MovesTo now meant
+        ensures performs { (meant : machine.Registers) → MovesTo now meant
             → Performs result self.new (machine.without_place (with_registers self.old meant)) }
+        ensures near { IfOk result (λ place. IfSome place IsNear) }
     {
         self.registers = now?;
         Ok(None)
@@ -180,8 +194,9 @@ impl Machine {
     }
 
     fn glyph(&mut self, fonts: &FontSet, put: bool, code: u32) -> Result<Option<Place>, Cause>
-        ensures { Performs result self.new
+        ensures performs { Performs result self.new
             (machine.glyph_effect fonts.now self.old put code self.old.font) }
+        ensures near { IfOk result (λ place. IfSome place IsNear) }
     {
         let Some(number) = self.font else {
             return Err(Cause::UnknownFont);
@@ -202,7 +217,8 @@ impl Machine {
 
     // A rule fills a place where both sides are positive.
     fn rule(&mut self, put: bool, height: i32, width: i32) -> Result<Option<Place>, Cause>
-        ensures { Performs result self.new (machine.rule_effect self.old put height width) }
+        ensures performs { Performs result self.new (machine.rule_effect self.old put height width) }
+        ensures near { IfOk result (λ place. IfSome place IsNear) }
     {
         let place = if height > 0 && width > 0 {
             Some(Place::Rule {
@@ -219,13 +235,15 @@ impl Machine {
     }
 
     fn nop(&mut self) -> Result<Option<Place>, Cause>
-        ensures { Performs result self.new (machine.without_place self.old) }
+        ensures performs { Performs result self.new (machine.without_place self.old) }
+        ensures near { IfOk result (λ place. IfSome place IsNear) }
     {
         self.moved(Ok(self.registers))
     }
 
     fn push(&mut self) -> Result<Option<Place>, Cause>
-        ensures { Performs result self.new (machine.push_effect self.old) }
+        ensures performs { Performs result self.new (machine.push_effect self.old) }
+        ensures near { IfOk result (λ place. IfSome place IsNear) }
     {
         if self.saved.len() >= MAX_PUSHES {
             return Err(Cause::TooDeep);
@@ -235,7 +253,8 @@ impl Machine {
     }
 
     fn pop(&mut self) -> Result<Option<Place>, Cause>
-        ensures { Performs result self.new (machine.pop_effect self.old self.old.saved) }
+        ensures performs { Performs result self.new (machine.pop_effect self.old self.old.saved) }
+        ensures near { IfOk result (λ place. IfSome place IsNear) }
     {
         match self.saved.pop() {
             Some(before) => {
@@ -247,10 +266,11 @@ impl Machine {
     }
 
     fn select(&mut self, definitions: &Definitions<'_>, number: u32) -> Result<Option<Place>, Cause>
-        ensures { (fonts : SetValue) (known : List codes.Definition)
+        ensures performs { (fonts : SetValue) (known : List codes.Definition)
             → Knows fonts definitions.now known
             → Performs result self.new
             (machine.select_effect fonts self.old (first_definition known number)) }
+        ensures near { IfOk result (λ place. IfSome place IsNear) }
     {
         match definitions.font(number) {
             Some(font) => {
@@ -262,31 +282,35 @@ impl Machine {
     }
 
     fn right(&mut self, by: i32) -> Result<Option<Place>, Cause>
-        ensures { Performs result self.new
+        ensures performs { Performs result self.new
             (machine.without_place (machine.move_right self.old by)) }
+        ensures near { IfOk result (λ place. IfSome place IsNear) }
     {
         self.moved(self.registers.right(i64::from(by)))
     }
 
     fn down(&mut self, by: i32) -> Result<Option<Place>, Cause>
-        ensures { Performs result self.new
+        ensures performs { Performs result self.new
             (machine.without_place (machine.move_down self.old by)) }
+        ensures near { IfOk result (λ place. IfSome place IsNear) }
     {
         self.moved(self.registers.down(i64::from(by)))
     }
 
     fn set(&mut self, register: Register, by: i32) -> Result<Option<Place>, Cause>
-        ensures { Performs result self.new
+        ensures performs { Performs result self.new
             (machine.without_place (machine.add_register
             (machine.set_register self.old (register_of register) by)
             (register_of register))) }
+        ensures near { IfOk result (λ place. IfSome place IsNear) }
     {
         self.moved(self.registers.set(register, by).add(register))
     }
 
     fn add(&mut self, register: Register) -> Result<Option<Place>, Cause>
-        ensures { Performs result self.new
+        ensures performs { Performs result self.new
             (machine.without_place (machine.add_register self.old (register_of register))) }
+        ensures near { IfOk result (λ place. IfSome place IsNear) }
     {
         self.moved(self.registers.add(register))
     }
@@ -298,9 +322,10 @@ impl Machine {
         definitions: &Definitions<'_>,
         operation: Operation<'_>,
     ) -> Result<Option<Place>, Cause>
-        ensures { (known : List codes.Definition) (meant : codes.Operation)
+        ensures performs { (known : List codes.Definition) (meant : codes.Operation)
             → Knows fonts.now definitions.now known → IsOperation operation.entry meant
             → Performs result self.new (machine.perform fonts.now known self.old meant) }
+        ensures near { IfOk result (λ place. IfSome place IsNear) }
     {
         match operation {
             Operation::Char { put, code } => self.glyph(fonts, put, code),

@@ -1,23 +1,61 @@
 //! The reader.
-ghost use Rattle.std.specs.Prelude.{◌≤◌, List, length, IfOk, IfErr, IfSome};
+ghost use Rattle.std.specs.Prelude.{◌≡◌, ◌≤◌, List, length, [], IfOk, IfErr, IfSome, OnOk};
 ghost use Rattle.mt_box.specs.declared.place.Place.{Place};
 ghost use Rattle.mt_dvi.specs.File.{Dvi, DviFault};
 ghost use Rattle.mt_dvi.specs.Limits.{max_places};
 ghost use Rattle.mt_dvi.specs.Written.{Written};
 ghost use Rattle.mt_dvi.specs.WrittenPlaces.{all_places};
+ghost use Rattle.mt_dviread.specs.Deeds.{places_after};
 ghost use Rattle.mt_dviread.specs.Faults.{fault_of, ReadsBack};
+ghost use Rattle.mt_dviread.specs.inner.Kept.{lists_after};
 
+use crate::deed::Deed;
 use crate::error::DviError;
-use crate::file::{AfterOperation, OpenFile};
-use crate::number::{front, past};
-use crate::operands::operand_size;
-use crate::operation::decode;
-use mt_box::PageList;
+use crate::file::OpenFile;
+use mt_box::{PageList, Place, PlaceList};
 use mt_family::FontSet;
-use std::alloc::Global;
+use std::alloc::{AllocError, Global};
+use std::mem;
 
 /// The most bytes of a DVI file that mathset reads.
 pub const MAX_DVI: u64 = 67_108_864;
+
+// The places of the pages that have ended, and those of the page that has begun.
+#[derive(Drop)]
+struct PagePlaces {
+    pages: Vec<PlaceList>,
+    page: Vec<Place>,
+}
+
+impl PagePlaces {
+    fn none(alloc: Global) -> PagePlaces
+        ensures pages { result.pages.items ≡ [] }
+        ensures page { result.page.items ≡ [] }
+    {
+        PagePlaces {
+            pages: Vec::new(alloc),
+            page: Vec::new(alloc),
+        }
+    }
+
+    // Takes what an operation does.
+    fn take(&mut self, alloc: Global, deed: Deed) -> Result<(), AllocError>
+        ensures pages { OnOk result (self.new.pages.items
+            ≡ lists_after deed self.old.pages.items self.old.page.items) }
+        ensures page { OnOk result (self.new.page.items ≡ places_after deed self.old.page.items) }
+    {
+        match deed {
+            Deed::BeginsPage => self.page = Vec::new(alloc),
+            Deed::EndsPage => {
+                let page = mem::replace(&mut self.page, Vec::new(alloc));
+                self.pages.push(PlaceList::from_vec(page))?;
+            }
+            Deed::Performs(Some(place)) => self.page.push(place)?,
+            _ => {}
+        }
+        Ok(())
+    }
+}
 
 /// The places of the pages of a DVI file (tex.web, part 31), at most 2,000,000, in scaled points.
 ///
@@ -36,23 +74,10 @@ pub fn read_dvi(alloc: Global, fonts: &FontSet, bytes: &[u8]) -> Result<PageList
     ensures round_trip { (pages : List (List Place)) → Written fonts.now bytes.now pages
         → ReadsBack result pages }
 {
-    let mut file = OpenFile::at_start(alloc);
-    let mut rest = bytes;
-    while let [opcode, ..] = rest {
-        let later = past(rest, 1);
-        let size = operand_size(*opcode, later);
-        if later.len() < size {
-            return Err(DviError::Truncated(file.at as u64));
-        }
-        let operation = decode(*opcode, front(later, size));
-        let after = past(later, size);
-        match file.step(alloc, fonts, operation, after) {
-            Ok(AfterOperation::Continues) => {}
-            Ok(AfterOperation::Ends) => return Ok(PageList::from_vec(file.pages)),
-            Err(cause) => return Err(cause.at(file.at as u64)),
-        }
-        file.at += size + 1;
-        rest = after;
+    let mut file = OpenFile::at_start(alloc, bytes);
+    let mut places = PagePlaces::none(alloc);
+    while let Some(deed) = file.next(alloc, fonts)? {
+        places.take(alloc, deed)?;
     }
-    Err(DviError::Truncated(file.at as u64))
+    Ok(PageList::from_vec(places.pages))
 }

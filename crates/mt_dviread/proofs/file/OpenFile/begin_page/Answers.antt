@@ -7,4 +7,4 @@ pub returns-clause-goes : goal.returns-clause-goes
 returns-clause-goes c = λ fonts file counts s none.
     let there = s.last in
     let same : c.args.before ≡ file.last = omega (arith, ints, there) in
-    page_begun fonts c.args.self.now _ _ file counts c.args.before s none same c.empty.ensures.machine c.empty.ensures.places (omega (arith, ints))
+    page_begun fonts c.args.self.now _ _ file counts c.args.before s none same c.at_bop.ensures (omega (arith, ints))

@@ -2,8 +2,8 @@ use Rattle.std.proofs.Common.{refl}
 use Rattle.mt_dviread.proofs.MachineLemmas.{not_performed}
 use Rattle.mt_dviread.proofs.machine.Machine.perform.Goals as goal
 
-pub returns-in_default : goal.returns-in_default
-returns-in_default c =
+pub returns-in_default-clause-performs : goal.returns-in_default-clause-performs
+returns-in_default-clause-performs c =
     λ known meant k is. rw (not_performed _ known _ _ meant (record {
       char = c.in_default.not-Char;
       rule = c.in_default.not-Rule;

@@ -6,8 +6,8 @@ use Rattle.mt_dviread.specs.inner.Performs.{Performs, registers_of, registers_mo
 use Rattle.mt_dviread.proofs.MachineLemmas.{set_is}
 use Rattle.mt_dviread.proofs.machine.Machine.set.Goals as goal
 
-pub returns : goal.returns
-returns c =
+pub returns-clause-performs : goal.returns-clause-performs
+returns-clause-performs c =
     let r = register_of c.args.register in
     let m = c.args.self.now in
     let fits : FitsSigned w32 c.args.by = search rules in
@@ -16,4 +16,4 @@ returns c =
     c.set.ensures ∙ ap (λ (x : machine.Registers). registers_with x r (to_z w32 (of_z w32 c.args.by))) (ap (λ (x : machine.Machine). x.now) c.moved.view_is) ∙ ap (registers_with m.now r) by in
     let moved : with_registers m (registers_moved (registers_of c.set.result) r) ≡ machine.add_register (machine.set_register m r c.args.by) r =
     ap (λ (x : machine.Registers). with_registers m (registers_moved x r)) set ∙ set_is m r c.args.by in
-    subst (λ (x : machine.Machine). Performs c.moved-2.result c.moved-2.new.self (machine.without_place x)) moved (c.moved-2.ensures (registers_moved (registers_of c.set.result) r) c.add.ensures)
+    subst (λ (x : machine.Machine). Performs c.moved-2.result c.moved-2.new.self (machine.without_place x)) moved (c.moved-2.ensures.performs (registers_moved (registers_of c.set.result) r) c.add.ensures)

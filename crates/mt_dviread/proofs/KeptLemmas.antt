@@ -1,0 +1,134 @@
+-- What `read_dvi` keeps of a file, and its answers.
+use Rattle.std.proofs.Common.{◌≡◌, ℕ, ◌+◌, ◌≤◌, List, [], ◌∷◌, ◌++◌, length, refl, sym, ◌∙◌, ap, arith, length-append}
+use Rattle.std.specs.Prelude.{Ok, Err, Option, Some, None, Result, IfSome, IfOk, IfErr}
+use Rattle.std.proofs.lemmas.List.{append-nil, map-append}
+use Rattle.mt_family.specs.SetValue.{SetValue}
+use Rattle.mt_box.specs.declared.place.Place.{Place}
+use Rattle.mt_dvi.specs.File as files
+use Rattle.mt_dvi.specs.File.{Dvi, DviFault, Fault, File, Page, advance, pages_of, pages_of_reading, places_of, read}
+use Rattle.mt_dvi.specs.Machine as machine
+use Rattle.mt_dvi.specs.Written.{Written}
+use Rattle.mt_dvi.specs.WrittenPlaces.{all_places}
+use Rattle.mt_dvi.proofs.WholeFile.{reads_back}
+use Rattle.mt_dviread.specs.Faults.{ReadsBack, fault_of}
+use Rattle.mt_dviread.specs.Deeds.{Changes, places_after, places_of_page}
+use Rattle.mt_dviread.specs.inner.Kept.{IsKeeping, Keeps, lists_after}
+use Rattle.mt_dvi.specs.Codes.{operand_size}
+use Rattle.mt_dvi.specs.Limits.{max_places}
+use Rattle.mt_dviread.specs.declared.deed.Deed.{Deed}
+use Rattle.mt_dviread.specs.declared.deed.Deed.TheVariants.{Passes, BeginsPage, EndsPage, Selects, Performs}
+use Rattle.mt_dviread.specs.declared.error.DviError.{DviError}
+use Rattle.mt_dviread.specs.declared.error.DviError.TheVariants as errors
+use Rattle.mt_dviread.specs.declared.file.OpenFile.{OpenFile}
+use Rattle.mt_dviread.specs.Sees.{Finishes, GoesOn, IsWithin, Sees, Turns}
+use Rattle.mt_dviread.proofs.Turns.{file_after, if_some, reads_fault, reads_on, reads_out, starts}
+
+all_places_more : (pages : List (List Place)) (page : List Place) → length (all_places (pages ++ page ∷ [])) ≡ length (all_places pages) + length page
+all_places_more [] page = let e = ap length (append-nil page) in omega (arith, e)
+all_places_more (first ∷ pages) page =
+    let ih = all_places_more pages page in
+    let one = length-append first (all_places (pages ++ page ∷ [])) in
+    let two = length-append first (all_places pages) in
+    omega (arith, ih, one, two)
+
+ended_after : (deed : Deed) (pages : List (List Place)) (page : List Place) (file next : File) (n : ℕ) → Keeps pages page file → Changes deed file next → places_of (advance next n) ≡ lists_after deed pages page
+ended_after EndsPage pages page file next n k c =
+    let begun : places_of_page file.page ≡ page = k.begun in
+    ap (λ (l : List Page). places_of (record file { pages = l })) c.pages ∙ map-append places_of_page file.pages (file.page ∷ [])
+    ∙ ap (λ (l : List (List Place)). l ++ places_of_page file.page ∷ []) k.ended ∙ ap (λ (l : List Place). pages ++ l ∷ []) begun
+ended_after Passes pages page file next n k c = ap (λ (l : List Page). places_of (record file { pages = l })) c.pages ∙ k.ended
+ended_after BeginsPage pages page file next n k c = ap (λ (l : List Page). places_of (record file { pages = l })) c.pages ∙ k.ended
+ended_after Selects pages page file next n k c = ap (λ (l : List Page). places_of (record file { pages = l })) c.pages ∙ k.ended
+ended_after (Performs place) pages page file next n k c = ap (λ (l : List Page). places_of (record file { pages = l })) c.pages ∙ k.ended
+
+counted_after : (deed : Deed) (pages : List (List Place)) (page : List Place) (file next : File) → Keeps pages page file → Changes deed file next → length (all_places (lists_after deed pages page)) + length (places_after deed page) ≤ next.place_count
+counted_after EndsPage pages page file next k c = let a = k.counted in let n = c.count in let more = all_places_more pages page in omega (arith, a, n, more)
+counted_after Passes pages page file next k c = let a = k.counted in let n = c.count in omega (arith, a, n)
+counted_after BeginsPage pages page file next k c = let a = k.counted in let n = c.count in omega (arith, a, n)
+counted_after Selects pages page file next k c = let a = k.counted in let n = c.count in omega (arith, a, n)
+counted_after (Performs None) pages page file next k c = let a = k.counted in let n = c.count in omega (arith, a, n)
+counted_after (Performs (Some place)) pages page file next k c = let a = k.counted in let n = c.count in let l = length-append page (place ∷ []) in omega (arith, a, n, l)
+
+pub keeps_on : (deed : Deed) (pages : List (List Place)) (page : List Place) (file next : File) (n : ℕ) → Keeps pages page file → Changes deed file next → Keeps (lists_after deed pages page) (places_after deed page) (advance next n)
+keeps_on deed pages page file next n k c = record {
+  ended = ended_after deed pages page file next n k c;
+  begun = c.places ∙ ap (places_after deed) k.begun;
+  counted = counted_after deed pages page file next k c;
+}
+
+answer : (fonts : SetValue) (bytes : List ℕ) (result : files.Reading) → read fonts bytes ≡ result → pages_of fonts bytes ≡ pages_of_reading result
+unfolding pages_of
+answer fonts bytes result e = ap pages_of_reading e
+
+-- the file has been read to its end
+pub is_read : (fonts : SetValue) (bytes : List ℕ) (pages : List (List Place)) (page : List Place) (file last : File) → read fonts bytes ≡ Ok last → last.pages ≡ file.pages → Keeps pages page file → Dvi fonts bytes pages
+is_read fonts bytes pages page file last e same k =
+    answer fonts bytes (Ok last) e ∙ ap (λ (l : List Page). Ok (places_of (record file { pages = l }))) same ∙ ap Ok k.ended
+
+-- the file has a fault
+pub is_fault : (fonts : SetValue) (bytes : List ℕ) (error : DviError) → IfSome (fault_of error) (λ (fault : Fault). read fonts bytes ≡ Err fault) → IfSome (fault_of error) (λ (fault : Fault). DviFault fonts bytes fault)
+is_fault fonts bytes error h = if_some (fault_of error) (λ fault e. answer fonts bytes (Err fault) e) h
+
+pub none_left : {A : Type 0} (o : Option A) → ((x : A) → o ≡ Some x → ⊥) → o ≡ None
+none_left None not = refl
+none_left (Some x) not = absurd (not x refl)
+
+-- one turn of the loop
+pub keeping_on : (fonts : SetValue) (bytes : List ℕ) (o new : OpenFile) (pages ended : List (List Place)) (page begun : List Place) (deed : Deed) → IsKeeping fonts bytes o pages page
+    → ((file : File) → Sees fonts o file → GoesOn fonts file o.rest.now deed new) → IsWithin new → new.at + length new.rest.now ≡ o.at + length o.rest.now
+    → ended ≡ lists_after deed pages page → begun ≡ places_after deed page → IsKeeping fonts bytes new ended begun
+keeping_on fonts bytes o new pages ended page begun deed k turns within same e b =
+    let t = turns k.file k.reading.sees in
+    record {
+      file = file_after fonts k.file o.rest.now deed new t;
+      reading = reads_on fonts bytes o new k.file deed t k.reading within same;
+      keeps = rw (e, b) (keeps_on deed pages page k.file t.next (operand_size t.code t.later + 1) k.keeps t.changes);
+    }
+
+pub keeping_done : (fonts : SetValue) (bytes : List ℕ) (o new : OpenFile) (pages : List (List Place)) (page : List Place) → IsKeeping fonts bytes o pages page
+    → ((file : File) → Sees fonts o file → Finishes fonts file o.rest.now new) → Dvi fonts bytes pages
+keeping_done fonts bytes o new pages page k turns =
+    let t = turns k.file k.reading.sees in
+    is_read fonts bytes pages page k.file t.last (reads_out fonts bytes o new k.file t k.reading) t.pages k.keeps
+
+pub keeping_few : (fonts : SetValue) (bytes : List ℕ) (o : OpenFile) (pages : List (List Place)) (page : List Place) → IsKeeping fonts bytes o pages page → length (all_places pages) ≤ max_places
+keeping_few fonts bytes o pages page k =
+    let counted = k.keeps.counted in
+    let same = k.reading.sees.place_count in
+    let few = k.reading.sees.few in
+    omega (arith, counted, same, few)
+
+pub keeping_fault : (fonts : SetValue) (bytes : List ℕ) (o new : OpenFile) (pages : List (List Place)) (page : List Place) (error : DviError) → IsKeeping fonts bytes o pages page
+    → ((file : File) → Sees fonts o file → Turns fonts file o.rest.now (Err error) new) → IfSome (fault_of error) (λ (fault : Fault). DviFault fonts bytes fault)
+keeping_fault fonts bytes o new pages page error k turns =
+    is_fault fonts bytes error (reads_fault fonts bytes o new k.file error k.reading (turns k.file k.reading.sees))
+
+pub keeping_starts : (fonts : SetValue) (bytes : List ℕ) (o : OpenFile) (pages : List (List Place)) (page : List Place) → Sees fonts o files.at_start → IsWithin o → o.rest.now ≡ bytes → pages ≡ [] → page ≡ [] → IsKeeping fonts bytes o pages page
+keeping_starts fonts bytes o pages page s within is none empty =
+    record {
+      file = files.at_start;
+      reading = starts fonts bytes o s within is;
+      keeps = rw (none, empty) (record { ended = refl; begun = refl; counted = omega arith });
+    }
+
+-- a file that is read has no fault
+no_fault : (fonts : SetValue) (bytes : List ℕ) (error : DviError) → IfSome (fault_of error) (DviFault fonts bytes) → (pages : List (List Place)) → pages_of fonts bytes ≡ Ok pages → error ≡ errors.OutOfMemory
+no_fault fonts bytes (errors.Truncated at) fault pages is = absurd (let f : pages_of fonts bytes ≡ Err (record { cause = machine.Truncated; at = at }) = fault in cc)
+no_fault fonts bytes (errors.BadOpcode at) fault pages is = absurd (let f : pages_of fonts bytes ≡ Err (record { cause = machine.BadOpcode; at = at }) = fault in cc)
+no_fault fonts bytes (errors.BadPreamble at) fault pages is = absurd (let f : pages_of fonts bytes ≡ Err (record { cause = machine.BadPreamble; at = at }) = fault in cc)
+no_fault fonts bytes (errors.BadPointer at) fault pages is = absurd (let f : pages_of fonts bytes ≡ Err (record { cause = machine.BadPointer; at = at }) = fault in cc)
+no_fault fonts bytes (errors.BadPost at) fault pages is = absurd (let f : pages_of fonts bytes ≡ Err (record { cause = machine.BadPost; at = at }) = fault in cc)
+no_fault fonts bytes (errors.UnknownFont at) fault pages is = absurd (let f : pages_of fonts bytes ≡ Err (record { cause = machine.UnknownFont; at = at }) = fault in cc)
+no_fault fonts bytes (errors.MissingChar at) fault pages is = absurd (let f : pages_of fonts bytes ≡ Err (record { cause = machine.MissingChar; at = at }) = fault in cc)
+no_fault fonts bytes (errors.StackEmpty at) fault pages is = absurd (let f : pages_of fonts bytes ≡ Err (record { cause = machine.StackEmpty; at = at }) = fault in cc)
+no_fault fonts bytes (errors.TooDeep at) fault pages is = absurd (let f : pages_of fonts bytes ≡ Err (record { cause = machine.TooDeep; at = at }) = fault in cc)
+no_fault fonts bytes (errors.OutOfRange at) fault pages is = absurd (let f : pages_of fonts bytes ≡ Err (record { cause = machine.OutOfRange; at = at }) = fault in cc)
+no_fault fonts bytes (errors.TooMany at) fault pages is = absurd (let f : pages_of fonts bytes ≡ Err (record { cause = machine.TooMany; at = at }) = fault in cc)
+no_fault fonts bytes errors.OutOfMemory fault pages is = refl
+
+-- what is written is read back
+pub back : (fonts : SetValue) (bytes : List ℕ) (result : Result (List (List Place)) DviError) → IfOk result (λ pages. Dvi fonts bytes pages) → IfErr result (λ error. IfSome (fault_of error) (DviFault fonts bytes))
+    → (pages : List (List Place)) → Written fonts bytes pages → ReadsBack result pages
+back fonts bytes (Ok read_pages) ok err pages written =
+    let w = reads_back fonts bytes pages written in let o : pages_of fonts bytes ≡ Ok read_pages = ok in cc
+back fonts bytes (Err error) ok err pages written = no_fault fonts bytes error err pages (reads_back fonts bytes pages written)
