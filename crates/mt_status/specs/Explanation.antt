@@ -24,7 +24,7 @@ unfoldable pub usage : List ℕ
 usage = concat (codes "usage: mathset [--line WIDTH] set FONTS SOURCE       as in: mathset set my.fonts my.tex > my.dvi\n"
     ∷ codes "       mathset [--line WIDTH] places FONTS SOURCE    the places of the glyphs and rules as text\n"
     ∷ codes "       mathset read FONTS DVI, or mathset gen SEED COUNT\n"
-    ∷ codes "       WIDTH is that of a line in scaled points: 6.5in = 30785863, which it is where it is not given" ∷ [])
+    ∷ codes "       WIDTH is the width of a line in scaled points; without it a line is 6.5in = 30785863" ∷ [])
 
 -- the place that the refusal tells, and a text about it
 abbrev pub explained : Status → List ℕ → List ℕ

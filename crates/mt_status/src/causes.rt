@@ -50,7 +50,7 @@ const READ_CAUSES: [&str; 13] = [
     "a second superscript, as a prime is one, or a second subscript",
     "a second \\over, or a word like it, in one group",
     "no delimiter where one must stand",
-    "a brace, \\right, \\middle, \\cr, $, & or # that does not fit, or a group without its end",
+    "a brace, \\right, \\middle, \\of, \\cr, $, & or # that does not fit, or a group without its end",
     "\\limits, or a word like it, without a large operator before it",
     "no field, group or row where one must stand",
     "no number where one must stand, or one out of range",
@@ -58,7 +58,7 @@ const READ_CAUSES: [&str; 13] = [
     "\\eqno and \\leqno may stand once in a display, outside of groups; \\eqalignno and its like are a whole display",
     "",
     "",
-    "at most two cells stand in a row of \\eqalign, three in one of \\eqalignno, one in one of \\displaylines",
+    "a row has at most two cells in \\eqalign, three in \\eqalignno and \\leqalignno, one in \\displaylines",
 ];
 
 /// Why a macro of a formula is refused (`MISSING_ARGUMENT`).

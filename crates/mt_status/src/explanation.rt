@@ -1,4 +1,4 @@
-//! What a refusal means in words, for a person: the line that main writes below the log's.
+//! What a refusal means in words, for a person: the text that main writes below the log's.
 ghost use Rattle.std.specs.Prelude.{◌≡◌, ◌∷◌, [], List, ℕ, codes};
 ghost use Rattle.std.specs.List.{concat};
 ghost use Rattle.mt_status.specs.Log.{Gets};
@@ -14,7 +14,7 @@ const USAGE: &str =
     "usage: mathset [--line WIDTH] set FONTS SOURCE       as in: mathset set my.fonts my.tex > my.dvi\n       \
      mathset [--line WIDTH] places FONTS SOURCE    the places of the glyphs and rules as text\n       \
      mathset read FONTS DVI, or mathset gen SEED COUNT\n       \
-     WIDTH is that of a line in scaled points: 6.5in = 30785863, which it is where it is not given";
+     WIDTH is the width of a line in scaled points; without it a line is 6.5in = 30785863";
 
 // How the program is called, in four lines.
 #[tactic(auto, unfolding(crate::specs::Explanation::usage))]
@@ -135,9 +135,10 @@ fn write_explained<L: Sink>(log: &mut L, status: &Status, text: &str)
     }
 }
 
-/// Writes what a refusal means, in one line for a person, and nothing for `Done`; for `BadWords`
-/// four lines on how the program is called. The name of a file stands in it as it is. A fault of the stream changes nothing else. Line and texts are those
-/// of docs/FORMATS.md ("Explanations").
+/// Writes what a refusal means, in a line for a person, and nothing for `Done`; for `BadWords` four
+/// lines on how the program is called. The name of a file stands in it as it is: one that has a line
+/// feed makes two lines. A fault of the stream changes nothing else. Line and texts are those of
+/// docs/FORMATS.md ("Explanations").
 pub fn write_explanation<L: Sink>(log: &mut L, status: &Status)
     ensures { (text : List ℕ) × IsLine text
         × Gets L.written L.faults log.old log.new (explained status.now text) }

@@ -1,4 +1,4 @@
-//! The one line that a refusal writes to the log.
+//! The line that a refusal writes to the log; the name of a file stands in it as it is, line feeds too.
 ghost use Rattle.std.specs.Prelude.{◌≡◌, ◌∷◌, [], codes, decimal};
 ghost use Rattle.std.specs.List.{concat};
 ghost use Rattle.mt_status.specs.Log.{Gets, log_line, much_text};
@@ -266,7 +266,7 @@ fn write_too_many<L: Sink>(log: &mut L, kind: Much, count: u64)
 
 /// Writes the line of a refusal, and nothing for `Done`. A fault of the log changes nothing else.
 ///
-/// It takes no memory, so that want of memory can be told too.
+/// The name of a file stands in the line as it is: one that has a line feed makes two lines. It takes no memory, so that want of memory can be told too.
 pub fn write_line<L: Sink>(log: &mut L, status: &Status)
     ensures { Gets L.written L.faults log.old log.new (log_line status.now) }
 {
