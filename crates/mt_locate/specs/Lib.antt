@@ -2,5 +2,5 @@
 pub mod Positions
 -- which columns of a long line are shown
 pub mod Windows
--- places in a source
+-- places in a source, and the byte at which its tokens end
 pub mod Places

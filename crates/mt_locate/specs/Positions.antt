@@ -4,8 +4,8 @@ use Rattle.std.specs.List.{fold, count_by}
 use Rattle.mt_locate.specs.declared.position.Position.{Position}
 
 -- lines count from 1: a line begins behind each line feed
-abbrev pub line_of : List ℕ → ℕ → ℕ
-line_of text offset = 1 + count_by (nat_eq 10) (take offset text)
+abbrev pub line_number : List ℕ → ℕ → ℕ
+line_number text offset = 1 + count_by (nat_eq 10) (take offset text)
 
 -- the column behind a byte: the first one behind a line feed, and else the next one
 abbrev pub column_after : ℕ → ℕ → ℕ
@@ -16,7 +16,7 @@ abbrev pub column_of : List ℕ → ℕ → ℕ
 column_of text offset = fold column_after 1 (take offset text)
 
 abbrev pub position_of : List ℕ → ℕ → Position
-position_of text offset = record { line = line_of text offset; column = column_of text offset }
+position_of text offset = record { line = line_number text offset; column = column_of text offset }
 
 -- how many bytes stand before the first line feed, or all
 abbrev pub before_feed : List ℕ → ℕ

@@ -1,42 +1,21 @@
 //! What a refusal means and where it stands, for a person: the lines that main writes below the log's.
+ghost use Rattle.std.specs.Prelude.{◌≡◌};
+ghost use Rattle.mt_status.specs.declared.status.Status.TheVariants.{Done};
+
 use crate::excerpt::{push_excerpt, push_place};
 use crate::files::{fetched, fetched_list};
 use crate::font_lines::explain_fonts;
-use crate::matter::{family_of, push_explanation, push_font_words};
-use crate::names::push_unknown_name;
+use crate::matter::{family_of, push_font_words};
 use crate::places::{Located, locate};
-use crate::text::{push_number, push_texts};
+use crate::source_matter::push_matter;
+use crate::text::push_texts;
 use mt_family::{FontList, Size};
 use mt_outside::{Cabinet, Sink, write_all};
-use mt_reader::ReadError;
 use mt_scaled::{Bytes, Items};
 use mt_status::{Status, write_explanation};
 use mt_token::MAX_SOURCE;
 use mt_words::{Request, Source, read_words};
 use std::alloc::{AllocError, Global};
-
-// Whether a cause is that of a name that means nothing.
-fn is_unknown_name(cause: u8) -> bool {
-    cause == ReadError::UnknownName(0).number()
-}
-
-// Adds what is the matter at a place of the source.
-fn push_matter(
-    alloc: Global,
-    out: &mut Vec<u8>,
-    status: &Status,
-    located: &Located,
-) -> Result<(), AllocError> {
-    match (status, &located.name) {
-        (Status::BadFormula { n, cause, .. }, Some(name)) if is_unknown_name(*cause) => {
-            push_texts(out, &[b"formula "])?;
-            push_number(out, *n)?;
-            push_texts(out, &[b": "])?;
-            push_unknown_name(out, name.as_slice())
-        }
-        _ => push_explanation(alloc, out, status),
-    }
-}
 
 // Adds where the macro is defined in whose expansion the fault is found.
 fn push_call(out: &mut Vec<u8>, file: &str, located: &Located) -> Result<(), AllocError> {
@@ -69,7 +48,7 @@ fn source_lines(
     let mut out = Vec::new(alloc);
     push_place(&mut out, file, located.place)?;
     push_texts(&mut out, &[b": "])?;
-    push_matter(alloc, &mut out, status, &located)?;
+    push_matter(alloc, &mut out, source, status, &located)?;
     push_font_words(&mut out, status, list)?;
     push_texts(&mut out, &[b"\n"])?;
     push_call(&mut out, file, &located)?;
@@ -83,7 +62,9 @@ fn list_for<C: Cabinet>(
     words: &Source<'_>,
     status: &Status,
     cabinet: &mut C,
-) -> Result<Option<FontList>, AllocError> {
+) -> Result<Option<FontList>, AllocError>
+    ensures holds { C.holds cabinet.new ≡ C.holds cabinet.old }
+{
     match family_of(status) {
         Some(_) => fetched_list(alloc, cabinet, words.fonts),
         None => Ok(None),
@@ -113,7 +94,9 @@ fn explain_source<C: Cabinet>(
     words: &Source<'_>,
     status: &Status,
     cabinet: &mut C,
-) -> Result<Option<Bytes>, AllocError> {
+) -> Result<Option<Bytes>, AllocError>
+    ensures holds { C.holds cabinet.new ≡ C.holds cabinet.old }
+{
     if !is_of_source(status) {
         return Ok(None);
     }
@@ -136,30 +119,39 @@ fn explained<C: Cabinet>(
     words: &[String],
     status: &Status,
     cabinet: &mut C,
-) -> Result<Option<Bytes>, AllocError> {
+) -> Result<Option<Bytes>, AllocError>
+    ensures holds { C.holds cabinet.new ≡ C.holds cabinet.old }
+{
     match read_words(alloc, words)? {
         Some(Request::Set(words)) | Some(Request::Places(words)) => {
-            match explain_fonts(alloc, words.fonts, status, cabinet)? {
+            match explain_fonts(alloc, words.fonts, words.source, status, cabinet)? {
                 Some(text) => Ok(Some(text)),
                 None => explain_source(alloc, &words, status, cabinet),
             }
         }
-        Some(Request::Read(words)) => explain_fonts(alloc, words.fonts, status, cabinet),
+        Some(Request::Read(words)) => explain_fonts(alloc, words.fonts, words.dvi, status, cabinet),
         _ => Ok(None),
     }
 }
 
-/// Writes what a refusal means and where it stands, for a person, and nothing for `Done`; docs/FORMATS.md has the lines
-/// ("Explanations"). The font list or the source that the words name is fetched once more. Where it cannot be had, or
-/// does not have what the status tells, these are the lines of `write_explanation`. A fault of the stream changes nothing
-/// else.
+/// Writes what a refusal means and where it stands, for a person, and nothing for `Done`; docs/FORMATS.md has the
+/// lines ("Explanations" and "Places"). The font list, the source or the font that the status is of is fetched once
+/// more. Where it cannot be had, or does not have what the status tells, these are the lines of `write_explanation`. A
+/// fault of the stream changes nothing else.
 pub fn write_located<C: Cabinet, L: Sink>(
     alloc: Global,
     words: &[String],
     status: &Status,
     cabinet: &mut C,
     log: &mut L,
-) {
+)
+    ensures holds { C.holds cabinet.new ≡ C.holds cabinet.old }
+    ensures done { status.now ≡ Done
+        → (L.written log.new ≡ L.written log.old) × (L.faults log.new ≡ L.faults log.old) }
+{
+    if let Status::Done = status {
+        return;
+    }
     match explained(alloc, words, status, cabinet) {
         Ok(Some(text)) => {
             let _ = write_all(log, text.as_slice());

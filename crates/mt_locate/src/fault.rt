@@ -2,7 +2,7 @@
 //!
 //! A fault is at a token of the formula after expansion. Where this token is one of the formula's own, the fault stands
 //! there. Where it comes from the body of a macro, it stands behind the last token before it that is the formula's own.
-use crate::tokens::{define_filler, filled_up, offset_of};
+use crate::tokens::offset_of;
 use mt_macro::{ExpandError, Macros, expand};
 use mt_reader::{ReadError, SourceFormula, read_formula};
 use mt_scaled::{Name, Units};
@@ -16,7 +16,7 @@ const UNITS: Units = Units {
 };
 
 /// The most tokens of a formula after expansion.
-const MOST_TOKENS: usize = 50_000;
+pub const MOST_TOKENS: usize = 50_000;
 
 /// Where a fault of a formula stands, by offsets of the source.
 #[derive(Debug, Drop)]
@@ -27,7 +27,12 @@ pub struct FormulaFault<'a> {
     pub definition: Option<&'a [Token]>,
 }
 
-fn expansion(
+/// What these tokens expand to; `None` where they do not expand.
+///
+/// # Errors
+///
+/// `AllocError` where memory ran out.
+pub fn expansion(
     alloc: Global,
     macros: &Macros,
     tokens: &[Token],
@@ -73,37 +78,6 @@ pub fn has_fault(
     }
 }
 
-/// Whether a formula, expanded once more, has a macro that lacks an argument, at this token of that step.
-///
-/// # Errors
-///
-/// `AllocError` where memory ran out.
-pub fn lacks_argument(
-    alloc: Global,
-    formula: &SourceFormula<'_>,
-    index: u32,
-) -> Result<bool, AllocError> {
-    match expand(alloc, &formula.macros, formula.tokens) {
-        Err(ExpandError::MissingArgument(at)) => Ok(at == index),
-        Err(ExpandError::OutOfMemory) => Err(AllocError),
-        _ => Ok(false),
-    }
-}
-
-/// The tokens of a formula after expansion where a macro lacks an argument, with others in its place: the tokens before that macro are the same. `None` where they cannot be had.
-///
-/// # Errors
-///
-/// `AllocError` where memory ran out.
-pub fn expanded_with_arguments(
-    alloc: Global,
-    formula: &mut SourceFormula<'_>,
-) -> Result<Option<TokenList>, AllocError> {
-    define_filler(alloc, &mut formula.macros)?;
-    let list = filled_up(alloc, formula.tokens)?;
-    expansion(alloc, &formula.macros, list.as_slice())
-}
-
 // Whether a token is the formula's own. Definitions stand before the formula, and other tokens have no marked offsets.
 fn is_own(formula: &SourceFormula<'_>, token: &Token) -> bool {
     token.start > formula.opening.start
@@ -130,15 +104,16 @@ fn first_from<'a>(tokens: &'a [Token], end: u32) -> Option<&'a Token> {
     None
 }
 
-// The token of the source behind the last of these that is the formula's own, or the closing `$`.
-fn token_behind<'a>(formula: &SourceFormula<'a>, before: &[Token]) -> Option<&'a Token> {
+/// The token of the source behind the last of these that is the formula's own, or the closing `$`.
+pub fn token_behind<'a>(formula: &SourceFormula<'a>, before: &[Token]) -> Option<&'a Token> {
     match first_from(formula.tokens, end_of_own(formula, before)) {
         Some(token) => Some(token),
         None => formula.closing.first(),
     }
 }
 
-fn name_of(token: &Token) -> Option<&Name> {
+/// The name of a token, where it has one.
+pub fn name_of(token: &Token) -> Option<&Name> {
     match &token.kind {
         TokenKind::Control(name) => Some(name),
         _ => None,
@@ -152,8 +127,8 @@ fn begins_before(definition: &[Token], token: &Token) -> bool {
     }
 }
 
-// The definition in which a token of a body stands; none where it is one of plain TeX's.
-fn definition_around<'a>(formula: &SourceFormula<'a>, token: &Token) -> Option<&'a [Token]> {
+/// The definition in which a token of a body stands; none where it is one of plain TeX's.
+pub fn definition_around<'a>(formula: &SourceFormula<'a>, token: &Token) -> Option<&'a [Token]> {
     let mut found = None;
     for definition in &formula.definitions {
         if begins_before(definition, token) {
@@ -163,21 +138,12 @@ fn definition_around<'a>(formula: &SourceFormula<'a>, token: &Token) -> Option<&
     found
 }
 
-// The tokens before an index, or all.
-fn first_tokens(tokens: &[Token], count: usize) -> &[Token] {
+/// The tokens before an index, or all.
+pub fn first_tokens(tokens: &[Token], count: usize) -> &[Token] {
     if count <= tokens.len() {
         &tokens[..count]
     } else {
         tokens
-    }
-}
-
-// The tokens from an index on.
-fn tokens_from(tokens: &[Token], count: usize) -> &[Token] {
-    if count <= tokens.len() {
-        &tokens[count..]
-    } else {
-        &[]
     }
 }
 
@@ -222,26 +188,4 @@ pub fn fault_at<'a>(
         }),
         Some(token) => fault_in_body(formula, first_tokens(list, index), token),
     }
-}
-
-// The definition of the macro whose body begins a list, where the first token is none of the formula's own.
-fn definition_of_first<'a>(formula: &SourceFormula<'a>, list: &[Token]) -> Option<&'a [Token]> {
-    match list {
-        [token, ..] if !is_own(formula, token) => definition_around(formula, token),
-        _ => None,
-    }
-}
-
-/// The fault of a macro without an argument, before which so many tokens stand after expansion: where it is called, or
-/// where the macro is called in whose expansion it is found. What its body begins with stands in the list behind them.
-pub fn missing_argument<'a>(
-    formula: &SourceFormula<'a>,
-    list: &[Token],
-    index: usize,
-) -> Option<FormulaFault<'a>> {
-    let call = token_behind(formula, first_tokens(list, index))?;
-    Some(FormulaFault {
-        offset: offset_of(call.start)?,
-        definition: definition_of_first(formula, tokens_from(list, index)),
-    })
 }

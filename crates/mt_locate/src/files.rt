@@ -1,5 +1,5 @@
 //! The files of a run, fetched once more.
-ghost use Rattle.std.specs.Prelude.{◌<◌, ◌≤◌, ◌^◌, length, IfOk, IfSome};
+ghost use Rattle.std.specs.Prelude.{◌≡◌, ◌<◌, ◌≤◌, ◌^◌, length, IfOk, IfSome};
 
 use mt_family::{FontList, ListError, MAX_LIST_BYTES, read_font_list};
 use mt_outside::{Cabinet, FetchError};
@@ -19,6 +19,7 @@ pub fn fetched<C: Cabinet>(
 ) -> Result<Option<Bytes>, AllocError>
     requires { limit < 2 ^ 40 }
     ensures within { IfOk result (λ file. IfSome file (λ bytes. length bytes ≤ limit)) }
+    ensures holds { C.holds cabinet.new ≡ C.holds cabinet.old }
 {
     match cabinet.fetch(alloc, name, limit) {
         Ok(bytes) => Ok(Some(bytes)),
@@ -36,7 +37,9 @@ pub fn fetched_list<C: Cabinet>(
     alloc: Global,
     cabinet: &mut C,
     name: &str,
-) -> Result<Option<FontList>, AllocError> {
+) -> Result<Option<FontList>, AllocError>
+    ensures holds { C.holds cabinet.new ≡ C.holds cabinet.old }
+{
     let Some(bytes) = fetched(alloc, cabinet, name, MAX_LIST_BYTES)? else {
         return Ok(None);
     };

@@ -1,4 +1,6 @@
 //! Where a font list, a font or a family is at fault.
+ghost use Rattle.std.specs.Prelude.{◌≡◌};
+
 use crate::excerpt::push_line;
 use crate::files::{fetched, fetched_list};
 use crate::fonts::push_character;
@@ -15,6 +17,9 @@ use std::alloc::{AllocError, Global};
 
 /// The most bytes of a TFM file.
 const MAX_TFM: u64 = 131_068;
+
+/// What the first line of a font list begins with.
+const LIST_HEAD: &[u8] = b"mathset fonts ";
 
 /// Thousandths of the design size at which a font is read, to find the character at fault.
 const DESIGN_SIZE: Wanted = Wanted::Scaled(1_000);
@@ -41,13 +46,42 @@ fn push_list_line(out: &mut Vec<u8>, number: usize, line: &[u8]) -> Result<(), A
     push_line(out, number, &line[..columns.count])
 }
 
-// The lines for a line of a font list.
+// Whether a text begins as a font list does.
+fn begins_as_list(text: &[u8]) -> bool {
+    text.starts_with(LIST_HEAD)
+}
+
+// Adds what else is the matter with a line of a font list: its end, or that the first line is none since the list is
+// the other file.
+fn push_line_words(
+    out: &mut Vec<u8>,
+    line: &[u8],
+    exchanged: Option<&str>,
+) -> Result<(), AllocError> {
+    if let Some(other) = exchanged {
+        push_texts(
+            out,
+            &[
+                b": ",
+                other.as_bytes(),
+                b" begins as a font list: are the two files exchanged?",
+            ],
+        )
+    } else if let [.., b'\r'] = line {
+        push_texts(out, &[b": the line ends with CR, and LF alone ends a line"])
+    } else {
+        Ok(())
+    }
+}
+
+// The lines for a line of a font list. `exchanged` is the name of the other file, where that one begins as a font list.
 fn list_lines(
     alloc: Global,
     file: &str,
     list: &[u8],
     status: &Status,
     line: u32,
+    exchanged: Option<&str>,
 ) -> Result<Option<Bytes>, AllocError> {
     let Some(offset) = line_start(list, line) else {
         return Ok(None);
@@ -55,27 +89,51 @@ fn list_lines(
     if offset > list.len() {
         return Ok(None);
     }
+    let text = line_around(list, offset);
     let mut out = Vec::new(alloc);
     push_texts(&mut out, &[file.as_bytes(), b":"])?;
     push_number(&mut out, line)?;
     push_texts(&mut out, &[b": "])?;
     push_explanation(alloc, &mut out, status)?;
+    push_line_words(&mut out, text, exchanged)?;
     push_texts(&mut out, &[b"\n"])?;
-    push_list_line(&mut out, line as usize, line_around(list, offset))?;
+    push_list_line(&mut out, line as usize, text)?;
     Ok(Some(Items::from_vec(out)))
+}
+
+// The name of the other file, where a file does not begin as a font list and that one does.
+fn exchanged_with<'a, C: Cabinet>(
+    alloc: Global,
+    list: &[u8],
+    other: &'a str,
+    cabinet: &mut C,
+) -> Result<Option<&'a str>, AllocError>
+    ensures holds { C.holds cabinet.new ≡ C.holds cabinet.old }
+{
+    if begins_as_list(list) {
+        return Ok(None);
+    }
+    match fetched(alloc, cabinet, other, MAX_LIST_BYTES)? {
+        Some(bytes) if begins_as_list(bytes.as_slice()) => Ok(Some(other)),
+        _ => Ok(None),
+    }
 }
 
 fn explain_list<C: Cabinet>(
     alloc: Global,
     file: &str,
+    other: &str,
     status: &Status,
     line: u32,
     cabinet: &mut C,
-) -> Result<Option<Bytes>, AllocError> {
-    match fetched(alloc, cabinet, file, MAX_LIST_BYTES)? {
-        Some(list) => list_lines(alloc, file, list.as_slice(), status, line),
-        None => Ok(None),
-    }
+) -> Result<Option<Bytes>, AllocError>
+    ensures holds { C.holds cabinet.new ≡ C.holds cabinet.old }
+{
+    let Some(list) = fetched(alloc, cabinet, file, MAX_LIST_BYTES)? else {
+        return Ok(None);
+    };
+    let exchanged = exchanged_with(alloc, list.as_slice(), other, cabinet)?;
+    list_lines(alloc, file, list.as_slice(), status, line, exchanged)
 }
 
 // The name of a font's file.
@@ -100,7 +158,9 @@ fn font_line<C: Cabinet>(
     line: &FontLine,
     status: &Status,
     cabinet: &mut C,
-) -> Result<Option<Bytes>, AllocError> {
+) -> Result<Option<Bytes>, AllocError>
+    ensures holds { C.holds cabinet.new ≡ C.holds cabinet.old }
+{
     let file = tfm_name(alloc, &line.name)?;
     let Some(font) = fetched(alloc, cabinet, &file, MAX_TFM)? else {
         return Ok(None);
@@ -122,7 +182,9 @@ fn explain_font<C: Cabinet>(
     number: u32,
     status: &Status,
     cabinet: &mut C,
-) -> Result<Option<Bytes>, AllocError> {
+) -> Result<Option<Bytes>, AllocError>
+    ensures holds { C.holds cabinet.new ≡ C.holds cabinet.old }
+{
     let Some(list) = fetched_list(alloc, cabinet, fonts)? else {
         return Ok(None);
     };
@@ -138,7 +200,9 @@ fn explain_family<C: Cabinet>(
     fonts: &str,
     status: &Status,
     cabinet: &mut C,
-) -> Result<Option<Bytes>, AllocError> {
+) -> Result<Option<Bytes>, AllocError>
+    ensures holds { C.holds cabinet.new ≡ C.holds cabinet.old }
+{
     let Some(list) = fetched_list(alloc, cabinet, fonts)? else {
         return Ok(None);
     };
@@ -150,8 +214,8 @@ fn explain_family<C: Cabinet>(
     Ok(Some(Items::from_vec(out)))
 }
 
-/// The lines for a refusal of a font list, of a font of it or of a family; `None` for another status, and where the files
-/// do not have what it tells.
+/// The lines for a refusal of a font list, of a font of it or of a family; `None` for another status, and where the
+/// files do not have what it tells. `other` is the source or the DVI file beside the list.
 ///
 /// # Errors
 ///
@@ -159,11 +223,14 @@ fn explain_family<C: Cabinet>(
 pub fn explain_fonts<C: Cabinet>(
     alloc: Global,
     fonts: &str,
+    other: &str,
     status: &Status,
     cabinet: &mut C,
-) -> Result<Option<Bytes>, AllocError> {
+) -> Result<Option<Bytes>, AllocError>
+    ensures holds { C.holds cabinet.new ≡ C.holds cabinet.old }
+{
     match status {
-        Status::FontList { line, .. } => explain_list(alloc, fonts, status, *line, cabinet),
+        Status::FontList { line, .. } => explain_list(alloc, fonts, other, status, *line, cabinet),
         Status::BadTfm { font, .. } => explain_font(alloc, fonts, *font, status, cabinet),
         Status::BadFamily { .. } => explain_family(alloc, fonts, status, cabinet),
         _ => Ok(None),

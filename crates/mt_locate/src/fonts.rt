@@ -10,7 +10,7 @@ const POINT: i64 = 65_536;
 /// The most digits behind the point of a length in points (tex.web, section 103).
 const MOST_DIGITS: u32 = 5;
 
-/// The size of a font in words.
+// The size of a font in words.
 fn size_text(size: Size) -> &'static [u8] {
     match size {
         Size::Text => b"text size",

@@ -1,5 +1,5 @@
-//! Where a refusal stands, for a person: the file, the line and the column, with the line shown, and the names of what is
-//! refused. [`write_located`] writes what the program says below the line of its log.
+//! Where a refusal stands, for a person: the file, the line and the column, with the line shown, and the names of what
+//! is refused. [`write_located`] writes what the program says below the line of its log.
 #![tactic(auto)]
 
 mod excerpt;
@@ -9,9 +9,12 @@ mod files;
 mod font_lines;
 mod fonts;
 mod matter;
+mod missing;
 mod names;
 mod places;
 mod position;
+mod regular_files;
+mod source_matter;
 mod text;
 mod tokens;
 mod window;
@@ -19,4 +22,5 @@ mod window;
 pub use explain::write_located;
 pub use places::{Located, MacroCall, Place, locate, place_at};
 pub use position::{Position, line_around, position_at};
+pub use regular_files::RegularFiles;
 pub use window::{Window, shown_columns};

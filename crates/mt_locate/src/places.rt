@@ -1,17 +1,18 @@
 //! The place in a source that a status tells.
-ghost use Rattle.std.specs.Prelude.{◌≡◌, ◌≤◌, IfOk, IfSome, length};
-ghost use Rattle.mt_locate.specs.Places.{IsPlaceIn};
+ghost use Rattle.std.specs.Prelude.{◌≡◌, ◌≤◌, ◌↔◌, ℕ, IfOk, IfSome, IsSome, length};
+ghost use Rattle.std.specs.Option.{option_map};
+ghost use Rattle.mt_status.specs.declared.status.Status.TheVariants.{BadSource};
+ghost use Rattle.mt_token.specs.Tokens.{source_tokens};
+ghost use Rattle.mt_locate.specs.Places.{IsPlaceIn, bad_byte, byte_found, offset_within, told_byte};
 
-use crate::fault::{
-    FormulaFault, expanded, expanded_with_arguments, fault_at, has_fault, lacks_argument,
-    missing_argument, name_at,
-};
+use crate::fault::{FormulaFault, expanded, fault_at, has_fault, name_at, name_of};
+use crate::missing::{lacks_argument, missing_argument};
 use crate::position::{Position, position_at};
 use crate::tokens::{marked_tokens, offset_of};
 use mt_reader::{FormulaWanted, ReadError, find_formula};
 use mt_scaled::Name;
 use mt_status::{MISSING_ARGUMENT, Much, Status};
-use mt_token::{FIRST_OUTSIDE_CAUSE, Token, TokenError, TokenKind, tokens};
+use mt_token::{FIRST_OUTSIDE_CAUSE, Token, TokenError, tokens};
 use std::alloc::{AllocError, Global};
 
 /// A byte of a source, or its end.
@@ -37,9 +38,10 @@ pub struct MacroCall {
 pub struct Located {
     /// The place.
     pub place: Place,
-    /// The name that is found there, or in the body of a macro that is called there.
+    /// The name of the token at fault, which stands there or comes from a macro that is called there. None for a macro
+    /// that lacks an argument, and where no single token is at fault.
     pub name: Option<Name>,
-    /// The macro in whose body it is found, where that is one of the source.
+    /// The macro in whose body it is found, or which lacks an argument, where that is one of the source.
     pub call: Option<MacroCall>,
 }
 
@@ -47,6 +49,7 @@ pub struct Located {
 pub fn place_at(source: &[u8], offset: usize) -> Option<Place>
     ensures is { IfSome result (λ place. IsPlaceIn source.now place) }
     ensures at { IfSome result (λ place. place.offset ≡ offset) }
+    ensures found { IsSome result ↔ (offset ≤ length source.now) }
 {
     if offset > source.len() {
         return None;
@@ -59,6 +62,7 @@ pub fn place_at(source: &[u8], offset: usize) -> Option<Place>
 
 fn place_alone(source: &[u8], offset: usize) -> Option<Located>
     ensures is { IfSome result (λ located. IsPlaceIn source.now located.place) }
+    ensures at { option_map (λ located. located.place.offset) result ≡ offset_within source.now offset }
 {
     let place = place_at(source, offset)?;
     Some(Located {
@@ -75,6 +79,14 @@ fn copied_name(alloc: Global, name: Option<&Name>) -> Result<Option<Name>, Alloc
     }
 }
 
+// The place of a marked offset.
+fn marked_place(source: &[u8], marked: u32) -> Option<Place>
+    ensures is { IfSome result (λ place. IsPlaceIn source.now place) }
+{
+    let offset = offset_of(marked)?;
+    place_at(source, offset)
+}
+
 // The macro of a definition, which begins with its `\def`.
 fn macro_call(
     alloc: Global,
@@ -84,13 +96,10 @@ fn macro_call(
     let Some([first, named, ..]) = definition else {
         return Ok(None);
     };
-    let TokenKind::Control(name) = &named.kind else {
+    let Some(name) = name_of(named) else {
         return Ok(None);
     };
-    let Some(offset) = offset_of(first.start) else {
-        return Ok(None);
-    };
-    let Some(place) = place_at(source, offset) else {
+    let Some(place) = marked_place(source, first.start) else {
         return Ok(None);
     };
     Ok(Some(MacroCall {
@@ -120,6 +129,37 @@ fn with_places(
     }))
 }
 
+// The byte at which the tokens of a source end, and its cause; none where they end with the source.
+fn bad_byte(alloc: Global, source: &[u8]) -> Result<Option<(u32, u8)>, AllocError>
+    ensures is { IfOk result (λ found. found ≡ bad_byte (source_tokens source.now)) }
+{
+    match tokens(alloc, source) {
+        Ok(_) => Ok(None),
+        Err(TokenError::NotAscii(at)) => Ok(Some((at, TokenError::NotAscii(at).number()))),
+        Err(TokenError::BadByte(at)) => Ok(Some((at, TokenError::BadByte(at).number()))),
+        Err(TokenError::TooLong) => Ok(None),
+        Err(TokenError::OutOfMemory) => Err(AllocError),
+    }
+}
+
+// The place of a byte of this cause, where it is the one told.
+fn told_byte(source: &[u8], found: Option<(u32, u8)>, offset: u64, cause: u8) -> Option<Located>
+    ensures is { IfSome result (λ located. IsPlaceIn source.now located.place) }
+    ensures byte { option_map (λ located. located.place.offset) result
+        ≡ told_byte source.now found offset cause }
+{
+    match found {
+        Some((at, number)) => {
+            if u64::from(at) == offset && number == cause {
+                place_alone(source, at as usize)
+            } else {
+                None
+            }
+        }
+        None => None,
+    }
+}
+
 // A byte that cannot stand where it stands, where it is the first one.
 fn locate_byte(
     alloc: Global,
@@ -128,17 +168,11 @@ fn locate_byte(
     cause: u8,
 ) -> Result<Option<Located>, AllocError>
     ensures is { IfOk result (λ found. IfSome found (λ located. IsPlaceIn source.now located.place)) }
+    ensures byte { IfOk result (λ found. option_map (λ located. located.place.offset) found
+        ≡ byte_found source.now offset cause) }
 {
-    match tokens(alloc, source) {
-        Ok(_) => Ok(None),
-        Err(TokenError::OutOfMemory) => Err(AllocError),
-        Err(error) => match error.place() {
-            Some(at) if u64::from(at) == offset && error.number() == cause => {
-                Ok(place_alone(source, at as usize))
-            }
-            _ => Ok(None),
-        },
-    }
+    let found = bad_byte(alloc, source)?;
+    Ok(told_byte(source, found, offset, cause))
 }
 
 // A token of the source, by its index.
@@ -151,10 +185,14 @@ fn locate_token(alloc: Global, source: &[u8], index: usize) -> Result<Option<Loc
     let Some(token) = list.get(index) else {
         return Ok(None);
     };
-    match offset_of(token.start) {
-        Some(offset) => Ok(place_alone(source, offset)),
-        None => Ok(None),
-    }
+    let Some(place) = marked_place(source, token.start) else {
+        return Ok(None);
+    };
+    Ok(Some(Located {
+        place,
+        name: copied_name(alloc, name_of(token))?,
+        call: None,
+    }))
 }
 
 // The first `$` of a formula.
@@ -226,27 +264,25 @@ fn locate_missing(
     if !lacks_argument(alloc, &formula, index)? {
         return Ok(None);
     }
-    match expanded_with_arguments(alloc, &mut formula)? {
-        Some(tokens) => with_places(
-            alloc,
-            source,
-            missing_argument(&formula, tokens.as_slice(), index as usize),
-            None,
-        ),
+    match missing_argument(alloc, &mut formula)? {
+        Some(fault) => with_places(alloc, source, Some(fault), None),
         None => locate_formula(alloc, source, FormulaWanted::Number(n)),
     }
 }
 
 /// Where a refusal stands in the source of which it tells. A byte of the source and a token of the source stand where
 /// they stand; a token of a formula after expansion, as docs/FORMATS.md says ("Explanations"); what is wrong with a
-/// formula as a whole, and a page too many, at the first `$` of the formula. `None` where the status tells no place in a
-/// source, or where this source does not have what it tells.
+/// formula as a whole, and a page too many, at the first `$` of the formula. `None` where the status tells no place in
+/// a source, or where this source does not have what it tells.
 ///
 /// # Errors
 ///
 /// `AllocError` where memory ran out.
 pub fn locate(alloc: Global, source: &[u8], status: &Status) -> Result<Option<Located>, AllocError>
     ensures is { IfOk result (λ found. IfSome found (λ located. IsPlaceIn source.now located.place)) }
+    ensures byte { (offset cause : ℕ) → status.now ≡ BadSource offset cause
+        → IfOk result (λ found. option_map (λ located. located.place.offset) found
+        ≡ byte_found source.now offset cause) }
 {
     match status {
         Status::BadSource { offset, cause } => locate_byte(alloc, source, *offset, *cause),

@@ -1,18 +1,11 @@
 //! The tokens of a source, with spans that those of plain TeX's macros do not have.
-use mt_macro::{Macros, is_close};
-use mt_scaled::{Items, Name};
-use mt_token::{Token, TokenError, TokenKind, TokenList, tokens};
+use mt_scaled::Items;
+use mt_token::{Token, TokenError, TokenList, tokens};
 use std::alloc::{AllocError, Global};
 
 /// What is added to the offsets of a source. A source has at most 2^22 bytes, and so have the texts of plain TeX's
 /// macros, of which the tokens have offsets of their own.
-const MARK: u32 = 2_147_483_648;
-
-/// The most arguments that a macro has.
-const MAX_ARGUMENTS: u8 = 9;
-
-/// The name of a macro that is put where an argument may be wanting. No name of a source is a blank.
-const FILLER: &[u8] = b" ";
+pub const MARK: u32 = 2_147_483_648;
 
 /// The offset in the source that a marked one stands for; `None` where it is that of another text.
 pub fn offset_of(marked: u32) -> Option<usize> {
@@ -46,46 +39,4 @@ pub fn marked_tokens(alloc: Global, source: &[u8]) -> Result<Option<TokenList>, 
         copies.push(marked(token, alloc)?)?;
     }
     Ok(Some(Items::from_vec(copies)))
-}
-
-fn push_fillers(alloc: Global, list: &mut Vec<Token>) -> Result<(), AllocError> {
-    for _ in 0..MAX_ARGUMENTS {
-        list.push(Token {
-            kind: TokenKind::Control(Name::from_slice(alloc, FILLER)?),
-            start: 0,
-            end: 0,
-        })?;
-    }
-    Ok(())
-}
-
-/// These tokens, with as many calls of a macro that gives nothing before each `}` and at the end as a macro may have
-/// arguments. So a macro that lacks arguments there takes them for its own, and no other token is changed by them.
-///
-/// # Errors
-///
-/// `AllocError` where memory ran out.
-pub fn filled_up(alloc: Global, tokens: &[Token]) -> Result<TokenList, AllocError> {
-    let mut list = Vec::new(alloc);
-    for token in tokens {
-        if is_close(token) {
-            push_fillers(alloc, &mut list)?;
-        }
-        list.push(token.copied(alloc)?)?;
-    }
-    push_fillers(alloc, &mut list)?;
-    Ok(Items::from_vec(list))
-}
-
-/// Puts in the macro that gives nothing.
-///
-/// # Errors
-///
-/// `AllocError` where memory ran out.
-pub fn define_filler(alloc: Global, macros: &mut Macros) -> Result<(), AllocError> {
-    let name = Name::from_slice(alloc, FILLER)?;
-    match macros.preload(&name, 0, &[]) {
-        Ok(()) => Ok(()),
-        Err(_) => Err(AllocError),
-    }
 }

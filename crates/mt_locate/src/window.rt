@@ -1,11 +1,11 @@
 //! Which columns of a line are shown.
 ghost use Rattle.std.specs.Prelude.{◌≡◌, ◌≤◌, ◌<◌, ◌+◌};
-ghost use Rattle.mt_locate.specs.Windows.{widest_shown};
+ghost use Rattle.mt_locate.specs.Windows.{shown_window, widest_shown};
 
 /// The most columns of a line that are shown.
 const WIDEST_SHOWN: usize = 120;
 
-/// The most columns that are shown before the one that is meant, where a line is cut.
+/// The columns that are shown before the one that is meant, where the line is cut on both sides.
 const SHOWN_BEFORE: usize = 80;
 
 /// Some columns of a line.
@@ -18,9 +18,11 @@ pub struct Window {
 }
 
 /// Which columns of a line of so many bytes are shown, where one of them is meant, counted from 1: all, or 120 with the
-/// one that is meant. The column behind the last byte may be meant.
+/// one that is meant, 80 of them before it where the line is cut on both sides. The column behind the last byte may be
+/// meant.
 pub fn shown_columns(length: usize, column: usize) -> Window
     requires { 1 ≤ column }
+    ensures is { result ≡ shown_window length column }
     ensures whole { length ≤ widest_shown → result ≡ record { before = 0; count = length } }
     ensures few { result.count ≤ widest_shown }
     ensures within { result.before + result.count ≤ length }
