@@ -1,5 +1,5 @@
 //! Tests of the crates below the program that read: arithmetic, files, font metrics, tokens, macros and formulas.
-//! A module is named after its crate, without `mt_`.
+//! A module is named after its crate, without `mt_`, or after what it reads.
 #![tactic(auto)]
 
 #[cfg(test)]
@@ -12,6 +12,8 @@ mod outside;
 mod plain;
 #[cfg(test)]
 mod reader;
+#[cfg(test)]
+mod roots;
 #[cfg(test)]
 mod samples;
 #[cfg(test)]

@@ -7,7 +7,7 @@ use crate::pieces::{LETTER, SMALL, glyph, letter, space};
 use mt_box::{
     Entry, Extents, Mark, Node, NodeId, PackError, Packed, Piece, Place, PlaceError, Row, clean,
     first_out, glyph_box, hpack, hpack_glyph, hpack_kern, hpack_to, places, put_places, recentre,
-    row_extents, shrink_of, vpack, with_extents,
+    row_extents, shrink_of, unmarked, vpack, with_extents,
 };
 use mt_scaled::Items;
 use std::alloc::{AllocError, Global};
@@ -182,6 +182,9 @@ fn recentres(rt: HostRuntime) {
     assert!(rt; body.extents() == LETTER);
     let page = places(rt.alloc(), &body, 0, 0, 1).expect(&rt, "memory");
     assert!(rt; page.as_slice() == [glyph(3, 97, 2, 0)].as_slice());
+    let body = unmarked(body);
+    assert!(rt; body.extents() == LETTER && body.level() == 3);
+    assert!(rt; places(rt.alloc(), &body, 0, 0, 0).is_ok());
 }
 
 #[test]

@@ -1,7 +1,10 @@
 //! Formulas in the text, and their places in the toy fonts: those that TeX gives, but where a comment says otherwise.
 use crate::tests::formula_listing::{Case, page_listing, test_listing};
 use crate::tests::memory::PLACES;
-use crate::tests::{atom_formulas, list_formulas, middle_formulas, part_formulas, table_formulas};
+use crate::tests::{
+    atom_formulas, big_formulas, list_formulas, middle_formulas, part_formulas, phantom_formulas,
+    root_formulas, table_formulas,
+};
 use std::alloc::Global;
 use std::process::Abort;
 
@@ -106,4 +109,7 @@ fn sets_formulas(rt: HostRuntime) {
     test_kinds(&rt, alloc, &list_formulas::kinds());
     test_kinds(&rt, alloc, &middle_formulas::kinds());
     test_kinds(&rt, alloc, &table_formulas::kinds());
+    test_kinds(&rt, alloc, &root_formulas::kinds());
+    test_kinds(&rt, alloc, &phantom_formulas::kinds());
+    test_kinds(&rt, alloc, &big_formulas::kinds());
 }
