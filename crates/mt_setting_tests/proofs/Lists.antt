@@ -18,7 +18,7 @@ pub record IsSingle (e : Element) : Type 0 where
   pub amounts : ElementAmounts e
 
 pub letter_is_single : (class : Class) (s : Symbol) → IsSingle (AtomElement (Plain class) Default (SymbolPart s) EmptyPart EmptyPart)
-letter_is_single class s = record { inside = (tt, tt, tt); items = refl; nesting = refl; amounts = (tt, tt, tt) }
+letter_is_single class s = record { inside = (tt, (tt, tt)); items = refl; nesting = refl; amounts = (tt, tt, tt) }
 
 inside_push : (xs : List Item) (i : Item) → IsSingle (element_of i) → Inside (sequence_of xs) → Inside (sequence_of (xs ++ i ∷ []))
 inside_push [] i single h = (single.inside, tt)
