@@ -8,5 +8,5 @@ pub mod Sees
 pub mod Deeds
 -- the opcode at an offset
 pub mod OpcodeAt
--- of the reader's inner functions: only their contracts cite it
+-- of the reader's inner functions
 pub mod inner

@@ -1,5 +1,5 @@
--- Boxes of which only the width, only the height and depth, or only what they mark is left (`veil_layout`; plain
--- TeX's \phantom, \hphantom, \vphantom and \smash; The TeXbook, chapter 18 and Appendix B).
+-- Boxes of which a part is left: the width or not, the height and depth or not, the marks or not (`veil_layout`;
+-- plain TeX's \phantom, \hphantom, \vphantom and \smash; The TeXbook, chapter 18 and Appendix B).
 use Rattle.std.specs.Prelude.{pos, [], Bool, if◌then◌else◌}
 use Rattle.mt_box.specs.declared.extents.Extents.{Extents}
 use Rattle.mt_box.specs.Layout.{Layout}

@@ -28,14 +28,14 @@ pub enum Kind {
     Under,
     /// Rows, one below another, or a table, centred on the axis.
     Vcenter,
-    /// The nucleus alone, but of its box only the width, only the height and depth, or only what it marks (plain TeX's
-    /// `\phantom`, `\hphantom`, `\vphantom` and `\smash`).
+    /// The nucleus alone, and of its box only what the flags say is left (plain TeX's `\phantom`, `\hphantom`,
+    /// `\vphantom` and `\smash`).
     Veil {
         /// Whether it keeps its width.
         width: bool,
         /// Whether it keeps its height and depth.
         height: bool,
-        /// Whether it marks what it marks.
+        /// Whether it keeps its marks.
         marks: bool,
     },
 }

@@ -129,7 +129,7 @@ pub enum Field {
     },
 }
 
-/// What is under a radical sign that has a degree.
+/// A radical with a degree: what stands over the beginning of its sign, and what is under it.
 #[cycle(list)]
 #[derive(Drop)]
 pub struct Root {

@@ -71,8 +71,7 @@ pub enum FieldKind {
     Over,
     /// Over a rule.
     Under,
-    /// The nucleus alone, but of its box only the width, only the height and depth, or only what it
-    /// marks.
+    /// The nucleus alone, and of its box only what the flags say is left.
     Veil {
         /// Whether it keeps its width.
         width: bool,
