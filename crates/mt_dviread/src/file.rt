@@ -149,6 +149,7 @@ impl<'a> OpenFile<'a> {
     /// # Errors
     ///
     /// The fault of this opcode, with its offset. `OutOfMemory` where memory ran out.
+    #[inline(always)]
     pub fn next(&mut self, alloc: Global, fonts: &FontSet) -> Result<Option<Deed>, DviError>
         requires within { IsWithin self.old }
         ensures turns { (file : files.File) → Sees fonts.now self.old file
@@ -180,6 +181,7 @@ impl<'a> OpenFile<'a> {
     }
 
     // Performs the operation of the next opcode, which has these bytes after it.
+    #[inline(always)]
     fn step(
         &mut self,
         alloc: Global,
@@ -361,6 +363,7 @@ impl<'a> OpenFile<'a> {
         Ok(())
     }
 
+    #[inline(always)]
     fn in_page(
         &mut self,
         alloc: Global,
@@ -417,6 +420,7 @@ impl<'a> OpenFile<'a> {
     }
 
     // Performs an operation of the page.
+    #[inline(never)]
     fn perform(&mut self, fonts: &FontSet, operation: Operation<'a>) -> Result<Option<Place>, Cause>
         ensures fills { (file : files.File) (meant : codes.Operation)
             → Sees fonts.now self.old file → file.again ≡ [] → IsOperation operation.entry meant

@@ -316,6 +316,7 @@ impl Machine {
     }
 
     /// Performs an operation of a page, and gives the place that it fills, if any.
+    #[inline(always)]
     pub fn perform(
         &mut self,
         fonts: &FontSet,

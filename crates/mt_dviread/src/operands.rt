@@ -7,6 +7,7 @@ use mt_dvi::opcode::*;
 
 /// How many bytes of operands an opcode has, from the bytes after it; a byte that is not there counts
 /// as 0.
+#[inline(always)]
 #[tactic(auto, unfolding(mt_dvi::specs::Codes::operand_size))]
 pub fn operand_size(opcode: u8, rest: &[u8]) -> usize
     ensures { result ≡ operand_size opcode rest.now }

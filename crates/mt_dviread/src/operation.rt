@@ -165,6 +165,7 @@ impl Postamble {
 }
 
 // The opcodes from RIGHT1 to the one before FNT_NUM_0.
+#[inline(always)]
 #[tactic(auto, unfolding(mt_dvi::specs::Codes::operand_size, mt_dvi::specs::Codes::operation))]
 fn moves(opcode: u8, operands: &[u8]) -> Operation<'_>
     requires low { right1 ≤ opcode }
@@ -196,6 +197,7 @@ fn moves(opcode: u8, operands: &[u8]) -> Operation<'_>
 }
 
 // The opcodes below RIGHT1.
+#[inline(always)]
 #[tactic(auto, unfolding(mt_dvi::specs::Codes::operand_size, mt_dvi::specs::Codes::operation))]
 fn marks(opcode: u8, operands: &[u8]) -> Operation<'_>
     requires high { opcode < right1 }
@@ -235,6 +237,7 @@ fn marks(opcode: u8, operands: &[u8]) -> Operation<'_>
 }
 
 // The opcodes from FNT_NUM_0 on.
+#[inline(always)]
 #[tactic(auto, unfolding(mt_dvi::specs::Codes::operand_size, mt_dvi::specs::Codes::operation))]
 fn others(opcode: u8, operands: &[u8]) -> Operation<'_>
     requires low { fnt_num_0 ≤ opcode }
@@ -264,6 +267,7 @@ fn others(opcode: u8, operands: &[u8]) -> Operation<'_>
 }
 
 /// The operation of an opcode with its operands.
+#[inline(always)]
 pub fn decode(opcode: u8, operands: &[u8]) -> Operation<'_>
     requires whole { length operands.now ≡ operand_size opcode operands.now }
     ensures { IsOperation result (operation opcode operands.now) }
