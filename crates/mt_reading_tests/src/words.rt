@@ -54,6 +54,25 @@ const CASES: &[Case] = &[
     ("gen 1 -- -1", "none"),
     ("gen 1 1x", "none"),
     ("gen 1 \u{663}", "none"),
+    // Ranges of pages, shown by how many pages they are, and files, by how many.
+    ("pick F D 3", "pick F D 1"),
+    ("pick F D 2-4 1", "pick F D 4"),
+    ("pick F D 4-2 3-3", "pick F D 4"),
+    ("pick F D 007 65535", "pick F D 2"),
+    ("pick F D", "none"),
+    ("pick F", "none"),
+    ("pick F D 0", "none"),
+    ("pick F D 1-0", "none"),
+    ("pick F D 65536", "none"),
+    ("pick F D 1-", "none"),
+    ("pick F D 1-2-3", "none"),
+    ("pick F D -- -1", "none"),
+    ("pick F D 1 +2", "none"),
+    ("pick F D 1 --line 5", "none"),
+    ("join F D", "join F 1"),
+    ("join F D E D", "join F 3"),
+    ("join F", "none"),
+    ("--line 5 join F D", "none"),
 ];
 
 fn cases() -> &'static [Case] {
@@ -77,6 +96,8 @@ fn shown(rt: &impl Abort, alloc: Global, request: Option<Request<'_>>) -> String
         Some(Request::Set(s)) => format!(in alloc; "set {} {} {}", s.fonts, s.source, s.line),
         Some(Request::Places(s)) => format!(in alloc; "places {} {} {}", s.fonts, s.source, s.line),
         Some(Request::Read(f)) => format!(in alloc; "read {} {}", f.fonts, f.dvi),
+        Some(Request::Pick(p)) => format!(in alloc; "pick {} {} {}", p.fonts, p.dvi, p.pages.len()),
+        Some(Request::Join(j)) => format!(in alloc; "join {} {}", j.fonts, j.files.len()),
         Some(Request::Gen(s)) => format!(in alloc; "gen {} {}", s.seed, s.count),
     };
     text.expect(rt, "memory")

@@ -9,7 +9,8 @@ use Rattle.std.proofs.lemmas.Bool.{and_from, and_parts, ne_eqb}
 use Rattle.std.proofs.lemmas.Str.Parse.{digit_from_value, numerals_by_value, tells_all_ascii_digits}
 use Rattle.clap.specs.Words.{ReadsOne, Row, one_of}
 use Rattle.mt_scaled.specs.Number.{max_dimen}
-use Rattle.mt_words.specs.Request.{has_digits_alone, line_width, decimal_between}
+use Rattle.mt_words.specs.Decimal.{has_digits_alone, decimal_between}
+use Rattle.mt_words.specs.Request.{line_width}
 
 digits-same : (word : List ℕ) → list_all is_ascii_digit word ≡ all_ascii_digits word
 digits-same [] = refl

@@ -1,32 +1,20 @@
 -- What the words of a command line ask for (`request_of`).
 use Rattle.std.specs.Prelude.{ℕ, pos, List, [], ◌∷◌, length, Bool, true, false, ◌&&◌, nat_le, if◌then◌else◌, Option, Some, None, find, option_map, option_and_then, codes}
-use Rattle.std.specs.Char.{is_ascii_digit}
-use Rattle.std.specs.List.{list_all}
 use Rattle.std.specs.Str.{bytes_eq}
-use Rattle.std.specs.Str.Parse.{digits_value, without_leading_plus}
+use Rattle.std.specs.Str.Parse.{without_leading_plus}
 use Rattle.clap.specs.Words.{Row, all_of, first_of, one_of}
 use Rattle.clap.specs.declared.parser.matches.ValueSource.{ValueSource}
 use Rattle.clap.specs.declared.parser.matches.ValueSource.TheVariants.{CommandLine}
 use Rattle.mt_scaled.specs.Number.{max_dimen}
 use Rattle.mt_words.specs.CommandLine.{found_rows}
+use Rattle.mt_words.specs.Decimal.{decimal_between}
+use Rattle.mt_words.specs.Limits.{max_joined, max_ranges}
+use Rattle.mt_words.specs.Optional.{◌>>=◌}
+use Rattle.mt_words.specs.Ranges.{pages_of_ranges}
 use Rattle.mt_samples.specs.Limits.{max_count}
-use Rattle.mt_words.specs.RequestValues.{SourceValue, SampleValue}
+use Rattle.mt_words.specs.RequestValues.{DviFilesValue, DviPagesValue, DviValue, SourceValue, SampleValue}
 use Rattle.mt_words.specs.declared.request.Request.{Request}
-use Rattle.mt_words.specs.declared.request.Request.TheVariants.{Set, Places, Read, Gen}
-
--- the next step takes the value of the one before
-infixl 10 ◌>>=◌
-abbrev ◌>>=◌ : {A B : Type 0} → Option A → (A → Option B) → Option B
-step >>= next = option_and_then next step
-
--- one digit or more, and nothing else
-abbrev pub has_digits_alone : List ℕ → Bool
-has_digits_alone word = nat_le 1 (length word) && list_all is_ascii_digit word
-
--- the number of a numeral, from `low` to `high`
-abbrev pub decimal_between : ℕ → ℕ → List ℕ → Option ℕ
-decimal_between low high word =
-    if has_digits_alone word && (nat_le low (digits_value 10 word) && nat_le (digits_value 10 word) high) then Some (digits_value 10 word) else None
+use Rattle.mt_words.specs.declared.request.Request.TheVariants.{Set, Places, Read, Pick, Join, Gen}
 
 -- a seed and a count
 abbrev pub sample_of : List ℕ → List ℕ → Option SampleValue
@@ -56,16 +44,41 @@ has_line rows = is_command_line (line_source rows)
 abbrev pub source_of : List ℕ → List ℕ → List Row → Option SourceValue
 source_of fonts source rows = option_map (λ line. record { fonts = fonts; source = source; line = pos line }) (line_width rows)
 
+-- pages of a DVI file, by 1 to 64 ranges
+abbrev pub dvi_pages_of : List (List ℕ) → Option DviPagesValue
+dvi_pages_of (fonts ∷ dvi ∷ ranges) =
+    if nat_le 1 (length ranges) && nat_le (length ranges) max_ranges then
+    option_map (λ pages. record { fonts = fonts; dvi = dvi; pages = pages }) (pages_of_ranges ranges)
+    else None
+dvi_pages_of names = None
+
+-- 1 to 16 DVI files
+abbrev pub dvi_files_of : List (List ℕ) → Option DviFilesValue
+dvi_files_of (fonts ∷ files) =
+    if nat_le 1 (length files) && nat_le (length files) max_joined then Some (record { fonts = fonts; files = files })
+    else None
+dvi_files_of names = None
+
 -- the commands of two names each
-abbrev pub request_by : List ℕ → List (List ℕ) → List Row → Option Request
-request_by action (first ∷ second ∷ []) rows =
+abbrev pub pair_request : List ℕ → List ℕ → List ℕ → List Row → Option Request
+pair_request action first second rows =
     if bytes_eq action (codes "set") then option_map Set (source_of first second rows)
     else if bytes_eq action (codes "places") then option_map Places (source_of first second rows)
     else if has_line rows then None
     else if bytes_eq action (codes "read") then Some (Read (record { fonts = first; dvi = second }))
     else if bytes_eq action (codes "gen") then option_map Gen (sample_of first second)
     else None
-request_by action names rows = None
+
+abbrev pub names_request : List ℕ → List (List ℕ) → List Row → Option Request
+names_request action (first ∷ second ∷ []) rows = pair_request action first second rows
+names_request action names rows = None
+
+-- the commands of two names or more
+abbrev pub request_by : List ℕ → List (List ℕ) → List Row → Option Request
+request_by action names rows =
+    if bytes_eq action (codes "pick") then (if has_line rows then None else option_map Pick (dvi_pages_of names))
+    else if bytes_eq action (codes "join") then (if has_line rows then None else option_map Join (dvi_files_of names))
+    else names_request action names rows
 
 abbrev pub request_in : List Row → Option Request
 request_in rows = do

@@ -4,8 +4,10 @@
 mod command_line;
 mod forms;
 mod number;
+mod range;
 mod request;
 
 pub use command_line::DEFAULT_LINE;
 pub use forms::read_words;
-pub use request::{DviSource, Request, Sample, Source};
+pub use range::MAX_PAGE;
+pub use request::{DviFiles, DviPages, DviSource, Request, Sample, Source};

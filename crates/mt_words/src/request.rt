@@ -41,6 +41,46 @@ impl<'a> Model for DviSource<'a> {
     ghost view = { λ f. record { fonts = f.fonts.now; dvi = f.dvi.now } };
 }
 
+/// Pages of a DVI file, to be read with the fonts of a list.
+#[derive(Debug, Drop)]
+pub struct DviPages<'a> {
+    /// The name of the font list.
+    pub fonts: &'a str,
+    /// The name of the DVI file.
+    pub dvi: &'a str,
+    /// The numbers of the pages, from 1 on, in the order that is asked for; a page may stand twice.
+    pub pages: Vec<u32>,
+}
+
+impl<'a> Model for DviPages<'a> {
+    ghost use Rattle.mt_words.specs.RequestValues.{DviPagesValue};
+
+    ghost Value = { DviPagesValue };
+
+    ghost view = { λ p. record { fonts = p.fonts.now; dvi = p.dvi.now; pages = p.pages.items } };
+}
+
+/// DVI files to be read with the fonts of a list, 1 to 16.
+#[derive(Debug, Drop)]
+pub struct DviFiles<'a> {
+    /// The name of the font list.
+    pub fonts: &'a str,
+    /// The names of the DVI files.
+    pub files: Vec<&'a str>,
+}
+
+impl<'a> Model for DviFiles<'a> {
+    ghost use Rattle.std.specs.Prelude.{◌≤◌, length, map};
+    ghost use Rattle.mt_words.specs.Limits.{max_joined};
+    ghost use Rattle.mt_words.specs.RequestValues.{DviFilesValue};
+
+    ghost Value = { DviFilesValue };
+
+    ghost view = { λ j. record { fonts = j.fonts.now; files = map (λ name. name.now) j.files.items } };
+
+    ghost invariant = { λ j. (1 ≤ length j.files.items) × (length j.files.items ≤ max_joined) };
+}
+
 /// Formulas to be generated.
 #[derive(Debug, Drop)]
 pub struct Sample {
@@ -71,6 +111,10 @@ pub enum Request<'a> {
     Places(Source<'a>),
     /// `read FONTS DVI`: the places of the DVI file as a text.
     Read(DviSource<'a>),
+    /// `pick FONTS DVI RANGE..`: a DVI file of these pages of the DVI file.
+    Pick(DviPages<'a>),
+    /// `join FONTS DVI..`: a DVI file of all pages of the DVI files, in order.
+    Join(DviFiles<'a>),
     /// `gen SEED COUNT`: a summary of generated formulas.
     Gen(Sample),
 }
