@@ -1,7 +1,7 @@
 -- The numbers of statuses (`code_of`), and the cause that no error of a layer numbers.
 use Rattle.std.specs.Prelude.{ℕ}
 use Rattle.mt_status.specs.declared.status.Status.{Status}
-use Rattle.mt_status.specs.declared.status.Status.TheVariants.{Done, BadWords, ReadFault, TooLong, WriteFault, FontList, BadTfm, BadFamily, BadSource, BadFormula, Budget, MissingFamily, MissingChar, SmartLigature, Overflow, TooTall, TooDeep, TooMuch, BadDvi, OutOfMemory}
+use Rattle.mt_status.specs.declared.status.Status.TheVariants.{Done, BadWords, ReadFault, TooLong, WriteFault, FontList, BadTfm, BadFamily, BadSource, BadFormula, Budget, MissingFamily, MissingChar, SmartLigature, Overflow, TooTall, TooDeep, TooMuch, BadDvi, BadPick, MagClash, BadFile, OutOfMemory}
 
 -- the number that the process ends with
 abbrev pub code_of : Status → ℕ
@@ -24,6 +24,9 @@ code_of (TooTall n count) = 47
 code_of (TooDeep n token) = 48
 code_of (TooMuch kind count) = 49
 code_of (BadDvi offset cause) = 50
+code_of (BadPick page) = 51
+code_of (MagClash file) = 52
+code_of (BadFile file offset cause) = 53
 code_of OutOfMemory = 60
 
 -- the cause of a formula with a macro that lacks an argument

@@ -3,7 +3,7 @@ use Rattle.std.specs.Prelude.{◌≡◌, ℕ, Bool, List, [], ◌∷◌, false, 
 use Rattle.std.specs.Borrow.{Bor}
 use Rattle.std.specs.List.{concat, list_all, list_any}
 use Rattle.mt_status.specs.declared.status.Status.{Status}
-use Rattle.mt_status.specs.declared.status.Status.TheVariants.{Done, BadWords, ReadFault, TooLong, WriteFault, FontList, BadTfm, BadFamily, BadSource, BadFormula, Budget, MissingFamily, MissingChar, SmartLigature, Overflow, TooTall, TooDeep, TooMuch, BadDvi, OutOfMemory}
+use Rattle.mt_status.specs.declared.status.Status.TheVariants.{Done, BadWords, ReadFault, TooLong, WriteFault, FontList, BadTfm, BadFamily, BadSource, BadFormula, Budget, MissingFamily, MissingChar, SmartLigature, Overflow, TooTall, TooDeep, TooMuch, BadDvi, BadPick, MagClash, BadFile, OutOfMemory}
 
 -- a text in one line: without a line feed
 abbrev pub IsLine : List ℕ → Type 0
@@ -23,8 +23,9 @@ explained_whole text = concat (text ∷ codes "\n" ∷ [])
 unfoldable pub usage : List ℕ
 usage = concat (codes "usage: mathset [--line WIDTH] set FONTS SOURCE       as in: mathset set my.fonts my.tex > my.dvi\n"
     ∷ codes "       mathset [--line WIDTH] places FONTS SOURCE    the places of the glyphs and rules as text\n"
-    ∷ codes "       mathset read FONTS DVI, or mathset gen SEED COUNT\n"
-    ∷ codes "       WIDTH is the width of a line in scaled points; without it a line is 6.5in = 30785863" ∷ [])
+    ∷ codes "       mathset read FONTS DVI, mathset pick FONTS DVI RANGE.., mathset join FONTS DVI.., or mathset gen SEED COUNT\n"
+    ∷ codes "       WIDTH is the width of a line in scaled points; without it a line is 6.5in = 30785863\n"
+    ∷ codes "       RANGE is the number of a page, or of the first and the last of several, as 3 or 2-5" ∷ [])
 
 -- the place that the refusal tells, and a text about it
 abbrev pub explained : Status → List ℕ → List ℕ
@@ -47,4 +48,7 @@ explained (TooTall n count) text = explained_at (codes "formula ") (decimal n) t
 explained (TooDeep n token) text = explained_at (codes "formula ") (decimal n) text
 explained (TooMuch kind count) text = explained_whole text
 explained (BadDvi offset cause) text = explained_at (codes "dvi byte ") (decimal offset) text
+explained (BadPick page) text = explained_at (codes "page ") (decimal page) text
+explained (MagClash file) text = explained_at (codes "file ") (decimal file) text
+explained (BadFile file offset cause) text = explained_at (codes "file ") (decimal file) text
 explained OutOfMemory text = explained_whole text

@@ -6,14 +6,15 @@ use Rattle.mt_outside.specs.Counts.{IsSteady}
 use Rattle.mt_outside.specs.Appends.{Appends}
 use Rattle.mt_family.specs.Sizes.{index_of}
 use Rattle.mt_status.specs.declared.status.Much.{Much}
-use Rattle.mt_status.specs.declared.status.Much.TheVariants.{Pages, Places}
+use Rattle.mt_status.specs.declared.status.Much.TheVariants.{Pages, Places, Bytes}
 use Rattle.mt_status.specs.declared.status.Status.{Status}
-use Rattle.mt_status.specs.declared.status.Status.TheVariants.{Done, BadWords, ReadFault, TooLong, WriteFault, FontList, BadTfm, BadFamily, BadSource, BadFormula, Budget, MissingFamily, MissingChar, SmartLigature, Overflow, TooTall, TooDeep, TooMuch, BadDvi, OutOfMemory}
+use Rattle.mt_status.specs.declared.status.Status.TheVariants.{Done, BadWords, ReadFault, TooLong, WriteFault, FontList, BadTfm, BadFamily, BadSource, BadFormula, Budget, MissingFamily, MissingChar, SmartLigature, Overflow, TooTall, TooDeep, TooMuch, BadDvi, BadPick, MagClash, BadFile, OutOfMemory}
 
 -- what there is too much of
 abbrev pub much_text : Much → List ℕ
 much_text Pages = codes "pages"
 much_text Places = codes "places"
+much_text Bytes = codes "bytes"
 
 abbrev pub log_line : Status → List ℕ
 log_line Done = []
@@ -35,6 +36,9 @@ log_line (TooTall n count) = concat (codes "mathset: formula " ∷ decimal n ∷
 log_line (TooDeep n token) = concat (codes "mathset: formula " ∷ decimal n ∷ codes " token " ∷ decimal token ∷ codes " depth\n" ∷ [])
 log_line (TooMuch kind count) = concat (codes "mathset: too many " ∷ much_text kind ∷ codes " " ∷ decimal count ∷ codes "\n" ∷ [])
 log_line (BadDvi offset cause) = concat (codes "mathset: dvi byte " ∷ decimal offset ∷ codes " cause " ∷ decimal cause ∷ codes "\n" ∷ [])
+log_line (BadPick page) = concat (codes "mathset: no page " ∷ decimal page ∷ codes "\n" ∷ [])
+log_line (MagClash file) = concat (codes "mathset: file " ∷ decimal file ∷ codes " mag\n" ∷ [])
+log_line (BadFile file offset cause) = concat (codes "mathset: file " ∷ decimal file ∷ codes " byte " ∷ decimal offset ∷ codes " cause " ∷ decimal cause ∷ codes "\n" ∷ [])
 log_line OutOfMemory = codes "mathset: out of memory\n"
 
 -- A sink with these two meanings got these bytes, or a first part of them where its count rose.

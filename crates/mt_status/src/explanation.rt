@@ -13,10 +13,11 @@ use mt_outside::Sink;
 const USAGE: &str =
     "usage: mathset [--line WIDTH] set FONTS SOURCE       as in: mathset set my.fonts my.tex > my.dvi\n       \
      mathset [--line WIDTH] places FONTS SOURCE    the places of the glyphs and rules as text\n       \
-     mathset read FONTS DVI, or mathset gen SEED COUNT\n       \
-     WIDTH is the width of a line in scaled points; without it a line is 6.5in = 30785863";
+     mathset read FONTS DVI, mathset pick FONTS DVI RANGE.., mathset join FONTS DVI.., or mathset gen SEED COUNT\n       \
+     WIDTH is the width of a line in scaled points; without it a line is 6.5in = 30785863\n       \
+     RANGE is the number of a page, or of the first and the last of several, as 3 or 2-5";
 
-// How the program is called, in four lines.
+// How the program is called, in five lines.
 #[tactic(auto, unfolding(crate::specs::Explanation::usage))]
 fn usage() -> &'static str
     ensures { result.now ≡ usage }
@@ -28,8 +29,10 @@ fn too_much(kind: Much) -> &'static str
     ensures { IsLine result.now }
 {
     match kind {
-        Much::Pages => "at most 5,000 pages may be set",
+        Much::Pages =>
+            "at most 5,000 pages may be set, and a file of copied pages has at most 65,535",
         Much::Places => "at most 2,000,000 glyphs and rules may be placed",
+        Much::Bytes => "a DVI file may have at most 67,108,864 bytes",
     }
 }
 
@@ -68,7 +71,9 @@ fn explanation(status: &Status) -> &'static str
         Status::BadSource { cause, .. } => source_cause(*cause),
         Status::BadFormula { cause, .. } => token_cause(*cause),
         Status::TooMuch { kind, .. } => too_much(*kind),
-        Status::BadDvi { cause, .. } => dvi_cause(*cause),
+        Status::BadDvi { cause, .. } | Status::BadFile { cause, .. } => dvi_cause(*cause),
+        Status::BadPick { .. } => "the DVI file has no page of this number",
+        Status::MagClash { .. } => "its magnification is another than that of file 0",
         Status::OutOfMemory => "the run needs more memory than there is",
         _ => setting_cause(status),
     }
@@ -128,6 +133,10 @@ fn write_explained<L: Sink>(log: &mut L, status: &Status, text: &str)
         Status::BadDvi { offset, .. } => {
             write_at(log, b"dvi byte ", LogPart::Long(*offset), text)
         }
+        Status::BadPick { page } => write_at(log, b"page ", LogPart::Word(*page), text),
+        Status::MagClash { file } | Status::BadFile { file, .. } => {
+            write_at(log, b"file ", LogPart::Word(*file), text)
+        }
         Status::BadWords => write_whole(log, usage()),
         Status::WriteFault { .. } | Status::TooMuch { .. } | Status::OutOfMemory => write_whole(
             log, text,
@@ -135,7 +144,7 @@ fn write_explained<L: Sink>(log: &mut L, status: &Status, text: &str)
     }
 }
 
-/// Writes what a refusal means, in a line for a person, and nothing for `Done`; for `BadWords` four
+/// Writes what a refusal means, in a line for a person, and nothing for `Done`; for `BadWords` five
 /// lines on how the program is called. The name of a file stands in it as it is: one that has a line
 /// feed makes two lines. A fault of the stream changes nothing else. Line and texts are those of
 /// docs/FORMATS.md ("Explanations").

@@ -246,6 +246,7 @@ fn much_text(kind: Much) -> &'static [u8]
     match kind {
         Much::Pages => b"pages",
         Much::Places => b"places",
+        Much::Bytes => b"bytes",
     }
 }
 
@@ -264,9 +265,55 @@ fn write_too_many<L: Sink>(log: &mut L, kind: Much, count: u64)
     );
 }
 
+// A page that is not there.
+fn write_page<L: Sink>(log: &mut L, page: u32)
+    ensures { Gets L.written L.faults log.old log.new (log_line (Status.BadPick page)) }
+{
+    write_parts(
+        log,
+        &[
+            LogPart::Text(b"mathset: no page "),
+            LogPart::Word(page),
+            LogPart::Text(b"\n"),
+        ],
+    );
+}
+
+fn write_clash<L: Sink>(log: &mut L, file: u32)
+    ensures { Gets L.written L.faults log.old log.new (log_line (Status.MagClash file)) }
+{
+    write_parts(
+        log,
+        &[
+            LogPart::Text(b"mathset: file "),
+            LogPart::Word(file),
+            LogPart::Text(b" mag\n"),
+        ],
+    );
+}
+
+fn write_file_byte<L: Sink>(log: &mut L, file: u32, offset: u64, cause: u8)
+    ensures { Gets L.written L.faults log.old log.new
+        (log_line (Status.BadFile file offset cause)) }
+{
+    write_parts(
+        log,
+        &[
+            LogPart::Text(b"mathset: file "),
+            LogPart::Word(file),
+            LogPart::Text(b" byte "),
+            LogPart::Long(offset),
+            LogPart::Text(b" cause "),
+            LogPart::Byte(cause),
+            LogPart::Text(b"\n"),
+        ],
+    );
+}
+
 /// Writes the line of a refusal, and nothing for `Done`. A fault of the log changes nothing else.
 ///
-/// The name of a file stands in the line as it is: one that has a line feed makes two lines. It takes no memory, so that want of memory can be told too.
+/// The name of a file stands in the line as it is: one that has a line feed makes two lines. It takes no memory, so
+/// that want of memory can be told too.
 pub fn write_line<L: Sink>(log: &mut L, status: &Status)
     ensures { Gets L.written L.faults log.old log.new (log_line status.now) }
 {
@@ -298,6 +345,13 @@ pub fn write_line<L: Sink>(log: &mut L, status: &Status)
         Status::TooDeep { n, token } => write_depth(log, *n, *token),
         Status::TooMuch { kind, count } => write_too_many(log, *kind, *count),
         Status::BadDvi { offset, cause } => write_dvi_byte(log, *offset, *cause),
+        Status::BadPick { page } => write_page(log, *page),
+        Status::MagClash { file } => write_clash(log, *file),
+        Status::BadFile {
+            file,
+            offset,
+            cause,
+        } => write_file_byte(log, *file, *offset, *cause),
         Status::OutOfMemory => write_text(log, b"mathset: out of memory\n"),
     }
 }

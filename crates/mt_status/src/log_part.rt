@@ -16,7 +16,7 @@ pub enum LogPart<'a> {
     Text(&'a [u8]),
     /// A cause, a family or a character code.
     Byte(u8),
-    /// A line, a font, a formula or a place in a list of tokens.
+    /// A line, a font, a formula, a page, a file or a place in a list of tokens.
     Word(u32),
     /// An offset, or a count.
     Long(u64),

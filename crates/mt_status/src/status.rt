@@ -14,10 +14,12 @@ pub const MISSING_ARGUMENT: u8 = 21;
 /// Of what a run has too much.
 #[derive(Clone, Copy, Debug, PartialEq, Eq)]
 pub enum Much {
-    /// Pages, of which there may be 5,000.
+    /// Pages, of which 5,000 may be set, and a DVI file of copied pages may have 65,535.
     Pages,
     /// Places on the pages, of which there may be 2,000,000.
     Places,
+    /// Bytes of a DVI file of copied pages, of which there may be 67,108,864.
+    Bytes,
 }
 
 /// How a run ends: with its output written, or with a refusal.
@@ -113,13 +115,27 @@ pub enum Status {
         n: u32,
         token: u32,
     },
-    /// Too many pages, or places on them.
+    /// Too many pages, places on them, or bytes of a file.
     TooMuch {
         kind: Much,
         count: u64,
     },
     /// A byte of a DVI file, by its offset.
     BadDvi {
+        offset: u64,
+        cause: u8,
+    },
+    /// The number of a page that a DVI file does not have, 0 to 65535.
+    BadPick {
+        page: u32,
+    },
+    /// A DVI file, counted from 0, with another magnification than file 0.
+    MagClash {
+        file: u32,
+    },
+    /// A byte of one of several DVI files, by the file's number from 0 and the byte's offset.
+    BadFile {
+        file: u32,
         offset: u64,
         cause: u8,
     },
@@ -168,6 +184,9 @@ impl Status {
             Status::TooDeep { .. } => 48,
             Status::TooMuch { .. } => 49,
             Status::BadDvi { .. } => 50,
+            Status::BadPick { .. } => 51,
+            Status::MagClash { .. } => 52,
+            Status::BadFile { .. } => 53,
             Status::OutOfMemory => 60,
         }
     }
