@@ -1,0 +1,23 @@
+//! Pages of DVI files, picked and joined.
+#![tactic(auto)]
+
+mod append;
+mod copies;
+mod copy;
+mod edges;
+mod emit;
+mod error;
+mod open;
+mod page;
+mod select;
+mod selected;
+mod source;
+#[cfg(test)]
+mod tests;
+mod totals;
+mod write;
+
+pub use append::append_files;
+pub use error::OpError;
+pub use select::select_pages;
+pub use source::FileBytes;
