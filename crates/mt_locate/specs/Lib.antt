@@ -4,3 +4,5 @@ pub mod Positions
 pub mod Windows
 -- places in a source, and the byte at which its tokens end
 pub mod Places
+-- sources with too many places, and what of one stands before them
+pub mod PlaceLimit

@@ -1,18 +1,21 @@
 //! What a refusal means and where it stands, for a person: the lines that main writes below the log's.
-ghost use Rattle.std.specs.Prelude.{◌≡◌};
+ghost use Rattle.std.specs.Prelude.{◌≡◌, IfOk, IfSome};
 ghost use Rattle.mt_status.specs.declared.status.Status.TheVariants.{Done};
+ghost use Rattle.mt_locate.specs.Places.{IsPlaceIn};
 
+use crate::dvi_files::explain_dvi;
 use crate::excerpt::{push_excerpt, push_place};
 use crate::files::{fetched, fetched_list};
 use crate::font_lines::explain_fonts;
 use crate::matter::{family_of, push_font_words};
+use crate::place_limit::locate_too_many;
 use crate::places::{Located, locate};
 use crate::source_matter::push_matter;
 use crate::text::push_texts;
-use mt_family::{FontList, Size};
+use mt_family::{FontList, FontSet, Size};
 use mt_outside::{Cabinet, Sink, write_all};
 use mt_scaled::{Bytes, Items};
-use mt_status::{Status, write_explanation};
+use mt_status::{Much, Status, write_explanation};
 use mt_token::MAX_SOURCE;
 use mt_words::{Request, Source, read_words};
 use std::alloc::{AllocError, Global};
@@ -34,17 +37,41 @@ fn push_call(out: &mut Vec<u8>, file: &str, located: &Located) -> Result<(), All
     push_texts(out, &[b"\n"])
 }
 
+// The place in a source. Where it is to have too many places it is set again, if its fonts are given.
+fn located_in(
+    alloc: Global,
+    words: &Source<'_>,
+    source: &[u8],
+    status: &Status,
+    fonts: Option<&FontSet>,
+) -> Result<Option<Located>, AllocError>
+    ensures is { IfOk result (λ found. IfSome found (λ located. IsPlaceIn source.now located.place)) }
+{
+    match (status, fonts) {
+        (
+            Status::TooMuch {
+                kind: Much::Places,
+                ..
+            },
+            Some(fonts),
+        ) => locate_too_many(alloc, fonts, words.line, source),
+        _ => locate(alloc, source, status),
+    }
+}
+
 // The lines for a place in a source.
 fn source_lines(
     alloc: Global,
-    file: &str,
+    words: &Source<'_>,
     source: &[u8],
     status: &Status,
+    fonts: Option<&FontSet>,
     list: Option<&FontList>,
 ) -> Result<Option<Bytes>, AllocError> {
-    let Some(located) = locate(alloc, source, status)? else {
+    let Some(located) = located_in(alloc, words, source, status, fonts)? else {
         return Ok(None);
     };
+    let file = words.source;
     let mut out = Vec::new(alloc);
     push_place(&mut out, file, located.place)?;
     push_texts(&mut out, &[b": "])?;
@@ -93,6 +120,7 @@ fn explain_source<C: Cabinet>(
     alloc: Global,
     words: &Source<'_>,
     status: &Status,
+    fonts: Option<&FontSet>,
     cabinet: &mut C,
 ) -> Result<Option<Bytes>, AllocError>
     ensures holds { C.holds cabinet.new ≡ C.holds cabinet.old }
@@ -106,11 +134,31 @@ fn explain_source<C: Cabinet>(
     };
     source_lines(
         alloc,
-        words.source,
+        words,
         source.as_slice(),
         status,
+        fonts,
         list.as_ref(),
     )
+}
+
+// Of DVI files the first one stands beside the font list.
+fn explain_files<C: Cabinet>(
+    alloc: Global,
+    fonts: &str,
+    files: &[&str],
+    status: &Status,
+    cabinet: &mut C,
+) -> Result<Option<Bytes>, AllocError>
+    ensures holds { C.holds cabinet.new ≡ C.holds cabinet.old }
+{
+    if let Some(text) = explain_dvi(alloc, files, status)? {
+        return Ok(Some(text));
+    }
+    match files.first() {
+        Some(file) => explain_fonts(alloc, fonts, *file, status, cabinet),
+        None => Ok(None),
+    }
 }
 
 // What is said of a refusal beyond its explanation; `None` where nothing is.
@@ -118,6 +166,7 @@ fn explained<C: Cabinet>(
     alloc: Global,
     words: &[String],
     status: &Status,
+    fonts: Option<&FontSet>,
     cabinet: &mut C,
 ) -> Result<Option<Bytes>, AllocError>
     ensures holds { C.holds cabinet.new ≡ C.holds cabinet.old }
@@ -126,22 +175,34 @@ fn explained<C: Cabinet>(
         Some(Request::Set(words)) | Some(Request::Places(words)) => {
             match explain_fonts(alloc, words.fonts, words.source, status, cabinet)? {
                 Some(text) => Ok(Some(text)),
-                None => explain_source(alloc, &words, status, cabinet),
+                None => explain_source(alloc, &words, status, fonts, cabinet),
             }
         }
-        Some(Request::Read(words)) => explain_fonts(alloc, words.fonts, words.dvi, status, cabinet),
+        Some(Request::Read(words)) => {
+            explain_files(alloc, words.fonts, &[words.dvi], status, cabinet)
+        }
+        Some(Request::Pick(words)) => {
+            explain_files(alloc, words.fonts, &[words.dvi], status, cabinet)
+        }
+        Some(Request::Join(words)) => {
+            explain_files(alloc, words.fonts, words.files.as_slice(), status, cabinet)
+        }
         _ => Ok(None),
     }
 }
 
 /// Writes what a refusal means and where it stands, for a person, and nothing for `Done`; docs/FORMATS.md has the
 /// lines ("Explanations" and "Places"). The font list, the source or the font that the status is of is fetched once
-/// more. Where it cannot be had, or does not have what the status tells, these are the lines of `write_explanation`. A
-/// fault of the stream changes nothing else.
+/// more, and of a DVI file the name is told. Where a file cannot be had, or does not have what the status tells, these
+/// are the lines of `write_explanation`. A fault of the stream changes nothing else.
+///
+/// `fonts` are those of the words. They are wanted only where a source has too many places, to find the formula at
+/// which it has; without them no place is told there.
 pub fn write_located<C: Cabinet, L: Sink>(
     alloc: Global,
     words: &[String],
     status: &Status,
+    fonts: Option<&FontSet>,
     cabinet: &mut C,
     log: &mut L,
 )
@@ -152,7 +213,7 @@ pub fn write_located<C: Cabinet, L: Sink>(
     if let Status::Done = status {
         return;
     }
-    match explained(alloc, words, status, cabinet) {
+    match explained(alloc, words, status, fonts, cabinet) {
         Ok(Some(text)) => {
             let _ = write_all(log, text.as_slice());
         }

@@ -2,6 +2,7 @@
 //! is refused. [`write_located`] writes what the program says below the line of its log.
 #![tactic(auto)]
 
+mod dvi_files;
 mod excerpt;
 mod explain;
 mod fault;
@@ -11,6 +12,7 @@ mod fonts;
 mod matter;
 mod missing;
 mod names;
+mod place_limit;
 mod places;
 mod position;
 mod regular_files;
@@ -20,6 +22,7 @@ mod tokens;
 mod window;
 
 pub use explain::write_located;
+pub use place_limit::locate_too_many;
 pub use places::{Located, MacroCall, Place, locate, place_at};
 pub use position::{Position, line_around, position_at};
 pub use regular_files::RegularFiles;

@@ -60,7 +60,8 @@ pub fn place_at(source: &[u8], offset: usize) -> Option<Place>
     })
 }
 
-fn place_alone(source: &[u8], offset: usize) -> Option<Located>
+/// The place of an offset, where no single token is at fault; `None` past the end.
+pub fn place_alone(source: &[u8], offset: usize) -> Option<Located>
     ensures is { IfSome result (λ located. IsPlaceIn source.now located.place) }
     ensures at { option_map (λ located. located.place.offset) result ≡ offset_within source.now offset }
 {
@@ -271,7 +272,7 @@ fn locate_missing(
 }
 
 /// Where a refusal stands in the source of which it tells. A byte of the source and a token of the source stand where
-/// they stand; a token of a formula after expansion, as docs/FORMATS.md says ("Explanations"); what is wrong with a
+/// they stand; a token of a formula after expansion, as docs/FORMATS.md says ("Places"); what is wrong with a
 /// formula as a whole, and a page too many, at the first `$` of the formula. `None` where the status tells no place in
 /// a source, or where this source does not have what it tells.
 ///
