@@ -12,3 +12,5 @@ pub mod NoMemory
 mod FormLemmas
 -- steps that set a source, and those that make a product of it
 mod MadeLemmas
+-- files that are fetched one after another, and the pages that are copied of them
+mod CopyLemmas

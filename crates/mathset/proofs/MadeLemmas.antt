@@ -10,7 +10,7 @@ use Rattle.mathset.specs.Samples.{summed}
 use Rattle.mathset.specs.declared.typesetting.Form.{Form}
 use Rattle.mathset.specs.declared.typesetting.Form.TheVariants.{File as AsFile, Listing as AsListing, Summary as AsSummary}
 use Rattle.mathset.specs.inner.Forms.{IsPutOut, StepPutsOut}
-use Rattle.mathset.specs.inner.Steps.{CabinetValue, StepLeaves, StepMakes, text_of}
+use Rattle.mathset.specs.inner.Steps.{CabinetValue, IsProduct, StepLeaves, StepMakes, text_of}
 use Rattle.mathset.proofs.StepLemmas.{steady_pure, step_err, step_pure, step_then}
 use Rattle.mt_status.specs.Origins.{IsPure, refusal_origin}
 use Rattle.mt_status.specs.declared.status.Status.{Status}
@@ -68,3 +68,19 @@ summary_made before now steps formulas (Ok bytes) files told none still put =
     ap (summed formulas) is ∙ ap (λ (b : List ℕ). Ok (Text b)) (sym put.made)
 summary_made before now steps formulas (Err status) files told none still step =
     pure_by (refusal_origin status) _ _ (λ same. ap (summed formulas) same) (steady_pure before now steps (Err status) files told none still step)
+
+-- a product that is made of no file of the cabinet
+product_made : (v : CabinetValue) (answer : Result Product Status) (result : Result (List ℕ) Status) → IsProduct answer result → StepMakes v v (λ files. plain answer) result
+product_made v answer (Ok bytes) is = record { product = is.product; made = is.made; lean = is.lean; step = step_pure v answer (Ok is.product) is.is }
+product_made v answer (Err status) is = step_pure v answer (Err status) is
+
+-- a step before those that make a product
+pub made_then : {T : Type 0} (before mid now : CabinetValue) (first : List Held → Outcome T) (x : T) (next : T → List Held → Outcome Product) (result : Result (List ℕ) Status)
+    → StepLeaves before mid first (Ok x) → StepMakes mid now (next x) result → StepMakes before now (λ files. first files >>= (λ y. next y files)) result
+made_then before mid now first x next (Ok bytes) one two = record { product = two.product; made = two.made; lean = two.lean; step = step_then before mid now first x next (Ok two.product) one two.step }
+made_then before mid now first x next (Err status) one two = step_then before mid now first x next (Err status) one two
+
+-- a step before a product that is made of no other file
+pub made_of : {T : Type 0} (before mid : CabinetValue) (first : List Held → Outcome T) (x : T) (answer : T → Result Product Status) (result : Result (List ℕ) Status)
+    → StepLeaves before mid first (Ok x) → IsProduct (answer x) result → StepMakes before mid (λ files. first files >>= (λ y. plain (answer y))) result
+made_of before mid first x answer result one is = made_then before mid mid first x (λ y files. plain (answer y)) result one (product_made mid (answer x) result is)

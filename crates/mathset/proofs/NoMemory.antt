@@ -13,6 +13,8 @@ use Rattle.mt_family.specs.SetValue.{SetValue}
 use Rattle.mt_family.specs.declared.list.FontLine.{FontLine}
 use Rattle.mt_status.specs.FontRefusals.{list_by}
 use Rattle.mathset.specs.Answer.{answer, steps_by}
+use Rattle.mt_dviops.specs.Copied.{Every, Numbered, Refusal, BadFile, PageOutOfRange, MagClash, TooManyPages, TooManyPlaces, TooLong as TooManyBytes, copied}
+use Rattle.mathset.specs.CopySteps.{copy_by, files_step, join_refusal, join_step, joined_files, pick_refusal, pick_step, picked}
 use Rattle.mathset.specs.DviSteps.{dvi_by, dvi_listing, dvi_step}
 use Rattle.mathset.specs.FontSteps.{font_set_of, font_set_step, font_step, fonts_step, line_font, list_step, loaded_step, tfm_name}
 use Rattle.mt_family.specs.Limits.{max_list_bytes}
@@ -22,13 +24,13 @@ use Rattle.mt_pages.specs.Listing.{listing}
 use Rattle.mathset.specs.Outcome.{Outcome, outcome_after, plain, ◌>>=◌}
 use Rattle.mathset.specs.Reads.{file_of}
 use Rattle.mt_words.specs.Request.{request_of}
-use Rattle.mt_words.specs.RequestValues.{DviValue, SampleValue, SourceValue}
+use Rattle.mt_words.specs.RequestValues.{DviFilesValue, DviPagesValue, DviValue, SampleValue, SourceValue}
 use Rattle.mathset.specs.Samples.{sample_files, sample_words, summed}
-use Rattle.mathset.specs.Steps.{gen_steps, places_steps, read_steps, request_steps, set_steps, source_step, typeset_steps}
+use Rattle.mathset.specs.Steps.{gen_steps, join_steps, pick_steps, places_steps, read_steps, request_steps, set_steps, source_step, typeset_steps}
 use Rattle.mt_pages.specs.Typeset.{TypesetValue, typeset_of}
-use Rattle.mathset.specs.Product.{File, Text}
+use Rattle.mathset.specs.Product.{CopyValue, File, Text}
 use Rattle.mt_words.specs.declared.request.Request.{Request}
-use Rattle.mt_words.specs.declared.request.Request.TheVariants.{Set, Places, Read, Gen}
+use Rattle.mt_words.specs.declared.request.Request.TheVariants.{Set, Places, Read, Pick, Join, Gen}
 use Rattle.mt_status.specs.declared.status.Status.{Status}
 use Rattle.mt_status.specs.declared.status.Status.TheVariants.{OutOfMemory, TooLong}
 use Rattle.mt_status.proofs.Avoiding.{Avoids, avoids_err, avoids_if}
@@ -108,6 +110,47 @@ dvi_step_avoids name fonts files = then_avoids (file_of name max_dvi files) (λ 
 read_steps_avoid : (words : DviValue) (files : List Held) → StepAvoids (read_steps words files)
 read_steps_avoid words files = then_avoids (font_set_step words.fonts files) (λ fonts. dvi_step words.dvi fonts files) (font_set_step_avoids words.fonts files) (λ fonts is. dvi_step_avoids words.dvi fonts files)
 
+join_refusal_avoids : (refusal : Refusal) → join_refusal refusal ≡ OutOfMemory → ⊥
+join_refusal_avoids (BadFile file fault) = λ same. cc
+join_refusal_avoids (PageOutOfRange page) = λ same. cc
+join_refusal_avoids (MagClash file) = λ same. cc
+join_refusal_avoids (TooManyPages count) = λ same. cc
+join_refusal_avoids (TooManyPlaces count) = λ same. cc
+join_refusal_avoids (TooManyBytes count) = λ same. cc
+
+pick_refusal_avoids : (refusal : Refusal) → pick_refusal refusal ≡ OutOfMemory → ⊥
+pick_refusal_avoids (BadFile file fault) = λ same. cc
+pick_refusal_avoids (PageOutOfRange page) = λ same. cc
+pick_refusal_avoids (MagClash file) = λ same. cc
+pick_refusal_avoids (TooManyPages count) = λ same. cc
+pick_refusal_avoids (TooManyPlaces count) = λ same. cc
+pick_refusal_avoids (TooManyBytes count) = λ same. cc
+
+copy_avoids : (refused : Refusal → Status) → ((refusal : Refusal) → refused refusal ≡ OutOfMemory → ⊥) → (copy : CopyValue) (answer : Result (List ℕ) Refusal) → Avoids OutOfMemory (copy_by refused copy answer)
+copy_avoids refused never copy (Ok bytes) = λ same. cc
+copy_avoids refused never copy (Err refusal) = avoids_err OutOfMemory (refused refusal) (never refusal)
+
+pick_step_avoids : (name pages : List ℕ) (fonts : SetValue) (files : List Held) → StepAvoids (pick_step name pages fonts files)
+pick_step_avoids name pages fonts files =
+    then_avoids (file_of name max_dvi files) (λ bytes. plain (picked pages fonts bytes)) (file_avoids name max_dvi files)
+    (λ bytes is. copy_avoids pick_refusal pick_refusal_avoids (record { fonts = fonts; files = bytes ∷ []; choice = Numbered pages }) (copied fonts (bytes ∷ []) (Numbered pages)))
+
+pick_steps_avoid : (words : DviPagesValue) (files : List Held) → StepAvoids (pick_steps words files)
+pick_steps_avoid words files = then_avoids (font_set_step words.fonts files) (λ fonts. pick_step words.dvi words.pages fonts files) (font_set_step_avoids words.fonts files) (λ fonts is. pick_step_avoids words.dvi words.pages fonts files)
+
+files_step_avoids : (fetched names : List (List ℕ)) (files : List Held) → StepAvoids (files_step fetched names files)
+files_step_avoids fetched [] files = λ same. cc
+files_step_avoids fetched (name ∷ names) files =
+    then_avoids (file_of name max_dvi files) (λ bytes. files_step (fetched ++ bytes ∷ []) names files) (file_avoids name max_dvi files) (λ bytes is. files_step_avoids (fetched ++ bytes ∷ []) names files)
+
+join_step_avoids : (names : List (List ℕ)) (fonts : SetValue) (files : List Held) → StepAvoids (join_step names fonts files)
+join_step_avoids names fonts files =
+    then_avoids (files_step [] names files) (λ fetched. plain (joined_files fonts fetched)) (files_step_avoids [] names files)
+    (λ fetched is. copy_avoids join_refusal join_refusal_avoids (record { fonts = fonts; files = fetched; choice = Every }) (copied fonts fetched Every))
+
+join_steps_avoid : (words : DviFilesValue) (files : List Held) → StepAvoids (join_steps words files)
+join_steps_avoid words files = then_avoids (font_set_step words.fonts files) (λ fonts. join_step words.files fonts files) (font_set_step_avoids words.fonts files) (λ fonts is. join_step_avoids words.files fonts files)
+
 summed_avoids : (count : ℕ) (typeset : Result TypesetValue Status) → Avoids OutOfMemory typeset → Avoids OutOfMemory (summed count typeset)
 summed_avoids count (Ok typeset) avoids = λ same. cc
 summed_avoids count (Err status) avoids = avoids_err OutOfMemory status (λ same. avoids (ap Err same))
@@ -120,6 +163,8 @@ request_steps_avoid : (request : Request) (files : List Held) → StepAvoids (re
 request_steps_avoid (Set words) files = set_steps_avoid words files
 request_steps_avoid (Places words) files = places_steps_avoid words files
 request_steps_avoid (Read words) files = read_steps_avoid words files
+request_steps_avoid (Pick words) files = pick_steps_avoid words files
+request_steps_avoid (Join words) files = join_steps_avoid words files
 request_steps_avoid (Gen words) files = gen_steps_avoid words files
 
 steps_by_avoid : (request : Option Request) (files : List Held) → StepAvoids (steps_by request files)

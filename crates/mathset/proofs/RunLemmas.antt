@@ -18,17 +18,17 @@ use Rattle.mt_pages.specs.Listing.{listing}
 use Rattle.mathset.specs.Reads.{file_of}
 use Rattle.mathset.specs.Outcome.{Outcome, outcome_after, plain}
 use Rattle.mt_words.specs.Request.{request_of}
-use Rattle.mt_words.specs.RequestValues.{DviValue, SourceValue}
-use Rattle.mathset.specs.Steps.{read_steps, typeset_steps}
+use Rattle.mt_words.specs.RequestValues.{DviFilesValue, DviPagesValue, DviValue, SourceValue}
+use Rattle.mathset.specs.Steps.{join_steps, pick_steps, read_steps, typeset_steps}
 use Rattle.mt_pages.specs.Typeset.{TypesetValue}
 use Rattle.mathset.specs.Ends.{EndsAs, GotLean, GotPart, GotWhole, IsQuiet, IsToldRefusal, ListsPages, SetsAs, WritesLean, WritesWhole}
 use Rattle.mathset.specs.inner.Runs.{EndLeaves, IsRun, LeavesOutput, WritesWholeLean}
 use Rattle.mathset.specs.inner.Steps.{IsMade, IsStep}
 use Rattle.mathset.specs.Product.{Product, File, Text}
 use Rattle.mt_words.specs.declared.request.Request.{Request}
-use Rattle.mt_words.specs.declared.request.Request.TheVariants.{Read, Set}
+use Rattle.mt_words.specs.declared.request.Request.TheVariants.{Join, Pick, Read, Set}
 use Rattle.mt_status.specs.declared.status.Status.{Status}
-use Rattle.mt_status.specs.declared.status.Status.TheVariants.{Done, BadWords, ReadFault, TooLong, WriteFault, FontList, BadTfm, BadFamily, BadSource, BadFormula, Budget, MissingFamily, MissingChar, SmartLigature, Overflow, TooTall, TooDeep, TooMuch, BadDvi, OutOfMemory}
+use Rattle.mt_status.specs.declared.status.Status.TheVariants.{Done, BadWords, ReadFault, TooLong, WriteFault, FontList, BadTfm, BadFamily, BadSource, BadFormula, Budget, MissingFamily, MissingChar, SmartLigature, Overflow, TooTall, TooDeep, TooMuch, BadDvi, BadPick, MagClash, BadFile, OutOfMemory}
 
 -- a status is Done, a fault, want of memory, or a refusal that the words and the files give
 by_status : (P : Status → Type 0) → P Done → ((name : List ℕ) → P (ReadFault name)) → ((count : ℕ) → P (WriteFault count)) → P OutOfMemory
@@ -52,6 +52,9 @@ by_status P done lost cut memory told (TooTall n count) = told (TooTall n count)
 by_status P done lost cut memory told (TooDeep n token) = told (TooDeep n token) tt tt
 by_status P done lost cut memory told (TooMuch kind count) = told (TooMuch kind count) tt tt
 by_status P done lost cut memory told (BadDvi offset cause) = told (BadDvi offset cause) tt tt
+by_status P done lost cut memory told (BadPick page) = told (BadPick page) tt tt
+by_status P done lost cut memory told (MagClash file) = told (MagClash file) tt tt
+by_status P done lost cut memory told (BadFile file offset cause) = told (BadFile file offset cause) tt tt
 by_status P done lost cut memory told OutOfMemory = memory
 
 not_below : (before now : ℕ) → now ≡ before → before < now → ⊥
@@ -237,6 +240,18 @@ sets words w files before now status is (inl memory) = inl memory
 sets words w files before now status is (inr ends) =
     inr (sets_by (typeset_steps w files).result (typeset_steps w files).asked before now status
     (subst (λ (r : Option Request). EndsAs (steps_by r files).result before now status) is ends))
+
+-- words that ask for pages to be picked
+pub picks : (words : List (List ℕ)) (w : DviPagesValue) (files : List Held) (before now : Option (List ℕ)) (status : Status) → request_of words ≡ Some (Pick w)
+    → (status ≡ OutOfMemory) ⊎ EndsAs (steps words files).result before now status → (status ≡ OutOfMemory) ⊎ EndsAs (pick_steps w files).result before now status
+picks words w files before now status is (inl memory) = inl memory
+picks words w files before now status is (inr ends) = inr (subst (λ (r : Option Request). EndsAs (steps_by r files).result before now status) is ends)
+
+-- words that ask for files to be joined
+pub joins : (words : List (List ℕ)) (w : DviFilesValue) (files : List Held) (before now : Option (List ℕ)) (status : Status) → request_of words ≡ Some (Join w)
+    → (status ≡ OutOfMemory) ⊎ EndsAs (steps words files).result before now status → (status ≡ OutOfMemory) ⊎ EndsAs (join_steps w files).result before now status
+joins words w files before now status is (inl memory) = inl memory
+joins words w files before now status is (inr ends) = inr (subst (λ (r : Option Request). EndsAs (steps_by r files).result before now status) is ends)
 
 within_limit : (b : Bool) (name bytes : List ℕ) → b ≡ false → (if b then Err (TooLong name) else (let r : Result (List ℕ) Status = Ok bytes in r)) ≡ Ok bytes
 within_limit true name bytes is = absurd (cc)

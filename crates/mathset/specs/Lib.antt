@@ -2,7 +2,7 @@
 pub mod Answer
 -- how a run ends, and what its output got
 pub mod Ends
--- a DVI file of pages, or a text
+-- a DVI file of pages that are set or copied, or a text
 pub mod Product
 -- the steps of a command
 pub mod Steps
@@ -16,6 +16,8 @@ pub mod Limits
 pub mod FontSteps
 -- the step that reads a DVI file
 pub mod DviSteps
+-- the steps that copy pages of DVI files
+pub mod CopySteps
 -- what `gen` sets
 pub mod Samples
 -- of steps and runs: only inner contracts cite it

@@ -3,17 +3,18 @@ use Rattle.std.specs.Prelude.{ℕ, ℤ, List, Ok}
 use Rattle.mt_outside.specs.declared.files.Held.{Held}
 use Rattle.mt_family.specs.SetValue.{SetValue}
 use Rattle.mt_token.specs.Tokens.{max_source}
+use Rattle.mathset.specs.CopySteps.{join_step, pick_step}
 use Rattle.mathset.specs.DviSteps.{dvi_step}
 use Rattle.mathset.specs.FontSteps.{font_set_step}
 use Rattle.mt_pages.specs.Listing.{listing}
 use Rattle.mathset.specs.Outcome.{Outcome, plain, ◌>>=◌}
 use Rattle.mathset.specs.Reads.{file_of}
-use Rattle.mt_words.specs.RequestValues.{SourceValue, DviValue, SampleValue}
+use Rattle.mt_words.specs.RequestValues.{SourceValue, DviValue, DviPagesValue, DviFilesValue, SampleValue}
 use Rattle.mathset.specs.Samples.{sample_files, sample_words, summed}
 use Rattle.mt_pages.specs.Typeset.{TypesetValue, typeset_of}
 use Rattle.mathset.specs.Product.{Product, File, Text}
 use Rattle.mt_words.specs.declared.request.Request.{Request}
-use Rattle.mt_words.specs.declared.request.Request.TheVariants.{Set, Places, Read, Gen}
+use Rattle.mt_words.specs.declared.request.Request.TheVariants.{Set, Places, Read, Pick, Join, Gen}
 
 -- the source is fetched and set
 abbrev pub source_step : List ℕ → ℤ → SetValue → List Held → Outcome TypesetValue
@@ -45,6 +46,18 @@ read_steps words files = do
   fonts ← font_set_step words.fonts files
   dvi_step words.dvi fonts files
 
+-- `pick`: the product is the DVI file of chosen pages of a DVI file
+abbrev pub pick_steps : DviPagesValue → List Held → Outcome Product
+pick_steps words files = do
+  fonts ← font_set_step words.fonts files
+  pick_step words.dvi words.pages fonts files
+
+-- `join`: the product is the DVI file of all pages of DVI files
+abbrev pub join_steps : DviFilesValue → List Held → Outcome Product
+join_steps words files = do
+  fonts ← font_set_step words.fonts files
+  join_step words.files fonts files
+
 -- `gen`: the product is the summary of a generated source, set with the toy fonts. No file is asked for.
 abbrev pub gen_steps : SampleValue → List Held → Outcome Product
 gen_steps words files = plain (summed words.count (typeset_steps sample_words (sample_files words.seed words.count)).result)
@@ -53,4 +66,6 @@ abbrev pub request_steps : Request → List Held → Outcome Product
 request_steps (Set words) files = set_steps words files
 request_steps (Places words) files = places_steps words files
 request_steps (Read words) files = read_steps words files
+request_steps (Pick words) files = pick_steps words files
+request_steps (Join words) files = join_steps words files
 request_steps (Gen words) files = gen_steps words files

@@ -2,6 +2,7 @@
 ghost use Rattle.mathset.specs.inner.Steps.{IsMade};
 ghost use Rattle.mathset.specs.Steps.{places_steps, request_steps, set_steps};
 
+use crate::copies::{join, pick};
 use crate::dvi::read;
 use crate::sample::generated_summary;
 use crate::typesetting::{Form, typeset};
@@ -44,6 +45,8 @@ pub fn perform<C: Cabinet>(
         Request::Set(words) => set(alloc, words, cabinet),
         Request::Places(words) => places(alloc, words, cabinet),
         Request::Read(words) => read(alloc, words, cabinet),
+        Request::Pick(words) => pick(alloc, words, cabinet),
+        Request::Join(words) => join(alloc, words, cabinet),
         Request::Gen(sample) => generated_summary(alloc, sample),
     }
 }

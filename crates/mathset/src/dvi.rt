@@ -18,8 +18,8 @@ use mt_status::Status;
 use mt_words::DviSource;
 use std::alloc::Global;
 
-// A DVI file that is refused.
-fn dvi_refusal(error: DviError) -> Status
+/// The status of a DVI file that is refused.
+pub fn dvi_refusal(error: DviError) -> Status
     ensures told { IfSome (fault_of error) (λ fault. result ≡ dvi_refusal fault) }
     ensures memory { fault_of error ≡ None → result ≡ Status.OutOfMemory }
 {

@@ -4,7 +4,7 @@ use Rattle.mt_outside.specs.Counts.{Rose}
 use Rattle.mt_outside.specs.declared.files.Held.{Held}
 use Rattle.mt_outside.specs.declared.cabinet.FetchError.{FetchError}
 use Rattle.mt_outside.specs.declared.cabinet.FetchError.TheVariants.{Failed, TooLong as FileTooLong, OutOfMemory as NoFetchMemory}
-use Rattle.mt_status.specs.Origins.{Origin, Told, Lost, Memory, Never, origin_of}
+use Rattle.mt_status.specs.Origins.{IsPure, Origin, Told, Lost, Memory, Never, origin_of}
 use Rattle.mathset.specs.Outcome.{Outcome}
 use Rattle.mathset.specs.Product.{IsLean, Makes, Product, Text}
 use Rattle.mt_status.specs.declared.status.Status.{Status}
@@ -60,3 +60,14 @@ StepMakes before now steps (Err status) = StepLeaves before now steps (Err statu
 abbrev pub IsMade : {C : Type 0} → (C → Option (List Held)) → (C → ℕ) → (C → Option (List ℕ)) → C → C → (List Held → Outcome Product) → Result (List ℕ) Status → Type 0
 IsMade holds faults lost before now steps result =
     StepMakes (record { holds = holds before; faults = faults before; lost = lost before }) (record { holds = holds now; faults = faults now; lost = lost now }) steps result
+
+-- the bytes are the product that is answered, and lean; or the refusal is the answer, or memory was wanting
+pub record HasProduct (answer : Result Product Status) (bytes : List ℕ) : Type 0 where
+  pub product : Product
+  pub is : answer ≡ Ok product
+  pub made : Makes product bytes
+  pub lean : IsLean product bytes
+
+abbrev pub IsProduct : Result Product Status → Result (List ℕ) Status → Type 0
+IsProduct answer (Ok bytes) = HasProduct answer bytes
+IsProduct answer (Err status) = IsPure answer (Err status)

@@ -2,7 +2,7 @@
 use crate::tests::memory::{READ, end_of};
 
 // The file of one letter of 10pt: pre, a bop, its page, post, and what stands after it.
-const FILE: &[u8] = b"\xf7\x02\x01\x83\x92\xc0\x1c;\0\0\0\0\x03\xe8\0\
+pub(crate) const FILE: &[u8] = b"\xf7\x02\x01\x83\x92\xc0\x1c;\0\0\0\0\x03\xe8\0\
       \x8b\0\0\0\x01\0\0\0\0\0\0\0\0\0\0\0\0\0\0\0\0\0\0\0\0\0\0\0\0\0\0\0\0\0\0\0\0\0\0\0\0\xff\xff\xff\xff\
       \xf3\x03\0\0\0\0\0\x0a\0\0\0\x0a\0\0\0\x04toym\xae\xa0\0\x05\0\0a\x8c\
       \xf8\0\0\0\x0f\x01\x83\x92\xc0\x1c;\0\0\0\0\x03\xe8\0\x05\0\0\0\x05\0\0\0\0\0\x01\

@@ -64,7 +64,8 @@ fn held(rt: &impl Abort, alloc: Global, name: &[u8], bytes: Bytes) -> Held {
     }
 }
 
-fn text(rt: &impl Abort, alloc: Global, name: &[u8], bytes: &[u8]) -> Held {
+/// A file of this name.
+pub fn text(rt: &impl Abort, alloc: Global, name: &[u8], bytes: &[u8]) -> Held {
     held(rt, alloc, name, Bytes::from_vec(copy(rt, alloc, bytes)))
 }
 
