@@ -174,13 +174,15 @@ pub open_ends : (fonts : SetValue) (bytes bodies : List ℕ) (kept : CopiedPage)
     → HoldsEnded fonts bytes bodies (record kept { end = length bodies }) (record page { page = read_page })
 open_ends fonts bytes bodies kept page read_page h = record {
   inside = record { there = h.there; ordered = h.inside; inside = omega arith };
-  counts = h.counts;
-  body = take_all (length bodies - kept.start) (drop kept.start bodies) (length-drop kept.start bodies) ∙ h.body;
-  selected = h.selected;
-  depth = h.depth;
-  places = h.places ∙ length-map read_page.places (λ (w : WrittenPlace). w.place);
-  tallest = h.tallest;
-  widest = h.widest;
+  keeps = record {
+    counts = h.counts;
+    body = take_all (length bodies - kept.start) (drop kept.start bodies) (length-drop kept.start bodies) ∙ h.body;
+    selected = h.selected;
+    depth = h.depth;
+    places = h.places ∙ length-map read_page.places (λ (w : WrittenPlace). w.place);
+    tallest = h.tallest;
+    widest = h.widest;
+  };
 }
 
 -- the pages that have ended stay as the bodies grow
@@ -192,14 +194,16 @@ one_grows fonts bytes bodies more kept page h =
     let d = length-drop kept.start bodies in
     record {
       inside = record { there = h.inside.there; ordered = h.inside.ordered; inside = omega (arith, inside, l) };
-      counts = h.counts;
-      body = ap (take (kept.end - kept.start)) (drop-append-le kept.start bodies more (omega (arith, ordered, inside)))
-          ∙ take-append-le (kept.end - kept.start) (drop kept.start bodies) more (omega (arith, inside, d)) ∙ h.body;
-      selected = h.selected;
-      depth = h.depth;
-      places = h.places;
-      tallest = h.tallest;
-      widest = h.widest;
+      keeps = record {
+        counts = h.keeps.counts;
+        body = ap (take (kept.end - kept.start)) (drop-append-le kept.start bodies more (omega (arith, ordered, inside)))
+            ∙ take-append-le (kept.end - kept.start) (drop kept.start bodies) more (omega (arith, inside, d)) ∙ h.keeps.body;
+        selected = h.keeps.selected;
+        depth = h.keeps.depth;
+        places = h.keeps.places;
+        tallest = h.keeps.tallest;
+        widest = h.keeps.widest;
+      };
     }
 
 pub all_grow : (fonts : SetValue) (bytes bodies more : List ℕ) (kept : List CopiedPage) (pages : List SourcePage) → AreEnded fonts bytes bodies kept pages → AreEnded fonts bytes (bodies ++ more) kept pages
@@ -222,14 +226,8 @@ all_held fonts bytes bodies [] (page ∷ pages) few are = absurd are
 all_held fonts bytes bodies (k ∷ kept) [] few are = absurd are
 all_held fonts bytes bodies (k ∷ kept) (page ∷ pages) few (is, are) = (
   record {
-    short = (let l = ap length is.body in let t = taken (k.end - k.start) (drop k.start bodies) in let d = length-drop k.start bodies in omega (arith, l, t, d, few));
-    counts = is.counts;
-    body = is.body;
-    selected = is.selected;
-    depth = is.depth;
-    places = is.places;
-    tallest = is.tallest;
-    widest = is.widest;
+    short = (let l = ap length is.keeps.body in let t = taken (k.end - k.start) (drop k.start bodies) in let d = length-drop k.start bodies in omega (arith, l, t, d, few));
+    keeps = is.keeps;
   },
   all_held fonts bytes bodies kept pages few are,
 ) where

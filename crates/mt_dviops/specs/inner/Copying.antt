@@ -14,7 +14,7 @@ use Rattle.mt_dviops.specs.declared.copies.CopiedPage.{CopiedPage}
 use Rattle.mt_dviops.specs.declared.open.OpenCopies.{OpenCopies}
 use Rattle.mt_dviops.specs.Source.{Source, SourcePage, empty_source, no_source, copy_selection, copy_step}
 use Rattle.mt_dviops.specs.Walk.{Step, walked, walking}
-use Rattle.mt_dviops.specs.Result.{places_in}
+use Rattle.mt_dviops.specs.inner.Copies.{KeepsPage}
 use Rattle.mt_dviops.specs.inner.Inside.{IsInside}
 use Rattle.mt_dviops.specs.inner.Shown.{has_selected}
 use Rattle.mt_dviread.specs.Deeds.{places_of_page}
@@ -123,13 +123,7 @@ pub record HoldsOpen (fonts : SetValue) (bytes bodies : List ℕ) (kept : Copied
 -- a page that has ended
 pub record HoldsEnded (fonts : SetValue) (bytes bodies : List ℕ) (kept : CopiedPage) (page : SourcePage) : Type 0 where
   pub inside : IsInside bytes bodies kept
-  pub counts : bytes_from kept.counts 40 bytes ≡ page.counts
-  pub body : bytes_from kept.start (kept.end - kept.start) bodies ≡ page.body
-  pub selected : (n : ℕ) → has_selected kept.fonts n ≡ list_any (λ (m : ℕ). m == n) page.selected
-  pub depth : kept.depth ≡ page.depth
-  pub places : kept.places ≡ length page.page.places
-  pub tallest : kept.tallest ≡ greatest_edge (lower_edge fonts) 0 (places_in page.page)
-  pub widest : kept.widest ≡ greatest_edge (right_edge fonts) 0 (places_in page.page)
+  pub keeps : KeepsPage fonts bytes bodies kept page
 
 abbrev pub AreEnded : SetValue → List ℕ → List ℕ → List CopiedPage → List SourcePage → Type 0
 AreEnded fonts bytes bodies [] [] = ⊤
