@@ -1,5 +1,5 @@
 //! Files found by their names, and copies of bytes.
-ghost use Rattle.std.specs.Prelude.{◌≡◌, ◌<◌, ◌≤◌, IfOk, IsErrOf, OnOk, length};
+ghost use Rattle.std.specs.Prelude.{◌≡◌, ◌<◌, ◌≤◌, IfOk, IsErrOf, OnOk, Err, length};
 ghost use Rattle.std.specs.Option.{option_copied};
 ghost use Rattle.mt_outside.specs.Files.{find_file};
 
@@ -19,6 +19,7 @@ pub(crate) fn copy_within(alloc: Global, bytes: &[u8], limit: u64) -> Result<Byt
     ensures bytes { IfOk result (λ copy. copy ≡ bytes.now) }
     ensures within { OnOk result (length bytes.now ≤ limit) }
     ensures too_long { IsErrOf result FetchError.TooLong → limit < length bytes.now }
+    ensures refused { limit < length bytes.now → result ≡ Err FetchError.TooLong }
     ensures failed { IsErrOf result FetchError.Failed → ⊥ }
 {
     if bytes.len() as u64 > limit {

@@ -1,5 +1,7 @@
 //! A cabinet in memory that never fails.
-ghost use Rattle.std.specs.Prelude.{◌≡◌, Some, None};
+ghost use Rattle.std.specs.Prelude.{◌≡◌, ◌<◌, ◌≤◌, ◌^◌, [], IfOk, length, Some, None, Ok, Err};
+ghost use Rattle.mt_outside.specs.Counts.{FetchLeaves};
+ghost use Rattle.mt_outside.specs.Files.{content, find_file};
 
 use crate::copies::{copy_within, find_first};
 use crate::{Cabinet, FetchError, FileList};
@@ -39,7 +41,19 @@ impl Cabinet for SteadyCabinet {
 
     ghost lost = { λ c. None };
 
-    fn fetch(&mut self, alloc: Global, name: &str, limit: u64) -> Result<Bytes, FetchError> {
+    /// [`FetchError::OutOfMemory`] comes only for a file that is held and is not too long.
+    fn fetch(&mut self, alloc: Global, name: &str, limit: u64) -> Result<Bytes, FetchError>
+        requires { limit < 2 ^ 40 }
+        ensures within { IfOk result (λ bytes. length bytes ≤ limit) }
+        ensures bytes { IfOk result (λ bytes. bytes ≡ content self.old name.now) }
+        ensures too_long { result ≡ Err FetchError.TooLong
+            → limit < length (content self.old name.now) }
+        ensures refused { limit < length (content self.old name.now)
+            → result ≡ Err FetchError.TooLong }
+        ensures not_held { find_file self.old name.now ≡ None → result ≡ Ok [] }
+        ensures holds { self.new ≡ self.old }
+        ensures leaves { FetchLeaves 0 0 None None name.now result }
+    {
         match find_first(self.files.as_slice(), name.as_bytes()) {
             Some(file) => copy_within(alloc, file.bytes.as_slice(), limit),
             None => Ok(Bytes::from_vec(Vec::new(alloc))),
