@@ -7,8 +7,8 @@ use Rattle.mt_scaled.specs.Number.{Within, half_of, max_dimen}
 use Rattle.mt_scaled.proofs.Products.{kept}
 use Rattle.mt_family.specs.SetValue.{SetValue}
 use Rattle.mt_box.specs.declared.place.Place.{Place}
-use Rattle.mt_box.specs.Layout.{BoxValue, Layout, all_moved}
-use Rattle.mt_box.specs.Columns.{EntryValue, EntryBox, EntryKern, EntryRule, column_width, stack, rule_places}
+use Rattle.mt_box.specs.Layout.{BoxValue, Layout, all_moved, rule_places}
+use Rattle.mt_box.specs.Columns.{EntryValue, EntryBox, EntryKern, EntryRule, column_width, stack}
 use Rattle.mt_box.proofs.Equalities.{extents_eq, layout_eq}
 use Rattle.mt_box.proofs.Lists.{nil_right}
 use Rattle.mt_rules.specs.declared.part_error.PartError.{PartError}

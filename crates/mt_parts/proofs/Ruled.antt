@@ -6,8 +6,8 @@ use Rattle.std.specs.Prelude.{Result, Ok}
 use Rattle.mt_scaled.specs.Number.{Within, max_dimen}
 use Rattle.mt_family.specs.SetValue.{SetValue}
 use Rattle.mt_family.specs.declared.size.Size.{Size}
-use Rattle.mt_box.specs.Layout.{BoxValue, Layout}
-use Rattle.mt_box.specs.Columns.{EntryValue, EntryBox, EntryKern, EntryRule, stack, rule_places}
+use Rattle.mt_box.specs.Layout.{BoxValue, Layout, rule_places}
+use Rattle.mt_box.specs.Columns.{EntryValue, EntryBox, EntryKern, EntryRule, stack}
 use Rattle.mt_box.proofs.Equalities.{extents_eq, layout_eq}
 use Rattle.mt_rules.specs.declared.part_error.PartError.{PartError}
 use Rattle.mt_rules.specs.Setting.{test_rule, make_box}

@@ -3,8 +3,8 @@ use Rattle.std.proofs.Common.{◌≡◌, zero, suc, List, [], ◌∷◌, ◌++�
 use Rattle.std.proofs.lemmas.Int.{ints, clamps}
 use Rattle.std.specs.Int.{int_max}
 use Rattle.mt_box.specs.declared.place.Place.{Place}
-use Rattle.mt_box.specs.Layout.{Layout, all_moved}
-use Rattle.mt_box.specs.Columns.{EntryValue, EntryBox, EntryKern, EntryRule, entry_width, entry_drop, entry_places, column_width, column_drop, column_places, stack, rule_places}
+use Rattle.mt_box.specs.Layout.{Layout, all_moved, rule_places}
+use Rattle.mt_box.specs.Columns.{EntryValue, EntryBox, EntryKern, EntryRule, entry_width, entry_drop, entry_places, column_width, column_drop, column_places, stack}
 use Rattle.mt_box.proofs.Moved.{moved_zero, moved_twice}
 use Rattle.mt_box.proofs.Lists.{nil_right}
 use Rattle.mt_box.proofs.Equalities.{extents_eq, layout_eq}

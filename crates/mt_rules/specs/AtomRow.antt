@@ -36,8 +36,10 @@ use Rattle.mt_rules.specs.Accents.{accent}
 use Rattle.mt_rules.specs.Nuclei.{RowByStyle, Content, NoContent, SymbolContent, ListContent, RowsContent, TableContent, RootContent, BigContent, is_empty, SymbolRole, OrdinarySymbol, Nucleus, empty_nucleus, nucleus_row, packed_list, big_nucleus, make_clean, clean_field, clean_list}
 use Rattle.mt_rules.specs.Operators.{uses_limits, operator_nucleus}
 
+-- an atom whose fields are what they are set to, by style
 pub record AtomContent : Type 0 where
   pub kind : Kind
+  -- what is said of its limits, which concerns operators alone
   pub limits : Limits
   pub nucleus : Content
   pub sup : Content
@@ -119,9 +121,9 @@ ordinary_row fonts style role field sup sub = do
   nucleus ← nucleus_row fonts style field role (not (is_empty sub))
   nucleus_with_scripts fonts style nucleus sup sub
 
-abbrev pub class_row : Class → SetValue → Style → SymbolRole → Limits → Content → Content → Content → Setting (List PieceValue)
-class_row Op fonts style role choice nucleus sup sub = operator_row fonts style choice nucleus sup sub
-class_row _ fonts style role choice nucleus sup sub = ordinary_row fonts style role nucleus sup sub
+abbrev pub class_row : Class → SetValue → Style → SymbolRole → AtomContent → Setting (List PieceValue)
+class_row Op fonts style role a = operator_row fonts style a.limits a.nucleus a.sup a.sub
+class_row _ fonts style role a = ordinary_row fonts style role a.nucleus a.sup a.sub
 
 -- ---- parts round a nucleus: it comes first
 
@@ -211,6 +213,7 @@ table_part fonts style Equations rows = do
   cells ← pack_cells Equations rows
   equations_table fonts (size_of style) cells
 
+-- what is centred on the axis is rows or a table; the other fields never come, and are set as no rows
 abbrev pub vcenter_part : SetValue → Style → Content → Setting Layout
 vcenter_part fonts style (RowsContent rows) = vcenter_rows fonts style rows
 vcenter_part fonts style (TableContent look rows) = table_part fonts style look rows
@@ -263,18 +266,19 @@ accent_row fonts style symbol nucleus sup sub =
 
 -- ---- atoms of all kinds
 
-abbrev pub kind_row : Kind → SetValue → Style → SymbolRole → Limits → Content → Content → Content → Setting (List PieceValue)
-kind_row (Plain class) fonts style role choice nucleus sup sub = class_row class fonts style role choice nucleus sup sub
-kind_row (Radical sign) fonts style role choice nucleus sup sub = radical_row fonts style sign nucleus sup sub
-kind_row (Accent symbol) fonts style role choice nucleus sup sub = accent_row fonts style symbol nucleus sup sub
-kind_row Over fonts style role choice nucleus sup sub = part_with_scripts fonts style (overline_part fonts style nucleus) sup sub
-kind_row Under fonts style role choice nucleus sup sub = part_with_scripts fonts style (underline_part fonts style nucleus) sup sub
-kind_row Vcenter fonts style role choice nucleus sup sub = part_with_scripts fonts style (vcenter_part fonts style nucleus) sup sub
-kind_row (Veil width height marks) fonts style role choice nucleus sup sub =
-    part_with_scripts fonts style (veil_part fonts style width height marks nucleus) sup sub
+-- the row of an atom by its kind: its limits concern operators alone, and its role is that of a symbol as its nucleus
+abbrev pub kind_row : Kind → SetValue → Style → SymbolRole → AtomContent → Setting (List PieceValue)
+kind_row (Plain class) fonts style role a = class_row class fonts style role a
+kind_row (Radical sign) fonts style role a = radical_row fonts style sign a.nucleus a.sup a.sub
+kind_row (Accent symbol) fonts style role a = accent_row fonts style symbol a.nucleus a.sup a.sub
+kind_row Over fonts style role a = part_with_scripts fonts style (overline_part fonts style a.nucleus) a.sup a.sub
+kind_row Under fonts style role a = part_with_scripts fonts style (underline_part fonts style a.nucleus) a.sup a.sub
+kind_row Vcenter fonts style role a = part_with_scripts fonts style (vcenter_part fonts style a.nucleus) a.sup a.sub
+kind_row (Veil width height marks) fonts style role a =
+    part_with_scripts fonts style (veil_part fonts style width height marks a.nucleus) a.sup a.sub
 
 unfoldable pub atom_row : SetValue → Style → SymbolRole → AtomContent → Setting (List PieceValue)
-atom_row fonts style role a = kind_row a.kind fonts style role a.limits a.nucleus a.sup a.sub
+atom_row fonts style role a = kind_row a.kind fonts style role a
 
 -- ---- fractions
 

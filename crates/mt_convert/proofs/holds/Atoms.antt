@@ -135,15 +135,15 @@ module _ (fonts : SetValue) where
       (nucleus_row_holds fonts style nucleus role (not (is_empty sub)) sound h)
       (λ n k. with_scripts style n sup sub k a b)
 
-  class_holds : (class : Class) (style : Style) (role : SymbolRole) (choice : Limits) (nucleus sup sub : Content) → AreSound fonts → ContentHolds fonts nucleus → ContentHolds fonts sup → ContentHolds fonts sub → IfOk (class_row class fonts style role choice nucleus sup sub) (RowHolds fonts)
-  class_holds classes.Op style role choice nucleus sup sub sound h a b = operator_by (uses_limits choice style) style nucleus sup sub sound h a b
-  class_holds classes.Ord style role choice nucleus sup sub sound h a b = ordinary_holds style role nucleus sup sub sound h a b
-  class_holds classes.Bin style role choice nucleus sup sub sound h a b = ordinary_holds style role nucleus sup sub sound h a b
-  class_holds classes.Rel style role choice nucleus sup sub sound h a b = ordinary_holds style role nucleus sup sub sound h a b
-  class_holds classes.Open style role choice nucleus sup sub sound h a b = ordinary_holds style role nucleus sup sub sound h a b
-  class_holds classes.Close style role choice nucleus sup sub sound h a b = ordinary_holds style role nucleus sup sub sound h a b
-  class_holds classes.Punct style role choice nucleus sup sub sound h a b = ordinary_holds style role nucleus sup sub sound h a b
-  class_holds classes.Inner style role choice nucleus sup sub sound h a b = ordinary_holds style role nucleus sup sub sound h a b
+  class_holds : (class : Class) (style : Style) (role : SymbolRole) (a : AtomContent) → AreSound fonts → ContentHolds fonts a.nucleus → ContentHolds fonts a.sup → ContentHolds fonts a.sub → IfOk (class_row class fonts style role a) (RowHolds fonts)
+  class_holds classes.Op style role a sound h i j = operator_by (uses_limits a.limits style) style a.nucleus a.sup a.sub sound h i j
+  class_holds classes.Ord style role a sound h i j = ordinary_holds style role a.nucleus a.sup a.sub sound h i j
+  class_holds classes.Bin style role a sound h i j = ordinary_holds style role a.nucleus a.sup a.sub sound h i j
+  class_holds classes.Rel style role a sound h i j = ordinary_holds style role a.nucleus a.sup a.sub sound h i j
+  class_holds classes.Open style role a sound h i j = ordinary_holds style role a.nucleus a.sup a.sub sound h i j
+  class_holds classes.Close style role a sound h i j = ordinary_holds style role a.nucleus a.sup a.sub sound h i j
+  class_holds classes.Punct style role a sound h i j = ordinary_holds style role a.nucleus a.sup a.sub sound h i j
+  class_holds classes.Inner style role a sound h i j = ordinary_holds style role a.nucleus a.sup a.sub sound h i j
 
   -- ---- parts round a nucleus
 
@@ -286,16 +286,16 @@ module _ (fonts : SetValue) where
 
   -- ---- atoms of all kinds
 
-  kind_holds : (kind : Kind) (style : Style) (role : SymbolRole) (choice : Limits) (nucleus sup sub : Content) → AreSound fonts → ContentHolds fonts nucleus → ContentHolds fonts sup → ContentHolds fonts sub → IfOk (kind_row kind fonts style role choice nucleus sup sub) (RowHolds fonts)
-  kind_holds (Plain class) style role choice nucleus sup sub sound h a b = class_holds class style role choice nucleus sup sub sound h a b
-  kind_holds (Radical sign) style role choice nucleus sup sub sound h a b =
-      radical_row_holds style sign nucleus sup sub sound h a b
-  kind_holds (Accent symbol) style role choice nucleus sup sub sound h a b = accent_row_holds style symbol nucleus sup sub sound h a b
-  kind_holds Over style role choice nucleus sup sub sound h a b = part_holds style (overline_part fonts style nucleus) sup sub (overline_part_holds style nucleus h) a b
-  kind_holds Under style role choice nucleus sup sub sound h a b = part_holds style (underline_part fonts style nucleus) sup sub (underline_part_holds style nucleus h) a b
-  kind_holds Vcenter style role choice nucleus sup sub sound h a b = part_holds style (vcenter_part fonts style nucleus) sup sub (vcenter_part_holds style nucleus h) a b
-  kind_holds (Veil width height marks) style role choice nucleus sup sub sound h a b =
-      part_holds style (veil_part fonts style width height marks nucleus) sup sub (veil_part_holds style width height marks nucleus sound h) a b
+  kind_holds : (kind : Kind) (style : Style) (role : SymbolRole) (a : AtomContent) → AreSound fonts → ContentHolds fonts a.nucleus → ContentHolds fonts a.sup → ContentHolds fonts a.sub → IfOk (kind_row kind fonts style role a) (RowHolds fonts)
+  kind_holds (Plain class) style role a sound h i j = class_holds class style role a sound h i j
+  kind_holds (Radical sign) style role a sound h i j =
+      radical_row_holds style sign a.nucleus a.sup a.sub sound h i j
+  kind_holds (Accent symbol) style role a sound h i j = accent_row_holds style symbol a.nucleus a.sup a.sub sound h i j
+  kind_holds Over style role a sound h i j = part_holds style (overline_part fonts style a.nucleus) a.sup a.sub (overline_part_holds style a.nucleus h) i j
+  kind_holds Under style role a sound h i j = part_holds style (underline_part fonts style a.nucleus) a.sup a.sub (underline_part_holds style a.nucleus h) i j
+  kind_holds Vcenter style role a sound h i j = part_holds style (vcenter_part fonts style a.nucleus) a.sup a.sub (vcenter_part_holds style a.nucleus h) i j
+  kind_holds (Veil width height marks) style role a sound h i j =
+      part_holds style (veil_part fonts style width height marks a.nucleus) a.sup a.sub (veil_part_holds style width height marks a.nucleus sound h) i j
 
   -- the three fields of an atom
   abbrev pub AtomHolds : AtomContent → Type 0
@@ -303,7 +303,7 @@ module _ (fonts : SetValue) where
 
   pub atom_row_holds : (style : Style) (role : SymbolRole) (a : AtomContent) → AreSound fonts → AtomHolds a → IfOk (atom_row fonts style role a) (RowHolds fonts)
   unfolding atom_row
-  atom_row_holds style role a sound h = kind_holds a.kind style role a.limits a.nucleus a.sup a.sub sound h.0 h.1 h.2
+  atom_row_holds style role a sound h = kind_holds a.kind style role a sound h.0 h.1 h.2
 
   -- ---- fractions
 

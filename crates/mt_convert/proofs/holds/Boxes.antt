@@ -9,9 +9,8 @@ use Rattle.mt_scaled.specs.Number.{Within, max_dimen, half_of}
 use Rattle.mt_family.specs.SetValue.{SetValue}
 use Rattle.mt_box.specs.declared.place.Place.{Place}
 use Rattle.mt_box.specs.declared.place.Place.TheVariants.{Glyph, Rule}
-use Rattle.mt_box.specs.Layout.{Layout, all_moved}
+use Rattle.mt_box.specs.Layout.{Layout, all_moved, rule_places}
 use Rattle.mt_box.specs.Rows.{PieceValue, PieceGlyph, PieceBox, PieceKern, PieceSpace, piece_width, piece_places, row_places, pack}
-use Rattle.mt_box.specs.Columns.{rule_places}
 use Rattle.mt_box.specs.Boxes.{rebox, is_unraised, clean_one, clean_row}
 use Rattle.mt_rules.specs.Setting.{pack_row, layout_or_empty}
 use Rattle.mt_rules.specs.Nuclei.{make_clean}

@@ -6,9 +6,8 @@ use Rattle.std.specs.Ordering.{int_eq}
 use Rattle.mt_scaled.specs.Number.{Within, max_dimen, half_of}
 use Rattle.mt_family.specs.declared.size.Size.{Size}
 use Rattle.mt_family.specs.SetValue.{SetValue}
-use Rattle.mt_box.specs.Layout.{Layout, all_moved}
+use Rattle.mt_box.specs.Layout.{Layout, all_moved, rule_places}
 use Rattle.mt_box.specs.Rows.{PieceBox, PieceKern}
-use Rattle.mt_box.specs.Columns.{rule_places}
 use Rattle.mt_box.specs.Boxes.{rebox}
 use Rattle.mt_rules.specs.declared.symbol.Delim.{Delim}
 use Rattle.mt_rules.specs.declared.style.Style.{Style}
