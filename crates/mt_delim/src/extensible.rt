@@ -1,5 +1,5 @@
 //! The box of an extensible character (tex.web §713).
-ghost use Rattle.std.specs.Prelude.{◌≡◌, ◌^◌, ◌≤◌, ◌+ℤ◌, ◌++◌, ◌∷◌, [], IsTrue, IfOk, All, length, replicate, ◌==◌, if◌then◌else◌};
+ghost use Rattle.std.specs.Prelude.{◌≡◌, ◌^◌, ◌≤◌, ◌+ℤ◌, ◌++◌, ◌∷◌, [], IsTrue, IfOk, Err, ℕ, All, length, replicate, ◌==◌, if◌then◌else◌};
 ghost use Rattle.std.specs.List.{slice_get};
 ghost use Rattle.mt_scaled.specs.Number.{Within, max_dimen};
 ghost use Rattle.mt_tfm.specs.Font.{exists, height_of};
@@ -9,7 +9,8 @@ ghost use Rattle.mt_box.specs.Columns.{entry_values, column_width, column_level,
 ghost use Rattle.mt_box.specs.Extents.{ExtentsInRange};
 ghost use Rattle.mt_box.specs.Limits.{max_repeats};
 ghost use Rattle.mt_rules.specs.Symbols.{extents_without_italic};
-ghost use Rattle.mt_rules.specs.Setting.{make_box};
+ghost use Rattle.mt_rules.specs.Setting.{make_box, TooTall};
+ghost use Rattle.mt_rules.specs.declared.part_error.PartError.TheVariants.{TooTall as PartTooTall};
 ghost use Rattle.mt_rules.specs.Calls.{PartAnswers};
 ghost use Rattle.mt_rules.specs.Extensibles.{extensible_layout, recipe_piece, recipe_pieces, first_height as first_height_of};
 ghost use Rattle.mt_delim.specs.Glyphs.{ColumnAnswers, layout_with_width};
@@ -37,6 +38,8 @@ pub fn extensible_box(
     requires wanted { Within (2 ^ 40) wanted.sp }
     ensures is { PartAnswers result (extensible_layout number font.now recipe wanted.sp) }
     ensures level { IfOk result (λ b. b.level ≤ 2) }
+    ensures too_tall { (n : ℕ) → extensible_layout number font.now recipe wanted.sp ≡ Err (TooTall n)
+        → result ≡ Err (PartTooTall n) }
 {
     let n = repeats(font, recipe, wanted);
     if n > MAX_REPEATS {
