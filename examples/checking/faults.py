@@ -1,0 +1,225 @@
+"""All faults of a source, by runs of mathset that leave parts of it out."""
+import bisect
+import collections
+import re
+
+from checking.source import BAD, TOKEN, Cutter, Place
+
+# What takes a number or a dimension, a comment or a name, and a letter or a digit.
+NUMBERS = re.compile(
+    r"\\(?:mskip|mkern|hskip|kern|mathchar|delimiter|radical|mathaccent|fam|above|abovewithdelims)(?![A-Za-z])"
+)
+ALIKE = re.compile(r"%[^\n]*|\\[A-Za-z]+|\\.|[A-Za-z0-9]")
+CHUNK = 64
+MOST_OF_WHOLE = 100
+
+
+class Check:
+    def __init__(self, document, program):
+        self.document = document
+        self.program = program
+        self.units = Cutter(document.text).units_of_source()
+        self.definitions = [unit for unit in self.units if unit.kind in ("definition", "assignment")]
+        self.rejected_names = set()
+
+    def faults(self):
+        """All faults, in the order of the source."""
+        self.check_bytes()
+        self.check_strays()
+        self.check_definitions()
+        self.find_names()
+        self.check_formulas()
+        found = [unit.fault for unit in self.units if unit.fault and unit.fault.text]
+        return sorted(found + self.check_whole())
+
+    def check_bytes(self):
+        """A unit with a byte that cannot stand in a source. Of a stray unit only the first token matters."""
+        first = {}
+        for unit in self.units:
+            for text, offset in unit.tokens[:1] if unit.kind == "stray" else unit.tokens:
+                if BAD.fullmatch(text):
+                    end = offset + len(text)
+                    # The text may go by the byte behind it, as for a backslash and a blank.
+                    first[unit] = "$" + text + self.document.text[end : end + 1] + "$\n", offset
+                    break
+        answers = self.program.answers((source, source) for source in {source for source, _ in first.values()})
+        for unit, (source, offset) in first.items():
+            line, column = self.document.line_column(offset)
+            place = answers[source].place
+            if place:
+                unit.fault = Place(line, column + place.column - 2, place.text)
+
+    def check_strays(self):
+        """The text depends on the first token alone."""
+        strays = [unit for unit in self.units if unit.kind == "stray" and not unit.fault]
+        answers = self.program.answers((text, text + "\n") for text in {unit.tokens[0][0] for unit in strays})
+        for unit in strays:
+            answer = answers[unit.tokens[0][0]]
+            unit.fault = Place(*self.document.line_column(unit.start), answer.text if answer.status else "")
+
+    def check_definitions(self):
+        """All that are whole together, as often as one of them is rejected; each of the others by itself."""
+        broken = [unit for unit in self.definitions if not unit.is_whole and not unit.fault]
+        answers = self.program.answers((unit, self.document.only([unit])) for unit in broken)
+        for unit, answer in answers.items():
+            unit.fault = answer.place
+        while True:
+            good = [unit for unit in self.definitions if not unit.fault]
+            answer = self.program.answers([("all", self.document.only(good))])["all"]
+            if not answer.place:
+                break
+            self.unit_at(good, answer.place).fault = answer.place
+        self.rejected_names = {unit.defined_name() for unit in self.definitions if unit.fault}
+
+    def unit_at(self, units, place):
+        offset = self.document.offset(place.line, place.column)
+        return units[max(0, bisect.bisect_right([unit.start for unit in units], offset) - 1)]
+
+    def find_names(self):
+        """Where each name is defined, and which names its body has."""
+        self.defined_at = collections.defaultdict(list)
+        for number, unit in enumerate(self.definitions):
+            if unit.kind == "definition" and not unit.fault:
+                self.defined_at[unit.defined_name()].append(number)
+        good = [(number, unit) for number, unit in enumerate(self.definitions) if not unit.fault]
+        self.assigned_at = [number for number, unit in good if unit.kind == "assignment"]
+
+    def needed(self, unit):
+        """The numbers of the definitions that a formula needs, and of the assignments before it."""
+        before = unit.definitions_before
+        found = {number for number in self.assigned_at if number < before}
+        names, seen = list(unit.names()), set()
+        while names:
+            name = names.pop()
+            at = bisect.bisect_left(self.defined_at[name], before) - 1 if name in self.defined_at else -1
+            if name not in seen and at >= 0:
+                number = self.defined_at[name][at]
+                found.add(number)
+                names += self.definitions[number].names()
+            seen.add(name)
+        return tuple(sorted(found))
+
+    def check_formulas(self):
+        """Each formula that differs from others is run once; to be read, each that differs in more than its letters."""
+        same = collections.defaultdict(list)
+        for unit in self.units:
+            if unit.kind == "formula" and not unit.fault:
+                same[unit.text, self.needed(unit), unit.is_whole].append(unit)
+        alike = collections.defaultdict(list)
+        for key in same:
+            alike[self.with_letters_alike(key)].append(key)
+        chunks = Chunks(self.program, self.definitions)
+        read = chunks.read(list(alike))
+        places = {key: read[form] for form in read for key in alike[form] if not self.is_at_letter(form, read[form])}
+        places.update(chunks.set([key for key in same if key not in places]))
+        for key, place in places.items():
+            for unit in same[key]:
+                line, column = self.document.line_column(unit.start)
+                moved = place.column + (column - 1 if place.line == 1 else 0)
+                unit.fault = self.unless_rejected(Place(line + place.line - 1, moved, place.text))
+
+    def with_letters_alike(self, key):
+        """A formula is read in the same way with other letters and digits, where it has no number and no dimension."""
+        text, needed, is_whole = key
+        texts = [text] + [self.definitions[number].text for number in needed]
+        if any(self.definitions[number].kind == "assignment" for number in needed) or any(map(NUMBERS.search, texts)):
+            return key
+        return ALIKE.sub(self.alike, text), needed, is_whole
+
+    @staticmethod
+    def alike(found):
+        text = found.group()
+        if text[0] in "\\%":
+            return text
+        return "0" if text.isdigit() else "x"
+
+    @staticmethod
+    def is_at_letter(form, place):
+        return re.match("[A-Za-z0-9]", form[0].split("\n")[place.line - 1][place.column - 1 :]) is not None
+
+    def unless_rejected(self, place):
+        """A fault without a text where it is at a name whose definition is told already."""
+        offset = self.document.offset(place.line, place.column)
+        name = TOKEN.match(self.document.text, offset)
+        if name and name.group() in self.rejected_names:
+            return place._replace(text="")
+        return place
+
+    def check_whole(self):
+        """What is left when all faults are blanked: the limits of a whole source."""
+        found = []
+        while len(found) < MOST_OF_WHOLE:
+            rejected = [unit for unit in self.units if unit.fault]
+            answer = self.program.answers([("whole", self.document.without(rejected))])["whole"]
+            if not answer.status:
+                break
+            place = answer.place or Place(1, 1, answer.text)
+            found.append(place)
+            unit = self.unit_at(self.units, place) if self.units else None
+            if unit is None or unit.fault or not answer.place or answer.status in (42, 49):
+                break
+            unit.fault = place._replace(text="")
+        return found
+
+
+class Chunks:
+    """Formulas that are run several at a time. A run tells the first fault alone, and those after it are run again."""
+
+    def __init__(self, program, definitions):
+        self.program = program
+        self.definitions = definitions
+        self.found = {}
+        self.is_reading = True
+
+    def read(self, keys):
+        """The faults of reading, by line and column in the formula. A run reads all formulas before it sets one."""
+        self.is_reading = True
+        return self.run(keys)
+
+    def set(self, keys):
+        """The faults of setting in the same way."""
+        self.is_reading = False
+        return self.run(keys)
+
+    def run(self, keys):
+        self.found = {}
+        whole = [key for key in keys if key[2]]
+        chunks = [(key,) for key in keys if not key[2]]
+        chunks += [tuple(whole[at : at + CHUNK]) for at in range(0, len(whole), CHUNK)]
+        self.program.answers([(chunk, self.source(chunk)) for chunk in chunks], self.after)
+        return self.found
+
+    def source(self, chunk):
+        """Definitions are made anew only where they change, so that each formula has those that it needs."""
+        parts, made = [], {}
+        for text, needed, _ in chunk:
+            for number in needed:
+                name = self.definitions[number].defined_name() or number
+                if made.get(name) != number:
+                    made[name] = number
+                    parts.append(self.definitions[number].text)
+            parts.append(text)
+        return "\n".join(parts) + "\n"
+
+    def after(self, chunk, answer):
+        """Takes the answer of a chunk, and gives what is to be run again."""
+        if not answer.status or self.is_reading and answer.is_of_setting():
+            return []
+        number = (answer.formula or 1) - 1
+        before, after = chunk[:number], chunk[number + 1 :]
+        again = [after]
+        if answer.status == 42 and before:
+            again.append(chunk[number : number + 1])
+        else:
+            self.found[chunk[number]] = self.place(chunk, number, answer)
+        if not self.is_reading and not answer.is_of_setting():
+            again.append(before)
+        return [(keys, self.source(keys)) for keys in again if keys]
+
+    def place(self, chunk, number, answer):
+        """The place within the formula."""
+        if not answer.place:
+            return Place(1, 1, answer.text)
+        upto = self.source(chunk[: number + 1])
+        first = upto.count("\n") - chunk[number][0].count("\n")
+        return answer.place._replace(line=max(1, answer.place.line - first + 1))

@@ -1,0 +1,213 @@
+"""What is set without a fault, but probably not as it is meant."""
+import re
+
+from checking.source import Place
+
+FONTS = {
+    "\\rm": "rm", "\\it": "it", "\\sl": "it", "\\bf": "bf", "\\tt": "rm", "\\cal": "cal", "\\mit": "it",
+    "\\mathrm": "rm", "\\text": "rm", "\\textrm": "rm", "\\mbox": "rm", "\\operatorname": "rm", "\\mathsf": "rm",
+    "\\textnormal": "rm", "\\textup": "rm", "\\textit": "it", "\\textbf": "bf", "\\textsf": "rm", "\\texttt": "rm",
+    "\\mathit": "it", "\\mathtt": "rm", "\\mathbf": "bf", "\\boldsymbol": "bf", "\\bm": "bf",
+    "\\mathcal": "cal", "\\mathbb": "cal", "\\Bbb": "cal", "\\mathscr": "cal", "\\mathfrak": "fraktur",
+    "\\frak": "fraktur",
+}
+SWITCHES = ("\\rm", "\\it", "\\sl", "\\bf", "\\tt", "\\cal", "\\mit")
+FUNCTIONS = (
+    "sin cos tan cot sec csc sinh cosh tanh coth arcsin arccos arctan log ln exp lim max min sup inf det dim ker deg "
+    "gcd limsup liminf argmax argmin mod"
+).split()
+UNKNOWN_FUNCTIONS = ("limsup", "liminf", "argmax", "argmin", "mod")
+SMALL_GREEK = (
+    "alpha beta gamma delta epsilon zeta eta theta iota kappa lambda mu nu xi pi rho sigma tau upsilon phi chi psi "
+    "omega varepsilon vartheta varpi varrho varsigma varphi"
+).split()
+PAIRS = {
+    "<=": "\\le", ">=": "\\ge", "->": "\\to", "=>": "\\Rightarrow", "<<": "\\ll", ">>": "\\gg",
+    "...": "\\ldots or \\cdots",
+}
+TABLES = ("\\matrix", "\\pmatrix", "\\eqalign", "\\eqalignno", "\\leqalignno", "\\displaylines")
+
+
+def warnings_of(document, units):
+    """The warnings of all formulas without a fault."""
+    parameters = {unit.defined_name(): unit.parameters() for unit in units if unit.kind == "definition"}
+    warnings, found = Warnings(document, parameters), []
+    for unit in units:
+        if unit.kind == "formula" and not unit.fault:
+            found += warnings.of(unit)
+    return found
+
+
+class Warnings:
+    """Goes through the tokens of a formula. Blanks and comments are left out where nothing depends on them."""
+
+    def __init__(self, document, parameters):
+        self.document = document
+        self.parameters = parameters  # How many arguments each macro of the source takes.
+        self.tokens = []
+        self.found = []
+
+    def of(self, unit):
+        self.found = []
+        self.tokens = [token for token in unit.tokens if token[0][0] != "%"]
+        self.visible = [at for at, (text, _) in enumerate(self.tokens) if not text.isspace()]
+        self.check_brackets()
+        self.check_scripts()
+        self.check_signs()
+        self.check_operators()
+        self.check_tables()
+        self.check_fonts()
+        return [Place(*self.document.line_column(offset), "warning: " + text) for offset, text in self.found]
+
+    def warn(self, at, text):
+        self.found.append((self.tokens[at][1], text))
+
+    def text(self, at):
+        return self.tokens[at][0] if 0 <= at < len(self.tokens) else ""
+
+    def seen(self, index):
+        """A token by its number among those that are not blank."""
+        return self.text(self.visible[index]) if 0 <= index < len(self.visible) else ""
+
+    def group(self, at):
+        """Past the group that begins at this token, or past the token where none does."""
+        depth = 0
+        for end in range(at, len(self.tokens)):
+            depth += (self.text(end) == "{") - (self.text(end) == "}")
+            if depth <= 0:
+                return end + 1
+        return len(self.tokens)
+
+    def inside(self, at):
+        """What is in the group that begins at this token."""
+        return "".join(text for text, _ in self.tokens[at + 1 : self.group(at) - 1])
+
+    def check_brackets(self):
+        """Optional arguments and stars of LaTeX's."""
+        for index, at in enumerate(self.visible):
+            name, following = self.text(at), self.seen(index + 1)
+            if name == "\\sqrt" and following == "[":
+                self.warn(at, "\\sqrt takes no [..]: write \\root n\\of{x}")
+            elif name == "\\smash" and following == "[":
+                self.warn(at, "\\smash takes no [..]")
+            elif self.parameters.get(name) and following in ("[", "*"):
+                self.warn(at, "%s takes the %s as its argument" % (name, following))
+
+    def check_scripts(self):
+        for index, at in enumerate(self.visible):
+            sign, first = self.text(at), self.seen(index + 1)
+            if sign in ("^", "_") and first.isdigit() and self.seen(index + 2).isdigit():
+                number = first
+                while self.seen(index + 1 + len(number)).isdigit():
+                    number += self.seen(index + 1 + len(number))
+                self.warn(at, "only the %s is a script: write %s{%s}" % (first, sign, number))
+
+    def check_signs(self):
+        """Signs of several characters, and quotation marks."""
+        at = 0
+        while at < len(self.tokens):
+            found = [sign for sign in PAIRS if [self.text(at + n) for n in range(len(sign))] == list(sign)]
+            if found:
+                self.warn(at, "%s is set as single characters: write %s" % (found[0], PAIRS[found[0]]))
+                at += len(found[0]) - 1
+            elif self.text(at) == '"' and not self.text(at - 1).startswith("\\"):
+                self.warn(at, '" is set as a quotation mark: write \'\' for two primes')
+            at += 1
+
+    def check_operators(self):
+        """Names of operators in italic letters."""
+        for index, at in enumerate(self.visible):
+            if self.text(at) == "\\mathop" and self.seen(index + 1) == "{":
+                inner = self.inside(self.visible[index + 1])
+                if re.fullmatch("[A-Za-z]{2,}", inner):
+                    self.warn(at, "the letters are set in italics: write \\mathop{\\rm %s}" % inner)
+
+    def check_tables(self):
+        for index, at in enumerate(self.visible):
+            if self.text(at) in TABLES and self.seen(index + 1) == "{":
+                start = self.visible[index + 1]
+                self.check_rows(self.text(at), start + 1, self.group(start) - 1)
+
+    def check_rows(self, table, start, end):
+        """A line of a table without \\cr at its end, where the next line has cells too; rows that are too long."""
+        cells, first_row, depth, line_end, before = 1, None, 0, None, 0
+        for at in range(start, end):
+            text = self.text(at)
+            depth += (text == "{") - (text == "}")
+            if depth:
+                continue
+            if text in ("\\cr", "\\\\"):
+                first_row = first_row or cells
+                cells, line_end, before = 1, None, 0
+            elif "\n" in text and cells > 1:
+                line_end, before = line_end or at, cells
+            elif text == "&":
+                cells += 1
+                if line_end and before > 1:
+                    self.warn(line_end, "no \\cr at the end of this line of %s" % table)
+                    line_end = None
+                elif table in ("\\matrix", "\\pmatrix") and first_row and cells == first_row + 1:
+                    self.warn(at, "this row has more cells than the first: is a \\cr missing?")
+
+    def check_fonts(self):
+        self.walk(0, len(self.tokens), None)
+
+    def walk(self, at, end, font):
+        """Goes through a list, with the font in force."""
+        while at < end:
+            text = self.text(at)
+            if text in SWITCHES:
+                font = FONTS[text]
+                self.check_switch(at, end)
+            elif text in FONTS:
+                start = self.next_visible(at + 1)
+                stop = self.group(start)
+                self.walk(start, stop, FONTS[text])
+                at = stop
+                continue
+            elif text == "{":
+                stop = min(self.group(at), end)
+                self.walk(at + 1, stop - 1, font)
+                at = stop
+                continue
+            at = self.check_letter(at, end, font)
+
+    def next_visible(self, at):
+        while at < len(self.tokens) and self.text(at).isspace():
+            at += 1
+        return at
+
+    def check_switch(self, at, end):
+        """\\rm{d}x sets the x in roman too."""
+        start = self.next_visible(at + 1)
+        if self.text(start) != "{" or start >= end:
+            return
+        switch, inner = self.text(at), self.inside(start)
+        rest = [text for text, _ in self.tokens[self.group(start) : end]]
+        if any(text in SWITCHES for text in rest[:1]):
+            return
+        if any(re.fullmatch("[A-Za-z0-9]", text) for text in rest):
+            self.warn(at, "%s also changes what follows the braces: write {%s %s}" % (switch, switch, inner))
+
+    def check_letter(self, at, end, font):
+        """Letters from here: names of functions, words in roman, letters that a font lacks. Past them."""
+        text = self.text(at)
+        if font == "bf" and text[:1] == "\\" and text[1:] in SMALL_GREEK:
+            self.warn(at, "small Greek letters do not change: %s is not bold" % text)
+        if font == "cal" and re.fullmatch("[a-z0-9]", text):
+            self.warn(at, "this alphabet has only capital letters: %s gives another symbol" % text)
+        if not re.fullmatch("[A-Za-z]", text):
+            return at + 1
+        stop = at
+        while stop < end and re.fullmatch("[A-Za-z]", self.text(stop)):
+            stop += 1
+        word = "".join(letter for letter, _ in self.tokens[at:stop])
+        if font is None and word in FUNCTIONS:
+            known = "\\mathop{\\rm %s}" % word if word in UNKNOWN_FUNCTIONS else "\\" + word
+            self.warn(at, "%s is set in italics: write %s" % (word, known))
+        following = self.text(stop + 1)
+        if font == "rm" and stop + 1 < end and self.text(stop).isspace() and re.fullmatch("[A-Za-z]", following):
+            self.warn(stop, "blanks are dropped: write \\; for each")
+            while stop < end and re.fullmatch("[A-Za-z]|\\s+", self.text(stop)):
+                stop += 1
+        return stop
