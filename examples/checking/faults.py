@@ -10,11 +10,14 @@ NUMBERS = re.compile(
     r"\\(?:mskip|mkern|hskip|kern|mathchar|delimiter|radical|mathaccent|fam|above|abovewithdelims)(?![A-Za-z])"
 )
 ALIKE = re.compile(r"%[^\n]*|\\[A-Za-z]+|\\.|[A-Za-z0-9]")
+# How many formulas are run at once, and how many faults of a whole source are looked for.
 CHUNK = 64
 MOST_OF_WHOLE = 100
 
 
 class Check:
+    """The units of a source, and the faults of each."""
+
     def __init__(self, document, program):
         self.document = document
         self.program = program
@@ -33,13 +36,13 @@ class Check:
         return sorted(found + self.check_whole())
 
     def check_bytes(self):
-        """A unit with a byte that cannot stand in a source. Of a stray unit only the first token matters."""
+        """Units with a byte that cannot stand in a source. Of a stray unit only the first token matters."""
         first = {}
         for unit in self.units:
             for text, offset in unit.tokens[:1] if unit.kind == "stray" else unit.tokens:
                 if BAD.fullmatch(text):
                     end = offset + len(text)
-                    # The text may go by the byte behind it, as for a backslash and a blank.
+                    # The text may depend on the byte after it, as for a backslash and a blank.
                     first[unit] = "$" + text + self.document.text[end : end + 1] + "$\n", offset
                     break
         answers = self.program.answers((source, source) for source in {source for source, _ in first.values()})
@@ -58,7 +61,7 @@ class Check:
             unit.fault = Place(*self.document.line_column(unit.start), answer.text if answer.status else "")
 
     def check_definitions(self):
-        """All that are whole together, as often as one of them is rejected; each of the others by itself."""
+        """Runs all whole ones together, again after each that is rejected, and each of the others by itself."""
         broken = [unit for unit in self.definitions if not unit.is_whole and not unit.fault]
         answers = self.program.answers((unit, self.document.only([unit])) for unit in broken)
         for unit, answer in answers.items():
@@ -100,7 +103,7 @@ class Check:
         return tuple(sorted(found))
 
     def check_formulas(self):
-        """Each formula that differs from others is run once; to be read, each that differs in more than its letters."""
+        """Runs each formula once; to be read, once for all formulas that differ only in letters and digits."""
         same = collections.defaultdict(list)
         for unit in self.units:
             if unit.kind == "formula" and not unit.fault:
@@ -109,9 +112,9 @@ class Check:
         for key in same:
             alike[self.with_letters_alike(key)].append(key)
         chunks = Chunks(self.program, self.definitions)
-        read = chunks.read(list(alike))
+        read = chunks.faults_of_reading(list(alike))
         places = {key: read[form] for form in read for key in alike[form] if not self.is_at_letter(form, read[form])}
-        places.update(chunks.set([key for key in same if key not in places]))
+        places.update(chunks.faults_of_setting([key for key in same if key not in places]))
         for key, place in places.items():
             for unit in same[key]:
                 line, column = self.document.line_column(unit.start)
@@ -138,7 +141,7 @@ class Check:
         return re.match("[A-Za-z0-9]", form[0].split("\n")[place.line - 1][place.column - 1 :]) is not None
 
     def unless_rejected(self, place):
-        """A fault without a text where it is at a name whose definition is told already."""
+        """The fault without its text, where it is at a name whose definition is reported already."""
         offset = self.document.offset(place.line, place.column)
         name = TOKEN.match(self.document.text, offset)
         if name and name.group() in self.rejected_names:
@@ -146,7 +149,7 @@ class Check:
         return place
 
     def check_whole(self):
-        """What is left when all faults are blanked: the limits of a whole source."""
+        """Faults that are left where all others are blanked: those of the limits of a whole source."""
         found = []
         while len(found) < MOST_OF_WHOLE:
             rejected = [unit for unit in self.units if unit.fault]
@@ -163,7 +166,7 @@ class Check:
 
 
 class Chunks:
-    """Formulas that are run several at a time. A run tells the first fault alone, and those after it are run again."""
+    """Formulas that are run several at a time. A run reports the first fault; the formulas after it are run again."""
 
     def __init__(self, program, definitions):
         self.program = program
@@ -171,13 +174,12 @@ class Chunks:
         self.found = {}
         self.is_reading = True
 
-    def read(self, keys):
-        """The faults of reading, by line and column in the formula. A run reads all formulas before it sets one."""
+    def faults_of_reading(self, keys):
+        """These faults, by line and column in the formula. A run reads all formulas before it sets one."""
         self.is_reading = True
         return self.run(keys)
 
-    def set(self, keys):
-        """The faults of setting in the same way."""
+    def faults_of_setting(self, keys):
         self.is_reading = False
         return self.run(keys)
 
@@ -205,6 +207,9 @@ class Chunks:
         """Takes the answer of a chunk, and gives what is to be run again."""
         if not answer.status or self.is_reading and answer.is_of_setting():
             return []
+        if answer.formula is None and len(chunk) > 1:
+            half = len(chunk) // 2
+            return [(keys, self.source(keys)) for keys in (chunk[:half], chunk[half:])]
         number = (answer.formula or 1) - 1
         before, after = chunk[:number], chunk[number + 1 :]
         again = [after]

@@ -27,10 +27,10 @@ class Answer:
         self.status = status
         self.log = log
         self.line = lines[0][len("mathset: ") :]
-        told = lines[1] if len(lines) > 1 else ""
-        found = self.PLACE.match(told)
+        second = lines[1] if len(lines) > 1 else ""
+        found = self.PLACE.match(second)
         self.place = Place(int(found[1]), int(found[2]), found[3]) if found else None
-        self.text = found[3] if found else self.WITHOUT_PLACE.match(told)[1]
+        self.text = found[3] if found else self.WITHOUT_PLACE.match(second)[1]
         number = re.match(r"formula (\d+) ", self.line)
         self.formula = int(number[1]) if number else None
 
@@ -50,6 +50,8 @@ class Answer:
 
 
 class Program:
+    """The program with a font list. It runs on files in a folder of its own, in the present folder."""
+
     def __init__(self, fonts, room):
         self.fonts = fonts
         self.room = room
@@ -62,7 +64,10 @@ class Program:
         for path in (built / "mathset", built / "mathset-unproved"):
             if os.access(path, os.X_OK) and path.is_file():
                 return str(path)
-        return shutil.which("mathset") or fail("there is no mathset yet: ./run-example builds it")
+        installed = shutil.which("mathset")
+        if not installed:
+            fail("there is no mathset yet: ./run-example builds it")
+        return installed
 
     def start(self, number, source):
         folder = os.path.join(self.room, str(number))

@@ -43,17 +43,17 @@ class Unit:
 
 
 class Document:
-    """Files one behind another, read as one source."""
+    """Files one after another, read as one source."""
 
     def __init__(self, files):
         self.text = ""
         self.first_lines = []
         self.files = [os.fsencode(name).decode("latin-1") for name in files]
         for name in files:
+            if self.text and not self.text.endswith("\n"):
+                self.text += "\n"
             self.first_lines.append(self.text.count("\n") + 1)
             self.text += read(name).decode("latin-1")
-            if name != files[-1] and not self.text.endswith("\n"):
-                self.text += "\n"
         self.line_starts = [0] + [found.end() for found in re.finditer("\n", self.text)]
 
     def line_column(self, offset):
@@ -98,6 +98,8 @@ def blanks(text):
 
 
 class Cutter:
+    """Cuts a source where mathset does. A formula without an end, which mathset does not cut, ends at an empty line."""
+
     def __init__(self, text):
         self.text = text
         self.tokens = [(found.group(), found.start()) for found in TOKEN.finditer(text)]
@@ -141,7 +143,7 @@ class Cutter:
         return self.units
 
     def add(self, kind, end, is_whole=True):
-        """Adds a unit of the tokens from here to this one."""
+        """Adds a unit of the tokens from here up to this one."""
         start, stop = self.offset(self.at), self.offset(end)
         unit = Unit(kind, start, stop, self.text[start:stop], self.tokens[self.at : end])
         unit.is_whole = is_whole
@@ -166,7 +168,7 @@ class Cutter:
         return self.token(at) == "$" and (closer == "$" or self.token(at + 1) == "$")
 
     def end_of_formula(self, at, closer):
-        """Past the closing dollars, or None where there are none before an empty line."""
+        """The token after the closing dollars, or None where there are none before an empty line."""
         depth = 0
         while at < len(self.tokens) and depth >= 0 and not self.is_empty_line(at):
             if depth == 0 and self.closes(at, closer):
@@ -176,7 +178,7 @@ class Cutter:
         return None
 
     def end_of_broken(self, at, closer):
-        """Past the first dollars that could close it, in groups too, or at the empty line before them."""
+        """The token after the first dollars that could close it, in groups too, or the empty line before them."""
         while at < len(self.tokens) and not self.is_empty_line(at):
             if self.closes(at, closer):
                 return at + len(closer)

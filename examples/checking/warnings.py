@@ -25,6 +25,16 @@ PAIRS = {
     "<=": "\\le", ">=": "\\ge", "->": "\\to", "=>": "\\Rightarrow", "<<": "\\ll", ">>": "\\gg",
     "...": "\\ldots or \\cdots",
 }
+# Commands with a number or a dimension, and what these look like.
+NUMBERED = (
+    "\\mskip", "\\mkern", "\\hskip", "\\kern", "\\mathchar", "\\delimiter", "\\radical", "\\mathaccent", "\\fam",
+    "\\above",
+)
+LONGEST_NUMBER = 60
+DIMENSION = r"[\s+-]*[0-9.,]+\s*[A-Za-z]{2}"
+NUMBER = re.compile(
+    r"%s(?:\s*(?:plus|minus)%s)*|[\s+-]*(?:\"[0-9A-F]+|'[0-7]+|[0-9]+)" % (DIMENSION, DIMENSION)
+)
 TABLES = ("\\matrix", "\\pmatrix", "\\eqalign", "\\eqalignno", "\\leqalignno", "\\displaylines")
 
 
@@ -70,7 +80,7 @@ class Warnings:
         return self.text(self.visible[index]) if 0 <= index < len(self.visible) else ""
 
     def group(self, at):
-        """Past the group that begins at this token, or past the token where none does."""
+        """The token after the group that begins at this token, or after the token where none does."""
         depth = 0
         for end in range(at, len(self.tokens)):
             depth += (self.text(end) == "{") - (self.text(end) == "}")
@@ -110,7 +120,9 @@ class Warnings:
             if found:
                 self.warn(at, "%s is set as single characters: write %s" % (found[0], PAIRS[found[0]]))
                 at += len(found[0]) - 1
-            elif self.text(at) == '"' and not self.text(at - 1).startswith("\\"):
+            elif self.text(at) in NUMBERED:
+                at = self.past_number(at) - 1
+            elif self.text(at) == '"':
                 self.warn(at, '" is set as a quotation mark: write \'\' for two primes')
             at += 1
 
@@ -130,7 +142,7 @@ class Warnings:
 
     def check_rows(self, table, start, end):
         """A line of a table without \\cr at its end, where the next line has cells too; rows that are too long."""
-        cells, first_row, depth, line_end, before = 1, None, 0, None, 0
+        cells, first_row, depth, line_end = 1, None, 0, None
         for at in range(start, end):
             text = self.text(at)
             depth += (text == "{") - (text == "}")
@@ -138,16 +150,30 @@ class Warnings:
                 continue
             if text in ("\\cr", "\\\\"):
                 first_row = first_row or cells
-                cells, line_end, before = 1, None, 0
-            elif "\n" in text and cells > 1:
-                line_end, before = line_end or at, cells
+                cells, line_end = 1, None
+            elif "\n" in text and cells > 1 and not self.is_beside_cell(at):
+                line_end = line_end or at
             elif text == "&":
                 cells += 1
-                if line_end and before > 1:
+                if line_end:
                     self.warn(line_end, "no \\cr at the end of this line of %s" % table)
                     line_end = None
                 elif table in ("\\matrix", "\\pmatrix") and first_row and cells == first_row + 1:
                     self.warn(at, "this row has more cells than the first: is a \\cr missing?")
+
+    def is_beside_cell(self, at):
+        """A line that ends with & or is followed by & goes on."""
+        return self.text(at - 1) == "&" or self.text(self.next_visible(at)) == "&"
+
+    def past_number(self, at):
+        """The token after a command and its number or dimension."""
+        after = at + 1
+        if after < len(self.tokens):
+            found = NUMBER.match("".join(text for text, _ in self.tokens[after : after + LONGEST_NUMBER]))
+            end = self.tokens[after][1] + (found.end() if found else 0)
+            while after < len(self.tokens) and self.tokens[after][1] < end:
+                after += 1
+        return after
 
     def check_fonts(self):
         self.walk(0, len(self.tokens), None)
@@ -170,7 +196,7 @@ class Warnings:
                 self.walk(at + 1, stop - 1, font)
                 at = stop
                 continue
-            at = self.check_letter(at, end, font)
+            at = self.past_number(at) if text in NUMBERED else self.check_letter(at, end, font)
 
     def next_visible(self, at):
         while at < len(self.tokens) and self.text(at).isspace():
@@ -178,7 +204,7 @@ class Warnings:
         return at
 
     def check_switch(self, at, end):
-        """\\rm{d}x sets the x in roman too."""
+        """In \\rm{d}x the x is set in roman too."""
         start = self.next_visible(at + 1)
         if self.text(start) != "{" or start >= end:
             return
@@ -190,7 +216,7 @@ class Warnings:
             self.warn(at, "%s also changes what follows the braces: write {%s %s}" % (switch, switch, inner))
 
     def check_letter(self, at, end, font):
-        """Letters from here: names of functions, words in roman, letters that a font lacks. Past them."""
+        """Names of functions, words in roman, and letters that a font lacks, from this token. The token after them."""
         text = self.text(at)
         if font == "bf" and text[:1] == "\\" and text[1:] in SMALL_GREEK:
             self.warn(at, "small Greek letters do not change: %s is not bold" % text)
