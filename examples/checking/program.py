@@ -4,6 +4,7 @@ import os
 import pathlib
 import re
 import shutil
+import subprocess
 import sys
 
 from checking.source import Place
@@ -60,14 +61,19 @@ class Program:
 
     @staticmethod
     def find():
-        built = HERE.parent / "crates/mathset/out"
-        for path in (built / "mathset", built / "mathset-unproved"):
-            if os.access(path, os.X_OK) and path.is_file():
-                return str(path)
-        installed = shutil.which("mathset")
-        if not installed:
-            fail("there is no mathset yet: ./run-example builds it")
-        return installed
+        runner = HERE.parent / "run-example"
+        if runner.exists():
+            done = subprocess.run([runner, "--program-or-installed"], stdout=subprocess.PIPE, text=True, check=False)
+            if done.returncode:
+                sys.exit(2)
+            path = done.stdout.strip()
+            if path.endswith("/try-unproved"):
+                fail("this kit builds the program anew for each run; call ./run-example --prove first")
+            return path
+        path = shutil.which("mathset")
+        if not path:
+            fail("the command mathset is not in PATH, and there is no run-example to build it")
+        return path
 
     def start(self, number, source):
         folder = os.path.join(self.room, str(number))
