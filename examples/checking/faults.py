@@ -24,6 +24,7 @@ class Check:
         self.units = Cutter(document.text).units_of_source()
         self.definitions = [unit for unit in self.units if unit.kind in ("definition", "assignment")]
         self.rejected_names = set()
+        self.bytes_of_strays = []
 
     def faults(self):
         """All faults, in the order of the source."""
@@ -33,13 +34,13 @@ class Check:
         self.find_names()
         self.check_formulas()
         found = [unit.fault for unit in self.units if unit.fault and unit.fault.text]
-        return sorted(found + self.check_whole())
+        return sorted(found + self.bytes_of_strays + self.check_whole())
 
     def check_bytes(self):
-        """Units with a byte that cannot stand in a source. Of a stray unit only the first token matters."""
+        """Units with a byte that cannot stand in a source: the first of each. A stray unit has another fault then too."""
         first = {}
         for unit in self.units:
-            for text, offset in unit.tokens[:1] if unit.kind == "stray" else unit.tokens:
+            for text, offset in unit.tokens:
                 if BAD.fullmatch(text):
                     end = offset + len(text)
                     # The text may depend on the byte after it, as for a backslash and a blank.
@@ -49,8 +50,13 @@ class Check:
         for unit, (source, offset) in first.items():
             line, column = self.document.line_column(offset)
             place = answers[source].place
-            if place:
-                unit.fault = Place(line, column + place.column - 2, place.text)
+            if not place:
+                continue
+            fault = Place(line, column + place.column - 2, place.text)
+            if unit.kind == "stray" and offset > unit.start:
+                self.bytes_of_strays.append(fault)
+            else:
+                unit.fault = fault
 
     def check_strays(self):
         """The text depends on the first token alone."""
