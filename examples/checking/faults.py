@@ -37,7 +37,7 @@ class Check:
         return sorted(found + self.bytes_of_strays + self.check_whole())
 
     def check_bytes(self):
-        """Units with a byte that cannot stand in a source: the first of each. A stray unit has another fault then too."""
+        """Units with a byte that cannot stand in a source: the first of each. A stray unit has another fault too."""
         first = {}
         for unit in self.units:
             for text, offset in unit.tokens:
