@@ -18,12 +18,15 @@ use Rattle.mt_pages.specs.Listing.{listing}
 use Rattle.mathset.specs.Reads.{file_of}
 use Rattle.mathset.specs.Outcome.{Outcome, outcome_after, plain}
 use Rattle.mt_words.specs.Request.{request_of}
-use Rattle.mt_words.specs.RequestValues.{DviFilesValue, DviPagesValue, DviValue, SourceValue}
-use Rattle.mathset.specs.Steps.{join_steps, pick_steps, read_steps, typeset_steps}
+use Rattle.mt_words.specs.RequestValues.{DviFilesValue, DviPagesValue, DviValue, SampleValue, SourceValue}
+use Rattle.mathset.specs.Steps.{gen_answer, gen_steps, join_steps, pick_steps, read_steps, typeset_steps}
 use Rattle.mt_pages.specs.Typeset.{TypesetValue}
-use Rattle.mathset.specs.Ends.{EndsAs, GotLean, GotPart, GotWhole, IsQuiet, IsToldRefusal, ListsPages, SetsAs, WritesLean, WritesWhole}
+use Rattle.mathset.specs.Ends.{EndsAs, EndsOrIsCut, GotLean, GotPart, GotWhole, IsQuiet, IsToldRefusal, ListsPages, WritesWhole}
+use Rattle.mathset.specs.SetEnds.{GotFile, GotLeanFile, SetsAs, WritesLean}
 use Rattle.mathset.specs.inner.Runs.{EndLeaves, IsRun, LeavesOutput, WritesWholeLean}
-use Rattle.mathset.specs.inner.Steps.{IsMade, IsStep}
+use Rattle.mathset.specs.inner.Steps.{CabinetValue, IsMade, IsStep, text_of}
+use Rattle.mathset.proofs.MadeLemmas.{pure_made}
+use Rattle.mt_status.specs.Origins.{IsPure}
 use Rattle.mathset.specs.Product.{Product, File, Text}
 use Rattle.mt_words.specs.declared.request.Request.{Request}
 use Rattle.mt_words.specs.declared.request.Request.TheVariants.{Join, Pick, Read, Set}
@@ -190,6 +193,12 @@ same_product p q is = cc
 got_whole : {product : Product} {before now : Option (List ℕ)} → GotLean product before now → GotWhole product before now
 got_whole got = record { bytes = got.bytes; made = got.made; appended = got.appended }
 
+got_file : {t : TypesetValue} {before now : Option (List ℕ)} → GotWhole (File t) before now → GotFile t before now
+got_file got = record { bytes = got.bytes; written = got.made; appended = got.appended }
+
+got_lean_file : {t : TypesetValue} {before now : Option (List ℕ)} → GotLean (File t) before now → GotLeanFile t before now
+got_lean_file got = record { bytes = got.bytes; written = got.made; lean = got.lean; appended = got.appended }
+
 -- a product that is lean is a product
 pub done : (holds : Option (List Held)) (steps : List Held → Outcome Product) (before now : Option (List ℕ)) → WritesWholeLean holds steps before now
     → WritesWhole holds steps before now
@@ -197,7 +206,7 @@ done holds steps before now whole = record { gives = whole.gives; got = got_whol
 
 lean_by : (r : Result TypesetValue Status) (asked : List (List ℕ)) (product : Product) (before now : Option (List ℕ))
     → (outcome_after r asked (λ t. plain (Ok (File t)))).result ≡ Ok product → GotLean product before now → WritesLean r before now
-lean_by (Ok t) asked product before now is got = subst (λ (p : Product). GotLean p before now) (sym (same_product (File t) product is)) got
+lean_by (Ok t) asked product before now is got = got_lean_file (subst (λ (p : Product). GotLean p before now) (sym (same_product (File t) product is)) got)
 lean_by (Err refusal) asked product before now is got = absurd (cc)
 
 -- words that ask for a source to be set, whose file is written
@@ -210,27 +219,54 @@ lean words w files holds before now is told whole =
 not_both : (before now : ℕ) → IsSteady before now → Rose before now → ⊥
 not_both before now steady rose = omega (arith, steady, rose.1)
 
--- a run over a cabinet that tells its files, in which no call failed
+-- a run over a cabinet that tells its files, of which no call failed
+pub ends_or_is_cut : {C K : Type 0} (holds : C → Option (List Held)) (reads : C → ℕ) (last : C → Option (List ℕ)) (written : K → Option (List ℕ)) (writes : K → ℕ) (steps : List Held → Outcome Product)
+    (cabinet cabinet' : C) (out out' : K) (status : Status) → IsRun holds reads last written writes steps cabinet cabinet' out out' status
+    → (files : List Held) → holds cabinet ≡ Some files → IsSteady (reads cabinet) (reads cabinet')
+    → (status ≡ OutOfMemory) ⊎ EndsOrIsCut (steps files).result (writes out) (writes out') (written out) (written out') status
+ends_or_is_cut holds reads last written writes steps cabinet cabinet' out out' status run files told read =
+    by_status
+    (λ s. IsRun holds reads last written writes steps cabinet cabinet' out out' s → (s ≡ OutOfMemory) ⊎ EndsOrIsCut (steps files).result (writes out) (writes out') (written out) (written out') s)
+    (λ run.
+    let whole = run.done refl in
+    inr (inl (subst (λ (r : Result Product Status). EndsAs r (written out) (written out') Done) (sym (whole.gives.is files told)) (refl, got_whole whole.got))))
+    (λ name run. absurd (not_both (reads cabinet) (reads cabinet') read (run.lost name refl).0))
+    (λ count run.
+    let cut = run.cut count refl in
+    inr (inr (record { product = cut.1.gives.product; is = cut.1.gives.is files told; count = count; cut = refl; rose = cut.0; got = cut.1.got })))
+    (λ run. inl refl)
+    (λ s refusal quiet run.
+    inr (inl (subst (λ (r : Result Product Status). EndsAs r (written out) (written out') s) (sym (run.refused files told refusal)) (refl, ap written (run.quiet quiet)))))
+    status run
+
+uncut : (answer : Result Product Status) (faults faults' : ℕ) (before now : Option (List ℕ)) (status : Status) → IsSteady faults faults' → (status ≡ OutOfMemory) ⊎ EndsOrIsCut answer faults faults' before now status
+    → (status ≡ OutOfMemory) ⊎ EndsAs answer before now status
+uncut answer faults faults' before now status wrote (inl memory) = inl memory
+uncut answer faults faults' before now status wrote (inr (inl ends)) = inr ends
+uncut answer faults faults' before now status wrote (inr (inr cut)) = absurd (not_both faults faults' wrote cut.rose)
+
+-- and no call of the output failed
 pub ends : {C K : Type 0} (holds : C → Option (List Held)) (reads : C → ℕ) (last : C → Option (List ℕ)) (written : K → Option (List ℕ)) (writes : K → ℕ) (steps : List Held → Outcome Product)
     (cabinet cabinet' : C) (out out' : K) (status : Status) → IsRun holds reads last written writes steps cabinet cabinet' out out' status
     → (files : List Held) → holds cabinet ≡ Some files → IsSteady (reads cabinet) (reads cabinet') → IsSteady (writes out) (writes out')
     → (status ≡ OutOfMemory) ⊎ EndsAs (steps files).result (written out) (written out') status
 ends holds reads last written writes steps cabinet cabinet' out out' status run files told read wrote =
-    by_status
-    (λ s. IsRun holds reads last written writes steps cabinet cabinet' out out' s → (s ≡ OutOfMemory) ⊎ EndsAs (steps files).result (written out) (written out') s)
-    (λ run.
-    let whole = run.done refl in
-    inr (subst (λ (r : Result Product Status). EndsAs r (written out) (written out') Done) (sym (whole.gives.is files told)) (refl, got_whole whole.got)))
-    (λ name run. absurd (not_both (reads cabinet) (reads cabinet') read (run.lost name refl).0))
-    (λ count run. absurd (not_both (writes out) (writes out') wrote (run.cut count refl).0))
-    (λ run. inl refl)
-    (λ s refusal quiet run.
-    inr (subst (λ (r : Result Product Status). EndsAs r (written out) (written out') s) (sym (run.refused files told refusal)) (refl, ap written (run.quiet quiet))))
-    status run
+    uncut (steps files).result (writes out) (writes out') (written out) (written out') status wrote
+    (ends_or_is_cut holds reads last written writes steps cabinet cabinet' out out' status run files told read)
+
+-- `gen` ends as over a cabinet that tells that it holds no file
+pub gen_ends : {K : Type 0} (written : K → Option (List ℕ)) (writes : K → ℕ) (w : SampleValue) (out out' : K) (made : Result (List ℕ) Status) (status : Status)
+    → IsPure (gen_answer w) (text_of made) → EndLeaves written writes made out out' status
+    → (status ≡ OutOfMemory) ⊎ EndsOrIsCut (gen_answer w) (writes out) (writes out') (written out) (written out') status
+gen_ends written writes w out out' made status pure end =
+    let none : CabinetValue = record { holds = Some []; faults = 0; lost = None } in
+    ends_or_is_cut {C = CabinetValue} (λ v. v.holds) (λ v. v.faults) (λ v. v.lost) written writes (gen_steps w) none none out out' status
+    (is_run {C = CabinetValue} (λ v. v.holds) (λ v. v.faults) (λ v. v.lost) written writes (gen_steps w) none none out out' made status (pure_made none (gen_answer w) made pure) end)
+    [] refl (omega arith)
 
 sets_by : (r : Result TypesetValue Status) (asked : List (List ℕ)) (before now : Option (List ℕ)) (status : Status)
     → EndsAs (outcome_after r asked (λ t. plain (Ok (File t)))).result before now status → SetsAs r before now status
-sets_by (Ok t) asked before now status ends = ends
+sets_by (Ok t) asked before now status ends = (ends.0, got_file ends.1)
 sets_by (Err refusal) asked before now status ends = ends
 
 -- words that ask for a source to be set

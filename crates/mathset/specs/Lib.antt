@@ -1,5 +1,7 @@
 -- what a run answers: the first refusal of its steps, else the product
 pub mod Answer
+-- how a run of `set` ends
+pub mod SetEnds
 -- how a run ends, and what its output got
 pub mod Ends
 -- a DVI file of pages that are set or copied, or a text

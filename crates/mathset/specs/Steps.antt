@@ -1,5 +1,5 @@
 -- The steps of a command (`request_steps`), from the files to the product.
-use Rattle.std.specs.Prelude.{ℕ, ℤ, List, Ok}
+use Rattle.std.specs.Prelude.{ℕ, ℤ, List, Result, Ok}
 use Rattle.mt_outside.specs.declared.files.Held.{Held}
 use Rattle.mt_family.specs.SetValue.{SetValue}
 use Rattle.mt_token.specs.Tokens.{max_source}
@@ -13,6 +13,7 @@ use Rattle.mt_words.specs.RequestValues.{SourceValue, DviValue, DviPagesValue, D
 use Rattle.mathset.specs.Samples.{sample_files, sample_words, summed}
 use Rattle.mt_pages.specs.Typeset.{TypesetValue, typeset_of}
 use Rattle.mathset.specs.Product.{Product, File, Text}
+use Rattle.mt_status.specs.declared.status.Status.{Status}
 use Rattle.mt_words.specs.declared.request.Request.{Request}
 use Rattle.mt_words.specs.declared.request.Request.TheVariants.{Set, Places, Read, Pick, Join, Gen}
 
@@ -59,8 +60,11 @@ join_steps words files = do
   join_step words.files fonts files
 
 -- `gen`: the product is the summary of a generated source, set with the toy fonts. No file is asked for.
+abbrev pub gen_answer : SampleValue → Result Product Status
+gen_answer words = summed words.count (typeset_steps sample_words (sample_files words.seed words.count)).result
+
 abbrev pub gen_steps : SampleValue → List Held → Outcome Product
-gen_steps words files = plain (summed words.count (typeset_steps sample_words (sample_files words.seed words.count)).result)
+gen_steps words files = plain (gen_answer words)
 
 abbrev pub request_steps : Request → List Held → Outcome Product
 request_steps (Set words) files = set_steps words files

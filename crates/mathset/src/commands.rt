@@ -1,6 +1,10 @@
 //! The commands, from their files to what is to be written.
-ghost use Rattle.mathset.specs.inner.Steps.{IsMade};
-ghost use Rattle.mathset.specs.Steps.{places_steps, request_steps, set_steps};
+ghost use Rattle.std.specs.Prelude.{◌≡◌};
+ghost use Rattle.mathset.specs.inner.Steps.{IsMade, text_of};
+ghost use Rattle.mathset.specs.Steps.{gen_answer, places_steps, request_steps, set_steps};
+ghost use Rattle.mt_status.specs.Origins.{IsPure};
+ghost use Rattle.mt_words.specs.RequestValues.{SampleValue};
+ghost use Rattle.mt_words.specs.declared.request.Request.TheVariants.{Gen};
 
 use crate::copies::{join, pick};
 use crate::dvi::read;
@@ -40,6 +44,10 @@ pub fn perform<C: Cabinet>(
 ) -> Result<Bytes, Status>
     ensures is { IsMade C.holds C.faults C.lost cabinet.old cabinet.new
         (request_steps request.now) result }
+    ensures generates { (sample : SampleValue) → request.now ≡ Gen sample
+        → IsPure (gen_answer sample) (text_of result) }
+    ensures untouched { (sample : SampleValue) → request.now ≡ Gen sample
+        → cabinet.new ≡ cabinet.old }
 {
     match request {
         Request::Set(words) => set(alloc, words, cabinet),

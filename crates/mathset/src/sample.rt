@@ -1,8 +1,8 @@
 //! The command `gen`: generated formulas, set with the toy fonts.
 ghost use Rattle.std.specs.Prelude.{◌≡◌, ◌≤◌, IfOk, List, codes};
 ghost use Rattle.mt_outside.specs.declared.files.Held.{Held as HeldFields};
-ghost use Rattle.mathset.specs.Samples.{sample_files, sample_words, summed};
-ghost use Rattle.mathset.specs.Steps.{typeset_steps};
+ghost use Rattle.mathset.specs.Samples.{sample_files};
+ghost use Rattle.mathset.specs.Steps.{gen_answer};
 ghost use Rattle.mt_status.specs.Origins.{IsPure};
 ghost use Rattle.mathset.specs.inner.Steps.{text_of};
 
@@ -44,8 +44,7 @@ fn sample_files(alloc: Global, sample: &Sample) -> Result<FileList, AllocError>
 ///
 /// Those of a source that is set; `OutOfMemory` where memory ran out.
 pub fn generated_summary(alloc: Global, sample: &Sample) -> Result<Bytes, Status>
-    ensures is { IsPure (summed sample.now.count (typeset_steps sample_words
-        (sample_files sample.now.seed sample.now.count)).result) (text_of result) }
+    ensures is { IsPure (gen_answer sample.now) (text_of result) }
 {
     let mut cabinet = SteadyCabinet::new(sample_files(alloc, sample)?);
     let words = Source {
