@@ -1,13 +1,14 @@
 -- Bytes that are one operation (`code_right` and the others), and bytes appended in pieces (`emits_1`, `emits_2`).
-use Rattle.std.proofs.Common.{◌^◌, ◌≡◌, ℕ, ◌+◌, ◌*◌, ◌/◌, ◌%◌, ◌<◌, ◌≤◌, List, [], ◌∷◌, ◌++◌, refl, sym, ◌∙◌, ap, arith, length, append_assoc, length-append}
+use Rattle.std.proofs.Common.{◌^◌, ◌≡◌, ℕ, ◌+◌, ◌-◌, ◌*◌, ◌/◌, ◌%◌, ◌<◌, ◌≤◌, List, [], ◌∷◌, ◌++◌, refl, sym, ◌∙◌, ap, subst, arith, length, append_assoc, length-append}
 use Rattle.std.specs.Prelude.{ℤ, pos, negsuc, ◌-ℤ◌, true, false, Bool, nat_lt, nat_le, ◌≢◌}
 use Rattle.std.proofs.lemmas.Int.{ints}
 use Rattle.std.proofs.lemmas.Bool.Decides.{nat_tests}
 use Rattle.std.specs.Prelude.{if◌then◌else◌}
 use Rattle.std.specs.Int.{to_be_bytes, w32}
-use Rattle.mt_dvi.specs.Codes.{Add, Bop, Char, Define, Eop, Operation, Post, PostPost, Pre, Register, Rule, Select, Set, W, X, Y, Z, operand_size, operation, signed, signed_of, unsigned}
+use Rattle.mt_dvi.specs.Encoded.{definition_bytes, twos_complement}
+use Rattle.mt_dvi.specs.Codes.{four_bytes, Definition, Add, Bop, Char, Define, Eop, Operation, Post, PostPost, Pre, Register, Rule, Select, Set, W, X, Y, Z, operand_size, operation, signed, signed_of, unsigned}
 use Rattle.mt_dvi.specs.Moves.{fits_signed, least_size}
-use Rattle.mt_dvi.specs.writer.Emits.{Emits, IsCode, four_bytes, own_postamble, own_preamble, zero_code}
+use Rattle.mt_dvi.specs.writer.Emits.{Emits, FitsFourBytes, IsCode, own_postamble, own_preamble, zero_code}
 use Rattle.mt_dvi.specs.WrittenPlaces.{page_counts}
 
 -- the four bytes are the number
@@ -331,15 +332,27 @@ emits_post o0 o1 o2 o3 o4 o5 o6 x tallest widest pages last e1 e2 e3 e4 e5 e6 is
     let e = appends_2 o0 o4 o5 ((248 ∷ four_bytes x) ++ fixed12 ++ four_bytes tallest) (four_bytes widest) d e5 in
     emits_2 29 o0 o5 o6 ((248 ∷ four_bytes x) ++ fixed12 ++ four_bytes tallest ++ four_bytes widest) (0 ∷ 0 ∷ pages / 256 ∷ pages % 256 ∷ []) (Post (own_postamble last tallest widest pages)) (omega arith) e e6 (code_post x tallest widest pages last is)
 
-pub emits_define : (o0 o1 o2 o3 o4 o5 o6 : List ℕ) (number checksum size design long : ℕ) (name : List ℕ) → o1 ≡ o0 ++ (243 ∷ number ∷ []) → o2 ≡ o1 ++ four_bytes checksum → o3 ≡ o2 ++ four_bytes size → o4 ≡ o3 ++ four_bytes design
-    → o5 ≡ o4 ++ (0 ∷ long ∷ []) → o6 ≡ o5 ++ name → long ≡ length name → length name < 256
-    → Emits 271 o0 o6 (Define (record { number = number; checksum = checksum; size = size; design = design; area = []; name = name }))
-emits_define o0 o1 o2 o3 o4 o5 o6 number checksum size design long name e1 e2 e3 e4 e5 e6 is short =
-    let a = appends_2 o0 o1 o2 (243 ∷ number ∷ []) (four_bytes checksum) e1 e2 in
-    let b = appends_2 o0 o2 o3 (243 ∷ number ∷ four_bytes checksum) (four_bytes size) a e3 in
-    let d = appends_2 o0 o3 o4 ((243 ∷ number ∷ four_bytes checksum) ++ four_bytes size) (four_bytes design) b e4 in
-    let e = appends_2 o0 o4 o5 ((243 ∷ number ∷ four_bytes checksum) ++ four_bytes size ++ four_bytes design) (0 ∷ length name ∷ []) d (e5 ∙ ap (λ (n : ℕ). o4 ++ (0 ∷ n ∷ [])) is) in
-    emits_2 271 o0 o5 o6 ((243 ∷ number ∷ four_bytes checksum) ++ four_bytes size ++ four_bytes design ++ (0 ∷ length name ∷ [])) name _ (omega arith) e e6 (code_define number checksum size design name)
+-- a definition without an area
+pub emits_definition : (old new : List ℕ) (d : Definition) → d.area ≡ [] → new ≡ old ++ definition_bytes d → length new ≤ length old + 80 → Emits 271 old new (Define d)
+emits_definition old new d none is short =
+    let plain : Definition = record { number = d.number; checksum = d.checksum; size = d.size; design = d.design; area = []; name = d.name } in
+    let same : d ≡ plain = ap (λ (l : List ℕ). record { number = d.number; checksum = d.checksum; size = d.size; design = d.design; area = l; name = d.name }) none in
+    let long : length new ≡ length old + length (definition_bytes d) = ap length is ∙ length-append old (definition_bytes d) in
+    record {
+      bytes = definition_bytes d;
+      is = is;
+      code = subst (λ (x : Definition). IsCode (definition_bytes x) (Define x)) (sym same) (code_define d.number d.checksum d.size d.design d.name);
+      long = omega (arith, short, long);
+    }
+
+-- a number in two's complement
+pub signed_twos : (x : ℤ) → FitsFourBytes x → signed_of 4 (twos_complement x) ≡ x
+signed_twos (pos n) fits = low n fits where
+  low : (n : ℕ) → n < 2147483648 → signed_of 4 n ≡ pos n
+  low n lt = grind (arith, nat_tests)
+signed_twos (negsuc n) fits = high n (omega (arith, ints, fits)) where
+  high : (n : ℕ) → n < 2147483647 → signed_of 4 (4294967295 - n) ≡ negsuc n
+  high n lt = grind (arith, nat_tests, ints)
 
 -- a register is set by an operand of one to four bytes
 pub emits_set_1 : (old new : List ℕ) (register : Register) (n x : ℕ) (by : ℤ) → x < 4294967296 → signed_of 4 x ≡ by → n ≡ least_size by → n ≡ 1 → new ≡ old ++ ((zero_code register + n) ∷ x % 256 ∷ []) → Emits 5 old new (Set register by)

@@ -78,6 +78,44 @@ special_is = refl
 special_refused : Lean fonts special → ⊥
 special_refused = refused special _ special_is refl
 
+-- allowed
+abbrev push_and_pop : List ℕ
+push_and_pop =
+    247 ∷ 2 ∷ 1 ∷ 131 ∷ 146 ∷ 192 ∷ 28 ∷ 59 ∷ 0 ∷ 0 ∷ 0 ∷ 0 ∷ 3 ∷ 232 ∷ 0 ∷ 139 ∷ 0 ∷ 0 ∷ 0 ∷ 1 ∷ 0 ∷
+    0 ∷ 0 ∷ 0 ∷ 0 ∷ 0 ∷ 0 ∷ 0 ∷ 0 ∷ 0 ∷ 0 ∷ 0 ∷ 0 ∷ 0 ∷ 0 ∷ 0 ∷ 0 ∷ 0 ∷ 0 ∷ 0 ∷ 0 ∷ 0 ∷ 0 ∷ 0 ∷ 0 ∷ 0 ∷
+    0 ∷ 0 ∷ 0 ∷ 0 ∷ 0 ∷ 0 ∷ 0 ∷ 0 ∷ 0 ∷ 0 ∷ 255 ∷ 255 ∷ 255 ∷ 255 ∷ 243 ∷ 3 ∷ 0 ∷ 0 ∷ 0 ∷ 0 ∷ 0 ∷ 10 ∷
+    0 ∷ 0 ∷ 0 ∷ 10 ∷ 0 ∷ 0 ∷ 0 ∷ 4 ∷ 116 ∷ 111 ∷ 121 ∷ 109 ∷ 174 ∷ 148 ∷ 5 ∷ 97 ∷ 141 ∷ 153 ∷ 6 ∷ 97 ∷
+    142 ∷ 148 ∷ 7 ∷ 97 ∷ 140 ∷ 248 ∷ 0 ∷ 0 ∷ 0 ∷ 15 ∷ 1 ∷ 131 ∷ 146 ∷ 192 ∷ 28 ∷ 59 ∷ 0 ∷ 0 ∷ 0 ∷ 0 ∷
+    3 ∷ 232 ∷ 0 ∷ 0 ∷ 0 ∷ 0 ∷ 0 ∷ 0 ∷ 0 ∷ 0 ∷ 0 ∷ 1 ∷ 0 ∷ 1 ∷ 243 ∷ 3 ∷ 0 ∷ 0 ∷ 0 ∷ 0 ∷ 0 ∷ 10 ∷ 0 ∷
+    0 ∷ 0 ∷ 10 ∷ 0 ∷ 0 ∷ 0 ∷ 4 ∷ 116 ∷ 111 ∷ 121 ∷ 109 ∷ 249 ∷ 0 ∷ 0 ∷ 0 ∷ 93 ∷ 2 ∷ 223 ∷ 223 ∷ 223 ∷
+    223 ∷ []
+
+push_and_pop_is : sentences (traced fonts push_and_pop) ≡ false ∷ true ∷ true ∷ true ∷ true ∷ true ∷ true ∷ true ∷ true ∷ []
+unfolding traced tracing operation operand_size
+push_and_pop_is = refl
+
+push_and_pop_refused : Lean fonts push_and_pop → ⊥
+push_and_pop_refused = refused push_and_pop _ push_and_pop_is refl
+
+-- allowed
+abbrev empty_rule_between : List ℕ
+empty_rule_between =
+    247 ∷ 2 ∷ 1 ∷ 131 ∷ 146 ∷ 192 ∷ 28 ∷ 59 ∷ 0 ∷ 0 ∷ 0 ∷ 0 ∷ 3 ∷ 232 ∷ 0 ∷ 139 ∷ 0 ∷ 0 ∷ 0 ∷ 1 ∷ 0 ∷
+    0 ∷ 0 ∷ 0 ∷ 0 ∷ 0 ∷ 0 ∷ 0 ∷ 0 ∷ 0 ∷ 0 ∷ 0 ∷ 0 ∷ 0 ∷ 0 ∷ 0 ∷ 0 ∷ 0 ∷ 0 ∷ 0 ∷ 0 ∷ 0 ∷ 0 ∷ 0 ∷ 0 ∷ 0 ∷
+    0 ∷ 0 ∷ 0 ∷ 0 ∷ 0 ∷ 0 ∷ 0 ∷ 0 ∷ 0 ∷ 0 ∷ 255 ∷ 255 ∷ 255 ∷ 255 ∷ 243 ∷ 3 ∷ 0 ∷ 0 ∷ 0 ∷ 0 ∷ 0 ∷ 10 ∷
+    0 ∷ 0 ∷ 0 ∷ 10 ∷ 0 ∷ 0 ∷ 0 ∷ 4 ∷ 116 ∷ 111 ∷ 121 ∷ 109 ∷ 174 ∷ 97 ∷ 148 ∷ 6 ∷ 132 ∷ 0 ∷ 0 ∷ 0 ∷ 0 ∷
+    0 ∷ 0 ∷ 0 ∷ 5 ∷ 153 ∷ 7 ∷ 97 ∷ 140 ∷ 248 ∷ 0 ∷ 0 ∷ 0 ∷ 15 ∷ 1 ∷ 131 ∷ 146 ∷ 192 ∷ 28 ∷ 59 ∷ 0 ∷ 0 ∷
+    0 ∷ 0 ∷ 3 ∷ 232 ∷ 0 ∷ 0 ∷ 0 ∷ 0 ∷ 0 ∷ 0 ∷ 0 ∷ 0 ∷ 0 ∷ 0 ∷ 0 ∷ 1 ∷ 243 ∷ 3 ∷ 0 ∷ 0 ∷ 0 ∷ 0 ∷ 0 ∷
+    10 ∷ 0 ∷ 0 ∷ 0 ∷ 10 ∷ 0 ∷ 0 ∷ 0 ∷ 4 ∷ 116 ∷ 111 ∷ 121 ∷ 109 ∷ 249 ∷ 0 ∷ 0 ∷ 0 ∷ 97 ∷ 2 ∷ 223 ∷
+    223 ∷ 223 ∷ 223 ∷ []
+
+empty_rule_between_is : sentences (traced fonts empty_rule_between) ≡ false ∷ true ∷ true ∷ true ∷ true ∷ true ∷ true ∷ true ∷ true ∷ []
+unfolding traced tracing operation operand_size
+empty_rule_between_is = refl
+
+empty_rule_between_refused : Lean fonts empty_rule_between → ⊥
+empty_rule_between_refused = refused empty_rule_between _ empty_rule_between_is refl
+
 -- selections
 abbrev selected_already : List ℕ
 selected_already =
@@ -301,25 +339,6 @@ y_twice_is = refl
 y_twice_refused : Lean fonts y_twice → ⊥
 y_twice_refused = refused y_twice _ y_twice_is refl
 
--- across
-abbrev pop_turns_back : List ℕ
-pop_turns_back =
-    247 ∷ 2 ∷ 1 ∷ 131 ∷ 146 ∷ 192 ∷ 28 ∷ 59 ∷ 0 ∷ 0 ∷ 0 ∷ 0 ∷ 3 ∷ 232 ∷ 0 ∷ 139 ∷ 0 ∷ 0 ∷ 0 ∷ 1 ∷ 0 ∷
-    0 ∷ 0 ∷ 0 ∷ 0 ∷ 0 ∷ 0 ∷ 0 ∷ 0 ∷ 0 ∷ 0 ∷ 0 ∷ 0 ∷ 0 ∷ 0 ∷ 0 ∷ 0 ∷ 0 ∷ 0 ∷ 0 ∷ 0 ∷ 0 ∷ 0 ∷ 0 ∷ 0 ∷ 0 ∷
-    0 ∷ 0 ∷ 0 ∷ 0 ∷ 0 ∷ 0 ∷ 0 ∷ 0 ∷ 0 ∷ 0 ∷ 255 ∷ 255 ∷ 255 ∷ 255 ∷ 243 ∷ 3 ∷ 0 ∷ 0 ∷ 0 ∷ 0 ∷ 0 ∷ 10 ∷
-    0 ∷ 0 ∷ 0 ∷ 10 ∷ 0 ∷ 0 ∷ 0 ∷ 4 ∷ 116 ∷ 111 ∷ 121 ∷ 109 ∷ 174 ∷ 148 ∷ 5 ∷ 97 ∷ 141 ∷ 153 ∷ 6 ∷ 97 ∷
-    142 ∷ 153 ∷ 7 ∷ 97 ∷ 140 ∷ 248 ∷ 0 ∷ 0 ∷ 0 ∷ 15 ∷ 1 ∷ 131 ∷ 146 ∷ 192 ∷ 28 ∷ 59 ∷ 0 ∷ 0 ∷ 0 ∷ 0 ∷
-    3 ∷ 232 ∷ 0 ∷ 0 ∷ 0 ∷ 0 ∷ 0 ∷ 0 ∷ 0 ∷ 0 ∷ 0 ∷ 1 ∷ 0 ∷ 1 ∷ 243 ∷ 3 ∷ 0 ∷ 0 ∷ 0 ∷ 0 ∷ 0 ∷ 10 ∷ 0 ∷
-    0 ∷ 0 ∷ 10 ∷ 0 ∷ 0 ∷ 0 ∷ 4 ∷ 116 ∷ 111 ∷ 121 ∷ 109 ∷ 249 ∷ 0 ∷ 0 ∷ 0 ∷ 93 ∷ 2 ∷ 223 ∷ 223 ∷ 223 ∷
-    223 ∷ []
-
-pop_turns_back_is : sentences (traced fonts pop_turns_back) ≡ true ∷ true ∷ true ∷ false ∷ true ∷ true ∷ true ∷ true ∷ true ∷ []
-unfolding traced tracing operation operand_size
-pop_turns_back_is = refl
-
-pop_turns_back_refused : Lean fonts pop_turns_back → ⊥
-pop_turns_back_refused = refused pop_turns_back _ pop_turns_back_is refl
-
 -- modest
 abbrev two_across : List ℕ
 two_across =
@@ -407,25 +426,6 @@ move_alone_is = refl
 
 move_alone_refused : Lean fonts move_alone → ⊥
 move_alone_refused = refused move_alone _ move_alone_is refl
-
--- modest
-abbrev empty_rule_between : List ℕ
-empty_rule_between =
-    247 ∷ 2 ∷ 1 ∷ 131 ∷ 146 ∷ 192 ∷ 28 ∷ 59 ∷ 0 ∷ 0 ∷ 0 ∷ 0 ∷ 3 ∷ 232 ∷ 0 ∷ 139 ∷ 0 ∷ 0 ∷ 0 ∷ 1 ∷ 0 ∷
-    0 ∷ 0 ∷ 0 ∷ 0 ∷ 0 ∷ 0 ∷ 0 ∷ 0 ∷ 0 ∷ 0 ∷ 0 ∷ 0 ∷ 0 ∷ 0 ∷ 0 ∷ 0 ∷ 0 ∷ 0 ∷ 0 ∷ 0 ∷ 0 ∷ 0 ∷ 0 ∷ 0 ∷ 0 ∷
-    0 ∷ 0 ∷ 0 ∷ 0 ∷ 0 ∷ 0 ∷ 0 ∷ 0 ∷ 0 ∷ 0 ∷ 255 ∷ 255 ∷ 255 ∷ 255 ∷ 243 ∷ 3 ∷ 0 ∷ 0 ∷ 0 ∷ 0 ∷ 0 ∷ 10 ∷
-    0 ∷ 0 ∷ 0 ∷ 10 ∷ 0 ∷ 0 ∷ 0 ∷ 4 ∷ 116 ∷ 111 ∷ 121 ∷ 109 ∷ 174 ∷ 97 ∷ 148 ∷ 6 ∷ 132 ∷ 0 ∷ 0 ∷ 0 ∷ 0 ∷
-    0 ∷ 0 ∷ 0 ∷ 5 ∷ 153 ∷ 7 ∷ 97 ∷ 140 ∷ 248 ∷ 0 ∷ 0 ∷ 0 ∷ 15 ∷ 1 ∷ 131 ∷ 146 ∷ 192 ∷ 28 ∷ 59 ∷ 0 ∷ 0 ∷
-    0 ∷ 0 ∷ 3 ∷ 232 ∷ 0 ∷ 0 ∷ 0 ∷ 0 ∷ 0 ∷ 0 ∷ 0 ∷ 0 ∷ 0 ∷ 0 ∷ 0 ∷ 1 ∷ 243 ∷ 3 ∷ 0 ∷ 0 ∷ 0 ∷ 0 ∷ 0 ∷
-    10 ∷ 0 ∷ 0 ∷ 0 ∷ 10 ∷ 0 ∷ 0 ∷ 0 ∷ 4 ∷ 116 ∷ 111 ∷ 121 ∷ 109 ∷ 249 ∷ 0 ∷ 0 ∷ 0 ∷ 97 ∷ 2 ∷ 223 ∷
-    223 ∷ 223 ∷ 223 ∷ []
-
-empty_rule_between_is : sentences (traced fonts empty_rule_between) ≡ true ∷ true ∷ true ∷ true ∷ true ∷ false ∷ true ∷ true ∷ true ∷ []
-unfolding traced tracing operation operand_size
-empty_rule_between_is = refl
-
-empty_rule_between_refused : Lean fonts empty_rule_between → ⊥
-empty_rule_between_refused = refused empty_rule_between _ empty_rule_between_is refl
 
 -- no_zero
 abbrev w0_adds_0 : List ℕ

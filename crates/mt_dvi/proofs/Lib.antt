@@ -7,6 +7,8 @@ mod FilesNotLean
 pub mod Sentences
 -- which bytes are which operation
 pub mod CodeLemmas
+-- the pieces of pre and of a definition
+pub mod Pieces
 -- one operation more leads to the next state
 pub mod Prefix
 -- the opcodes of a page so far

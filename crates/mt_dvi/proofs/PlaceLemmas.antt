@@ -97,8 +97,8 @@ rule_written fonts old new numbers reached c height width put can emits few stan
     let o = own_opcode (Rule put height width) c next in
     record {
       page = stands.page ++ o ∷ [];
-      lean = lean_next stands.page o c next Lowered Arrived stands.lean [] refl refl
-          (λ rest e. tt) (λ rest e. refl) (λ rest. refl) (λ rest. refl) (λ rest. rw (positive height can.tall, positive width can.wide, stands.lean.allows) refl);
+      lean = lean_next stands.page o c next Lowered Arrived stands.lean [] refl (rw (positive height can.tall, positive width can.wide) refl)
+          (λ rest e. tt) (λ rest e. refl) (λ rest. refl) (λ rest. refl) (λ rest. rw stands.lean.allows refl);
       leads = leads_next fonts old new (in_page (with_opcodes (with_definitions fonts reached numbers) stands.page) c) (in_page (with_opcodes (with_definitions fonts (with_place reached (places.Rule c.h c.v height width) put) numbers) (stands.page ++ o ∷ [])) next) (Rule put height width) 9 stands.leads emits
           (λ rest. step_rule fonts (at_page old (with_definitions fonts reached numbers) stands.page) c height width put rest (positive height can.tall) (positive width can.wide)
           (sum_near c.h width (half _ can.h_in_range) (half _ can.width_in_range)) (near c.h (small _ can.h_in_range)) (near c.v (small _ can.v_in_range)) (below reached.file.place_count few)) refl;

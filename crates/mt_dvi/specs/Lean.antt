@@ -5,17 +5,20 @@ use Rattle.std.specs.Option.{option_eq}
 use Rattle.std.specs.List.{list_all}
 use Rattle.mt_family.specs.SetValue.{SetValue}
 use Rattle.mt_dvi.specs.Opcodes.{set1, fnt1}
-use Rattle.mt_dvi.specs.Codes.{Operation, Char, Rule, Nop, Right, Down, Set, Add, Select, Special, Register, W, X, Y, Z}
+use Rattle.mt_dvi.specs.Codes.{Operation, Char, Rule, Nop, Push, Pop, Right, Down, Set, Add, Select, Special, Register, W, X, Y, Z}
 use Rattle.mt_dvi.specs.Machine.{Registers, is_positive}
 use Rattle.mt_dvi.specs.Moves.{least_size}
 use Rattle.mt_dvi.specs.Trace.{Opcode, traced}
 
--- right, down, nop and xxx do not occur
+-- right, down, push, pop, nop and xxx do not occur, and each rule has a positive height and a positive width
 abbrev pub is_allowed : Operation → Bool
 is_allowed (Right by) = false
 is_allowed (Down by) = false
+is_allowed Push = false
+is_allowed Pop = false
 is_allowed Nop = false
 is_allowed (Special bytes) = false
+is_allowed (Rule put height width) = is_positive height && is_positive width
 is_allowed op = true
 
 abbrev pub is_same_font : Option ℕ → Option ℕ → Bool
@@ -61,8 +64,6 @@ amount_in now Z = now.z
 
 -- no move adds 0, so no operand of w, x, y or z is 0
 abbrev pub is_no_zero : Registers → Operation → Bool
-is_no_zero now (Right by) = not (int_eq by (pos 0))
-is_no_zero now (Down by) = not (int_eq by (pos 0))
 is_no_zero now (Set register by) = not (int_eq by (pos 0))
 is_no_zero now (Add register) = not (int_eq (amount_in now register) (pos 0))
 is_no_zero now op = true
@@ -77,7 +78,7 @@ abbrev pub sets : Register → Operation → Bool
 sets register (Set other by) = register_number register == register_number other
 sets register op = false
 
--- two registers are set in turn, the one that is named first next; other opcodes, pop among them, change no turn
+-- two registers are set in turn, the one that is named first next
 abbrev pub are_in_turn : Register → Register → List Opcode → Bool
 are_in_turn next other [] = true
 are_in_turn next other (opcode ∷ opcodes) =
@@ -96,16 +97,14 @@ moves_by Y = Downward ∷ []
 moves_by Z = Downward ∷ []
 
 abbrev pub moves_of : Operation → List Axis
-moves_of (Right by) = Across ∷ []
-moves_of (Down by) = Downward ∷ []
 moves_of (Set register by) = moves_by register
 moves_of (Add register) = moves_by register
 moves_of op = []
 
--- an opcode that fills a place
+-- an opcode that fills a place, where each rule has positive sides
 abbrev pub fills : Operation → Bool
 fills (Char put code) = true
-fills (Rule put height width) = is_positive height && is_positive width
+fills (Rule put height width) = true
 fills op = false
 
 abbrev pub is_none : List Axis → Bool
@@ -136,8 +135,6 @@ is_short_char opcode size put code =
 -- no operand could be shorter: that of a move has the least number of bytes that hold it as a signed number, and a font
 -- is selected by fnt_num
 abbrev pub is_short : ℕ → ℕ → Operation → Bool
-is_short code size (Right by) = size == least_size by
-is_short code size (Down by) = size == least_size by
 is_short code size (Set register by) = size == least_size by
 is_short code size (Char put character) = is_short_char code size put character
 is_short code size (Select n) = nat_lt code fnt1

@@ -1,23 +1,19 @@
 //! The bytes of each operation that the writer uses.
-ghost use Rattle.std.specs.Prelude.{◌≡◌, ◌<◌, ◌++◌, [], length, OnOk, if◌then◌else◌};
-ghost use Rattle.mt_dvi.specs.Codes.{Char, Rule, Set, Add, Select, Bop, Eop, Define, Pre, Post, PostPost, signed_of};
+ghost use Rattle.std.specs.Prelude.{◌≡◌, ◌<◌, OnOk, if◌then◌else◌};
+ghost use Rattle.mt_dvi.specs.Codes.{Char, Rule, Set, Add, Select, Bop, Eop, Post, PostPost, signed_of};
 ghost use Rattle.mt_dvi.specs.Moves.{least_size};
-ghost use Rattle.mt_dvi.specs.writer.Emits.{four_bytes, Emits, AppendsSigned, FitsFourBytes, own_preamble, own_postamble, register_value, zero_code};
+ghost use Rattle.mt_dvi.specs.writer.Emits.{Emits, AppendsSigned, FitsFourBytes, own_postamble, register_value, zero_code};
 ghost use Rattle.mt_dvi.specs.WrittenPlaces.{page_counts};
 
+use crate::encode;
 use crate::opcode::{
-    BOP, EOP, FNT_DEF1, FNT_NUM_0, IDENTIFIER, POST, POST_POST, PRE, PUT_RULE, PUT1, SET_RULE,
-    SET1, UNIT, W_0, X_0, Y_0, Z_0,
+    BOP, EOP, FNT_NUM_0, IDENTIFIER, POST, POST_POST, PUT_RULE, PUT1, SET_RULE, SET1, W_0, X_0,
+    Y_0, Z_0,
 };
 use std::alloc::AllocError;
 
-// A number of four bytes.
-fn push4(out: &mut Vec<u8>, x: u32) -> Result<(), AllocError>
-    ensures { OnOk result (out.new.items ≡ out.old.items ++ four_bytes x) }
-{
-    out.extend_from_slice(&x.to_be_bytes())?;
-    Ok(())
-}
+/// The magnification that the writer states, in thousandths.
+pub const MAG: i32 = 1000;
 
 // The number that the two's complement of x is in four bytes.
 fn twos_complement(x: i64) -> u32
@@ -25,11 +21,7 @@ fn twos_complement(x: i64) -> u32
     ensures is { signed_of 4 result ≡ x }
     ensures fits { result < 4294967296 }
 {
-    if x < 0 {
-        (x + 4294967296) as u32
-    } else {
-        x as u32
-    }
+    encode::twos_complement(x as i32)
 }
 
 // A signed number of four bytes.
@@ -37,8 +29,7 @@ fn push_signed(out: &mut Vec<u8>, x: i64) -> Result<(), AllocError>
     requires { FitsFourBytes x }
     ensures { OnOk result (AppendsSigned out.old.items out.new.items x) }
 {
-    push4(out, twos_complement(x))?;
-    Ok(())
+    encode::signed(out, x as i32)
 }
 
 /// The registers that hold amounts: w and x are added to h, y and z to v.
@@ -146,7 +137,7 @@ pub fn bop(out: &mut Vec<u8>, number: u32, before: i64) -> Result<(), AllocError
     ensures { OnOk result (Emits 45 out.old.items out.new.items (Bop (page_counts number) before)) }
 {
     out.push(BOP)?;
-    push4(out, number)?;
+    encode::four_bytes(out, number)?;
     out.extend_from_slice(&[0; 36])?;
     push_signed(out, before)?;
     Ok(())
@@ -157,44 +148,6 @@ pub fn eop(out: &mut Vec<u8>) -> Result<(), AllocError>
     ensures { OnOk result (Emits 1 out.old.items out.new.items Eop) }
 {
     out.push(EOP)?;
-    Ok(())
-}
-
-/// pre: num 25400000, den 473628672, mag 1000, no comment. They make the unit a scaled point.
-pub fn pre(out: &mut Vec<u8>) -> Result<(), AllocError>
-    ensures { OnOk result (Emits 15 out.old.items out.new.items (Pre own_preamble)) }
-{
-    out.extend_from_slice(&[PRE, IDENTIFIER])?;
-    out.extend_from_slice(&UNIT)?;
-    out.push(0)?;
-    Ok(())
-}
-
-/// fnt_def1: a font's number, checksum, size and design size, no area, and its name.
-pub fn define(
-    out: &mut Vec<u8>,
-    number: u8,
-    checksum: u32,
-    size: u32,
-    design: u32,
-    name: &[u8],
-) -> Result<(), AllocError>
-    requires { length name.now < 256 }
-    ensures { OnOk result (Emits 271 out.old.items out.new.items (Define (record {
-      number = number;
-      checksum = checksum;
-      size = size;
-      design = design;
-      area = [];
-      name = name.now;
-    }))) }
-{
-    out.extend_from_slice(&[FNT_DEF1, number])?;
-    push4(out, checksum)?;
-    push4(out, size)?;
-    push4(out, design)?;
-    out.extend_from_slice(&[0, name.len() as u8])?;
-    out.extend_from_slice(name)?;
     Ok(())
 }
 
@@ -213,9 +166,9 @@ pub fn post(
 {
     out.push(POST)?;
     push_signed(out, last)?;
-    out.extend_from_slice(&UNIT)?;
-    push4(out, tallest)?;
-    push4(out, widest)?;
+    encode::scale(out, MAG)?;
+    encode::four_bytes(out, tallest)?;
+    encode::four_bytes(out, widest)?;
     out.extend_from_slice(&[0, 0, (pages / 256) as u8, (pages % 256) as u8])?;
     Ok(())
 }
@@ -225,7 +178,7 @@ pub fn post_post(out: &mut Vec<u8>, post: u32) -> Result<(), AllocError>
     ensures { OnOk result (Emits 6 out.old.items out.new.items (PostPost post 2)) }
 {
     out.push(POST_POST)?;
-    push4(out, post)?;
+    encode::four_bytes(out, post)?;
     out.push(IDENTIFIER)?;
     Ok(())
 }

@@ -14,10 +14,9 @@ ghost use Rattle.mt_dvi.specs.writer.Pages.{DefinesAgain, IsTail, WritesPage};
 
 use crate::defined::DefinedFonts;
 use crate::edges::{GreatestEdges, NO_EDGES};
-use crate::emit;
-use crate::fonts::define;
 use crate::opcode::PADDING;
 use crate::page::write_places;
+use crate::{emit, encode};
 use mt_box::Place;
 use mt_family::FontSet;
 use mt_scaled::Items;
@@ -65,7 +64,7 @@ fn define_again(out: &mut Vec<u8>, defined: &[u16], fonts: &FontSet) -> Result<(
     ensures long { OnOk result (GrowsBy (271 * length defined.now) out.old.items out.new.items) }
 {
     for n in defined {
-        define(out, fonts, *n)?;
+        encode::define(out, fonts, *n)?;
     }
     Ok(())
 }
@@ -109,7 +108,7 @@ impl DviFile {
     {
         let mut out = Vec::with_capacity(alloc, FIRST_ROOM)?;
         let defined = DefinedFonts::with_capacity(alloc, fonts.font_count())?;
-        emit::pre(&mut out)?;
+        encode::pre(&mut out, emit::MAG)?;
         Ok(DviFile {
             out,
             defined,

@@ -4,6 +4,7 @@
 mod defined;
 mod edges;
 mod emit;
+pub mod encode;
 mod error;
 mod file;
 mod fonts;

@@ -18,7 +18,7 @@ use crate::defined::DefinedFonts;
 use crate::edges::{GreatestEdges, edges_of};
 use crate::emit;
 use crate::emit::Register;
-use crate::fonts::define;
+use crate::encode::define;
 use crate::moves::{HeldAmounts, MAX_COORDINATE, MoveForm, move_code};
 use mt_box::Place;
 use mt_family::FontSet;

@@ -8,12 +8,14 @@ use Rattle.std.proofs.lemmas.List.{append-nil}
 use Rattle.mt_family.specs.SetValue.{SetValue}
 use Rattle.mt_dvi.specs.Limits.{max_places}
 use Rattle.mt_dvi.specs.Opcodes.{bop, eop}
-use Rattle.mt_dvi.specs.Codes.{Definition, Bop, Eop, Operation, four_byte_numbers, operand_size, operation, signed, signed_of, unsigned}
+use Rattle.mt_dvi.specs.Codes.{four_bytes, Definition, Bop, Eop, Operation, four_byte_numbers, operand_size, operation, signed, signed_of, unsigned}
 use Rattle.mt_dvi.specs.File.{File, BetweenPages, advance, file_step, reading}
-use Rattle.mt_dvi.specs.writer.Emits.{FitsFourBytes, four_bytes}
+use Rattle.mt_dvi.specs.writer.Emits.{FitsFourBytes}
+use Rattle.mt_dvi.proofs.CodeLemmas.{signed_twos}
 use Rattle.mt_dvi.proofs.Prefix.{take_front, drop_front}
 use Rattle.mt_dviops.specs.Source.{SourcePage}
-use Rattle.mt_dviops.specs.Result.{greatest_page_depth, page_bytes, pages_bytes, last_bop, signed_bytes}
+use Rattle.mt_dvi.specs.Encoded.{signed_bytes}
+use Rattle.mt_dviops.specs.Result.{greatest_page_depth, page_bytes, pages_bytes, last_bop}
 use Rattle.mt_dviops.specs.Repeats.{AreCopies, IsCopy, SelectsOwn, begun, in_copy}
 use Rattle.mt_dviops.specs.AfterPages.{after_page, after_pages}
 use Rattle.mt_dviops.proofs.CopyLemmas.{read_one}
@@ -23,12 +25,8 @@ pub unsigned_four : (x : ℕ) → unsigned (four_bytes x) ≡ x
 unsigned_four x = omega arith
 
 pub signed_four : (x : ℤ) → FitsFourBytes x → signed (signed_bytes x) ≡ x
-signed_four (pos n) fits = rw (unsigned_four n) (low n fits) where
-  low : (n : ℕ) → n < 2147483648 → signed_of 4 n ≡ pos n
-  low n lt = grind (arith, nat_tests)
-signed_four (negsuc n) fits = rw (unsigned_four (4294967295 - n)) (high n (omega (arith, ints, fits))) where
-  high : (n : ℕ) → n < 2147483647 → signed_of 4 (4294967295 - n) ≡ negsuc n
-  high n lt = grind (arith, nat_tests, ints)
+signed_four (pos n) fits = rw (unsigned_four n) (signed_twos (pos n) fits)
+signed_four (negsuc n) fits = rw (unsigned_four (4294967295 - n)) (signed_twos (negsuc n) fits)
 
 four_long : (x : ℤ) → length (signed_bytes x) ≡ 4
 four_long (pos n) = refl

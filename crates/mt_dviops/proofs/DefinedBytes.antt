@@ -6,7 +6,8 @@ use Rattle.std.proofs.lemmas.List.{append-nil}
 use Rattle.std.proofs.lemmas.List.Elements.{filter-append}
 use Rattle.mt_family.specs.SetValue.{SetValue}
 use Rattle.mt_dvi.specs.Fonts.{definition_of}
-use Rattle.mt_dviops.specs.Result.{definition_bytes, definitions_bytes}
+use Rattle.mt_dvi.specs.Encoded.{definition_bytes}
+use Rattle.mt_dviops.specs.Result.{definitions_bytes}
 
 range_more : (a n : ℕ) → range_with_len a (suc n) ≡ range_with_len a n ++ (a + n) ∷ []
 range_more a zero = let e : a ≡ a + 0 = omega arith in ap (λ (k : ℕ). k ∷ []) e

@@ -4,8 +4,9 @@ use Rattle.std.specs.Prelude.{ℤ, pos, negsuc, ⊤}
 use Rattle.mt_dvi.specs.Opcodes.{eop}
 use Rattle.mt_dviops.specs.declared.totals.Totals.{Totals}
 use Rattle.mt_dviops.specs.Source.{SourcePage}
-use Rattle.mt_dviops.specs.Result.{last_bop, padding_bytes, page_bytes, pages_bytes, post_of, post_post_bytes, pre_bytes, scale_bytes, signed_bytes, two_bytes}
-use Rattle.mt_dvi.specs.writer.Emits.{four_bytes}
+use Rattle.mt_dvi.specs.Encoded.{pre_bytes, scale_bytes, signed_bytes, two_bytes}
+use Rattle.mt_dviops.specs.Result.{last_bop, padding_bytes, page_bytes, pages_bytes, post_of, post_post_bytes}
+use Rattle.mt_dvi.specs.Codes.{four_bytes}
 use Rattle.mt_dviops.specs.inner.Shown.{file_length, file_with_totals, front_of, head_of, padded, pages_length}
 
 -- each page has 40 bytes of counts

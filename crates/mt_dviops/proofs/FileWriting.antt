@@ -3,7 +3,8 @@ use Rattle.std.proofs.Common.{◌≡◌, ℕ, ◌+◌, ◌<◌, ◌≤◌, List,
 use Rattle.std.specs.Prelude.{ℤ, negsuc}
 use Rattle.mt_dviops.specs.declared.totals.Totals.{Totals}
 use Rattle.mt_dviops.specs.Source.{SourcePage}
-use Rattle.mt_dviops.specs.Result.{last_bop, padding_bytes, pages_bytes, post_of, post_post_bytes, pre_bytes}
+use Rattle.mt_dvi.specs.Encoded.{pre_bytes}
+use Rattle.mt_dviops.specs.Result.{last_bop, padding_bytes, pages_bytes, post_of, post_post_bytes}
 use Rattle.mt_dviops.specs.inner.Shown.{file_with_totals, front_of, head_of}
 
 pub head_written : (o0 o1 o2 definitions : List ℕ) (mag : ℤ) → o0 ≡ [] → o1 ≡ o0 ++ pre_bytes mag → o2 ≡ o1 ++ definitions → o2 ≡ head_of mag definitions

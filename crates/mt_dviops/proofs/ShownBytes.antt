@@ -7,7 +7,8 @@ use Rattle.mt_dvi.specs.Opcodes.{bop, eop}
 use Rattle.mt_dviops.specs.declared.page.PageCopy.{PageCopy}
 use Rattle.mt_dviops.specs.declared.totals.Totals.{Totals}
 use Rattle.mt_dviops.specs.Source.{SourcePage}
-use Rattle.mt_dviops.specs.Result.{copied_bytes, definitions_bytes, is_selected, last_bop, page_bytes, pages_bytes, selected_fonts, signed_bytes}
+use Rattle.mt_dvi.specs.Encoded.{signed_bytes}
+use Rattle.mt_dviops.specs.Result.{copied_bytes, definitions_bytes, is_selected, last_bop, page_bytes, pages_bytes, selected_fonts}
 use Rattle.mt_dviops.specs.inner.Shown.{AreShown, IsTotal, Shows, all_told, file_with_totals, has_selected, pages_length, told}
 use Rattle.mt_dviops.proofs.FileLengths.{AreFull}
 

@@ -7,16 +7,17 @@ use Rattle.std.proofs.lemmas.Bool.Decides.{nat_tests}
 use Rattle.std.proofs.lemmas.Int.{ints}
 use Rattle.std.proofs.lemmas.List.{append-nil, map-append}
 use Rattle.mt_family.specs.SetValue.{SetValue}
-use Rattle.mt_dvi.specs.Codes.{Definition, Operation, Post, PostPost, Postamble, Pre, operand_size, operation, signed, unsigned}
+use Rattle.mt_dvi.specs.Codes.{four_bytes, Definition, Operation, Post, PostPost, Postamble, Pre, operand_size, operation, signed, unsigned}
 use Rattle.mt_dvi.specs.Fonts.{definition_of, first_definition}
 use Rattle.mt_dvi.specs.File.{File, Page, Phase, AfterPost, BetweenPages, Continues, agrees, at_start, file_step, read, reading}
-use Rattle.mt_dvi.specs.writer.Emits.{FitsFourBytes, four_bytes}
+use Rattle.mt_dvi.specs.writer.Emits.{FitsFourBytes}
 use Rattle.mt_dvi.specs.writer.LeadsTo.{is_among}
 use Rattle.mt_dvi.proofs.CodeLemmas.{code_define, code_post_post}
 use Rattle.mt_dvi.proofs.Prefix.{one_step}
 use Rattle.mt_dvi.proofs.FontLemmas.{defined_is}
 use Rattle.mt_dviops.specs.Source.{SourcePage}
-use Rattle.mt_dviops.specs.Result.{post_post_bytes, before_post, greatest_page_depth, last_bop, page_bytes, pages_bytes, places_on, selected_fonts, copied_bytes, definition_bytes, definitions_bytes, pre_bytes, post_bytes, scale_bytes, signed_bytes, two_bytes}
+use Rattle.mt_dvi.specs.Encoded.{definition_bytes, pre_bytes, scale_bytes, signed_bytes, two_bytes}
+use Rattle.mt_dviops.specs.Result.{post_post_bytes, before_post, greatest_page_depth, last_bop, page_bytes, pages_bytes, places_on, selected_fonts, copied_bytes, definitions_bytes, post_bytes}
 use Rattle.mt_dviops.proofs.CopyLemmas.{read_one}
 use Rattle.mt_dvi.specs.Limits.{max_places}
 use Rattle.mt_dvi.specs.Edges.{greatest_edge, lower_edge, right_edge}

@@ -1,42 +1,17 @@
 -- The bytes of a file of chosen pages (`copied_bytes`).
-use Rattle.std.specs.Prelude.{ℕ, ◌+◌, ◌-◌, ◌/◌, ◌%◌, ℤ, pos, negsuc, List, [], ◌∷◌, ◌++◌, length, map, max, replicate, Bool, ◌==◌}
+use Rattle.std.specs.Prelude.{ℕ, ◌+◌, ◌-◌, ◌%◌, ℤ, pos, negsuc, List, [], ◌∷◌, ◌++◌, length, map, max, replicate, Bool, ◌==◌}
 use Rattle.std.specs.List.{filter, list_any, range_with_len}
 use Rattle.mt_family.specs.SetValue.{SetValue}
 use Rattle.mt_box.specs.declared.place.Place.{Place}
-use Rattle.mt_dvi.specs.Opcodes.{bop, eop, fnt_def1, pre, post, post_post}
-use Rattle.mt_dvi.specs.Codes.{Definition}
+use Rattle.mt_dvi.specs.Opcodes.{bop, eop, post, post_post}
+use Rattle.mt_dvi.specs.Codes.{four_bytes}
 use Rattle.mt_dvi.specs.File.{Page}
 use Rattle.mt_dvi.specs.Machine.{WrittenPlace}
 use Rattle.mt_dvi.specs.Fonts.{definition_of}
 use Rattle.mt_dvi.specs.Edges.{lower_edge, right_edge, greatest_edge}
-use Rattle.mt_dvi.specs.writer.Emits.{four_bytes}
+use Rattle.mt_dvi.specs.Encoded.{definition_bytes, pre_bytes, scale_bytes, signed_bytes, two_bytes}
 use Rattle.mt_dvi.specs.WrittenPlaces.{all_places}
 use Rattle.mt_dviops.specs.Source.{SourcePage}
-
--- the number that the two's complement of a number from - 2^31 to 2^31 - 1 is in four bytes
-abbrev pub twos_complement : ℤ → ℕ
-twos_complement (pos n) = n
-twos_complement (negsuc n) = 4294967295 - n
-
-abbrev pub signed_bytes : ℤ → List ℕ
-signed_bytes x = four_bytes (twos_complement x)
-
-abbrev pub two_bytes : ℕ → List ℕ
-two_bytes n = n / 256 ∷ n % 256 ∷ []
-
--- the unit and the magnification
-abbrev pub scale_bytes : ℤ → List ℕ
-scale_bytes mag = four_bytes 25400000 ++ four_bytes 473628672 ++ signed_bytes mag
-
--- pre, with an empty comment
-abbrev pub pre_bytes : ℤ → List ℕ
-pre_bytes mag = pre ∷ 2 ∷ scale_bytes mag ++ 0 ∷ []
-
--- fnt_def, with the number in one byte
-abbrev pub definition_bytes : Definition → List ℕ
-definition_bytes d =
-    fnt_def1 ∷ d.number ∷ four_bytes d.checksum ++ four_bytes d.size ++ four_bytes d.design
-    ++ length d.area ∷ length d.name ∷ d.area ++ d.name
 
 abbrev pub is_selected : List SourcePage → ℕ → Bool
 is_selected pages n =

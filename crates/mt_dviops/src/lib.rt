@@ -5,7 +5,6 @@ mod append;
 mod copies;
 mod copy;
 mod edges;
-mod emit;
 mod error;
 mod open;
 mod page;

@@ -1,21 +1,22 @@
 //! A file of chosen pages.
 ghost use Rattle.std.specs.Prelude.{◌≡◌, ◌+◌, ◌<◌, ◌≤◌, ◌^◌, ◌++◌, ◌∷◌, [], All, IfErr, IfOk, List, OnOk, length, negsuc};
 ghost use Rattle.std.specs.List.{filter, range_with_len};
+ghost use Rattle.mt_dvi.specs.Encoded.{signed_bytes};
 ghost use Rattle.mt_dvi.specs.Limits.{max_dvi_pages};
 ghost use Rattle.mt_family.specs.SetValue.{IsSet};
 ghost use Rattle.mt_dviops.specs.Copied.{copied_pages};
-ghost use Rattle.mt_dviops.specs.Result.{definitions_bytes, last_bop, pages_bytes};
+ghost use Rattle.mt_dviops.specs.Result.{definitions_bytes, last_bop, padding_bytes, page_bytes, pages_bytes, post_of, post_post_bytes};
 ghost use Rattle.mt_dviops.specs.Source.{SourcePage};
 ghost use Rattle.mt_dviops.specs.Refused.{IsAnswer};
 ghost use Rattle.mt_dviops.specs.declared.error.OpError.TheVariants.{TooManyPages};
-ghost use Rattle.mt_dviops.specs.inner.Shown.{AreShown, all_told, file_length, file_with_totals, has_selected, pointer_of};
+ghost use Rattle.mt_dviops.specs.inner.Shown.{AreShown, all_told, file_length, file_with_totals, has_selected, pointer_of, told};
 
-use crate::emit;
 use crate::error::OpError;
 use crate::page::PageCopy;
 use crate::selected::SelectedFonts;
 use crate::totals::Totals;
-use mt_dvi::{DviBytes, MAX_DVI_PAGES, MAX_PLACES};
+use mt_dvi::opcode::{BOP, EOP, IDENTIFIER, PADDING, POST, POST_POST};
+use mt_dvi::{DviBytes, MAX_DVI_PAGES, MAX_PLACES, encode};
 use mt_dviread::MAX_DVI;
 use mt_family::FontSet;
 use mt_scaled::Items;
@@ -23,6 +24,72 @@ use std::alloc::{AllocError, Global};
 
 // The bytes of a file beside its pages and its definitions and before its padding: pre, post and post_post.
 const AROUND_PAGES: u64 = 50;
+
+// Writes the offset of a bop, or -1.
+fn push_pointer(out: &mut Vec<u8>, bop: Option<u32>) -> Result<(), AllocError>
+    ensures { OnOk result (out.new.items ≡ out.old.items ++ signed_bytes (pointer_of bop)) }
+{
+    match bop {
+        None => encode::four_bytes(out, u32::MAX),
+        Some(at) => encode::four_bytes(out, at),
+    }
+}
+
+// Writes a page, after one whose bop is at an offset, or the first one.
+fn write_page(out: &mut Vec<u8>, last: Option<u32>, page: PageCopy<'_>) -> Result<(), AllocError>
+    ensures { OnOk result (out.new.items ≡ out.old.items ++ page_bytes (pointer_of last) (told page.entry)) }
+{
+    out.push(BOP)?;
+    out.extend_from_slice(page.counts)?;
+    push_pointer(out, last)?;
+    out.extend_from_slice(page.body)?;
+    out.push(EOP)?;
+    Ok(())
+}
+
+// Writes post: the offset of the last bop, the unit and the magnification, the greatest extents, the depth
+// of the stack, and the number of pages.
+fn write_post(
+    out: &mut Vec<u8>,
+    mag: i32,
+    last: Option<u32>,
+    totals: &Totals,
+    pages: u16,
+) -> Result<(), AllocError>
+    ensures { OnOk result (out.new.items ≡ out.old.items
+        ++ post_of mag (pointer_of last) totals.now.tallest totals.now.widest totals.now.depth pages) }
+{
+    out.push(POST)?;
+    push_pointer(out, last)?;
+    encode::scale(out, mag)?;
+    encode::four_bytes(out, totals.tallest)?;
+    encode::four_bytes(out, totals.widest)?;
+    encode::two_bytes(out, totals.depth)?;
+    encode::two_bytes(out, pages)?;
+    Ok(())
+}
+
+// Writes post_post: the offset of post.
+fn write_post_post(out: &mut Vec<u8>, post: u32) -> Result<(), AllocError>
+    ensures { OnOk result (out.new.items ≡ out.old.items ++ post_post_bytes post) }
+{
+    out.push(POST_POST)?;
+    encode::four_bytes(out, post)?;
+    out.push(IDENTIFIER)?;
+    Ok(())
+}
+
+// Four to seven bytes 223 at the end of a file of so many bytes.
+fn padding(length: usize) -> &'static [u8]
+    ensures { result.now ≡ padding_bytes length }
+{
+    match length % 4 {
+        0 => &[PADDING; 4],
+        1 => &[PADDING; 7],
+        2 => &[PADDING; 6],
+        _ => &[PADDING; 5],
+    }
+}
 
 // Defines a font if it is selected.
 fn define_selected(
@@ -40,7 +107,7 @@ fn define_selected(
     if !selected.contains(n) {
         return Ok(());
     }
-    emit::define(out, fonts, n)?;
+    encode::define(out, fonts, n)?;
     Ok(())
 }
 
@@ -70,7 +137,7 @@ fn file_length_of(definitions: usize, pages: u64) -> u64
     ensures { result ≡ file_length definitions pages }
 {
     let length = AROUND_PAGES + 2 * definitions as u64 + pages;
-    length + emit::padding(length as usize).len() as u64
+    length + padding(length as usize).len() as u64
 }
 
 // Writes the pages; the offset of the last bop, if there is one.
@@ -86,7 +153,7 @@ fn write_pages(out: &mut Vec<u8>, pages: &[PageCopy<'_>]) -> Result<Option<u32>,
     let mut rest = pages;
     while let [page, later @ ..] = rest {
         let at = out.len() as u32;
-        emit::page(out, last, *page)?;
+        write_page(out, last, *page)?;
         last = Some(at);
         rest = later;
     }
@@ -107,14 +174,14 @@ fn write_file(
     ensures { IfOk result (λ bytes. bytes ≡ file_with_totals mag definitions.now totals.now (all_told pages.now)) }
 {
     let mut out = Vec::with_capacity(alloc, size)?;
-    emit::pre(&mut out, mag)?;
+    encode::pre(&mut out, mag)?;
     out.extend_from_slice(definitions)?;
     let last = write_pages(&mut out, pages)?;
     let post = out.len() as u32;
-    emit::post(&mut out, mag, last, totals, pages.len() as u16)?;
+    write_post(&mut out, mag, last, totals, pages.len() as u16)?;
     out.extend_from_slice(definitions)?;
-    emit::post_post(&mut out, post)?;
-    let end = emit::padding(out.len());
+    write_post_post(&mut out, post)?;
+    let end = padding(out.len());
     out.extend_from_slice(end)?;
     Ok(Items::from_vec(out))
 }

@@ -1,8 +1,9 @@
 -- What the next opcode of a file does, as the reader tells it (`turn_goes`, `turn_ends`, `turn_fails`), and the reading
 -- after it.
 use Rattle.std.proofs.Common.{◌≡◌, ℕ, ◌+◌, ◌<◌, ◌≤◌, List, [], ◌∷◌, length, drop, take, get_or, refl, sym, ◌∙◌, ap, subst, arith, length-drop}
-use Rattle.std.specs.Prelude.{Ok, Err, Option, Some, None, Result, IfSome}
+use Rattle.std.specs.Prelude.{Ok, Err, Option, Some, None, Result, IfSome, true}
 use Rattle.std.specs.Option.{option_map}
+use Rattle.std.proofs.lemmas.Bool.Decides.{nat_tests}
 use Rattle.mt_family.specs.SetValue.{SetValue}
 use Rattle.mt_dvi.specs.Codes.{Operation, operand_size, operation}
 use Rattle.mt_dvi.specs.File as files
@@ -15,7 +16,7 @@ use Rattle.mt_dviread.specs.declared.error.DviError.{DviError}
 use Rattle.mt_dviread.specs.declared.error.DviError.TheVariants as errors
 use Rattle.mt_dviread.specs.declared.file.OpenFile.{OpenFile}
 use Rattle.mt_dviread.specs.Deeds.{IsDeed}
-use Rattle.mt_dviread.specs.Sees.{Finishes, GoesOn, IsReading, IsWithin, Sees, Turns, continuation}
+use Rattle.mt_dviread.specs.Sees.{Finishes, GoesOn, IsReading, IsWithin, Sees, Turns, are_cut, continuation}
 use Rattle.mt_dviread.specs.inner.Operations.{cause_of}
 use Rattle.mt_dviread.specs.inner.Follows.{Follows}
 use Rattle.mt_dviread.proofs.Sizes.{size_of_operands}
@@ -198,3 +199,12 @@ reads_out fonts bytes o new file t r =
 pub reads_fault : (fonts : SetValue) (bytes : List ℕ) (o new : OpenFile) (file : files.File) (error : DviError) → IsReading fonts bytes o file → Turns fonts file o.rest.now (Err error) new
     → IfSome (fault_of error) (λ (fault : Fault). read fonts bytes ≡ Err fault)
 reads_fault fonts bytes o new file error r t = if_some (fault_of error) (λ fault e. r.reads ∙ e) t
+
+-- an opcode with all its operands
+pub not_cut : (bytes : List ℕ) (code size : ℕ) (operands after : List ℕ) → IsFront bytes code size operands after → are_cut bytes ≡ true → ⊥
+not_cut [] code size operands after f e = (let t = f.there in omega (arith, t))
+not_cut (x ∷ xs) code size operands after f e =
+    let s = front_size x code size xs operands after f in
+    let l = f.long in
+    let lt : length xs < operand_size x xs = grind (arith, nat_tests) in
+    omega (arith, s, l, lt)

@@ -1,5 +1,5 @@
 -- What the reader keeps of a file (`Sees`), and what it tells of the next opcode (`Turns`).
-use Rattle.std.specs.Prelude.{◌≡◌, ◌≤◌, ◌<◌, ℕ, ◌+◌, ◌^◌, List, [], ◌∷◌, ◌++◌, length, take, drop, Option, Some, None, Result, Ok, Err, IfSome, ◌⊎◌}
+use Rattle.std.specs.Prelude.{◌≡◌, ◌≤◌, ◌<◌, ℕ, ◌+◌, ◌^◌, List, [], ◌∷◌, ◌++◌, length, take, drop, Option, Some, None, Result, Ok, Err, IfSome, ◌⊎◌, Bool, true, nat_lt}
 use Rattle.mt_family.specs.SetValue.{SetValue}
 use Rattle.mt_dvi.specs.Codes.{operand_size, operation}
 use Rattle.mt_dvi.specs.File as files
@@ -45,6 +45,11 @@ pub record IsWithin (open_file : OpenFile) : Type 0 where
 pub record Begins (bytes : List ℕ) (code : ℕ) (later : List ℕ) : Type 0 where
   pub is : bytes ≡ code ∷ later
   pub long : operand_size code later ≤ length later
+
+-- no byte is left, or fewer than the operands of the opcode that these bytes begin with
+abbrev pub are_cut : List ℕ → Bool
+are_cut [] = true
+are_cut (code ∷ later) = nat_lt (length later) (operand_size code later)
 
 abbrev pub continuation : SetValue → files.File → ℕ → List ℕ → files.Continuation
 continuation fonts file code later =

@@ -1,5 +1,5 @@
 //! What is read of a file so far, and what an operation does to it.
-ghost use Rattle.std.specs.Prelude.{◌≡◌, ◌<◌, ◌≤◌, ◌+◌, ◌^◌, nat_le, [], List, ℕ, ◌==◌, ◌&&◌, length, IfOk, IfSome, Ok, Some};
+ghost use Rattle.std.specs.Prelude.{◌≡◌, ◌<◌, ◌≤◌, ◌+◌, ◌^◌, nat_le, [], List, ℕ, ◌==◌, ◌&&◌, length, IfOk, IfSome, Ok, Err, Some, true};
 ghost use Rattle.std.specs.List.{list_all};
 ghost use Rattle.std.specs.Ordering.{int_eq};
 ghost use Rattle.mt_family.specs.SetValue.{SetValue};
@@ -14,7 +14,8 @@ ghost use Rattle.mt_dviread.specs.declared.file.Phase.TheVariants.{AfterPost, Be
 ghost use Rattle.mt_dviread.specs.Deeds.{IsNear, IsNearDeed};
 ghost use Rattle.mt_dviread.specs.inner.Operations.{IsOperation, IsPreamble, IsPostamble, IsDefinition};
 ghost use Rattle.mt_dviread.specs.inner.Follows.{Goes, Fills, Does, EndsFile, Follows, Counts};
-ghost use Rattle.mt_dviread.specs.Sees.{Sees, IsWithin, Turns};
+ghost use Rattle.mt_dviread.specs.Sees.{Sees, IsWithin, Turns, are_cut};
+ghost use Rattle.mt_dviread.specs.declared.error.DviError.TheVariants.{Truncated};
 
 use crate::cause::Cause;
 use crate::deed::Deed;
@@ -154,6 +155,7 @@ impl<'a> OpenFile<'a> {
         requires within { IsWithin self.old }
         ensures turns { (file : files.File) → Sees fonts.now self.old file
             → Turns fonts.now file self.old.rest.now result self.new }
+        ensures cut { are_cut self.old.rest.now ≡ true → result ≡ Err (Truncated self.old.at) }
         ensures near { IfOk result (λ deed. IfSome deed IsNearDeed) }
         ensures within { IfOk result (λ deed. IsWithin self.new) }
         ensures shorter { (deed : Deed) → result ≡ Ok (Some deed)

@@ -1,15 +1,11 @@
 -- The bytes by which the writer states an operation (`Emits`).
-use Rattle.std.specs.Prelude.{◌≡◌, ℕ, ◌+◌, ◌/◌, ◌%◌, ◌<◌, ◌≤◌, ℤ, pos, nat_abs, List, [], ◌∷◌, ◌++◌, length, true, false, nat_lt, if◌then◌else◌}
+use Rattle.std.specs.Prelude.{◌≡◌, ℕ, ◌+◌, ◌<◌, ◌≤◌, ℤ, pos, nat_abs, List, [], ◌∷◌, ◌++◌, length, true, false, nat_lt, if◌then◌else◌}
 use Rattle.mt_dvi.specs.Opcodes as opcodes
 use Rattle.mt_dvi.specs.Codes as codes
-use Rattle.mt_dvi.specs.Codes.{Operation, Char, Rule, Bop, Eop, Set, Add, Select, Define, Pre, Post, PostPost, Preamble, Postamble, operand_size, operation, signed_of}
+use Rattle.mt_dvi.specs.Codes.{four_bytes, Operation, Char, Rule, Bop, Eop, Set, Add, Select, Define, Pre, Post, PostPost, Preamble, Postamble, operand_size, operation, signed_of}
 use Rattle.mt_dvi.specs.Moves.{least_size}
 use Rattle.mt_dvi.specs.declared.emit.Register.{Register}
 use Rattle.mt_dvi.specs.declared.emit.Register.TheVariants.{W, X, Y, Z}
-
--- a number below 2^32 in four bytes
-abbrev pub four_bytes : ℕ → List ℕ
-four_bytes x = x / 16777216 ∷ x / 65536 % 256 ∷ x / 256 % 256 ∷ x % 256 ∷ []
 
 -- at most 2^31 - 1 in size
 abbrev pub FitsFourBytes : ℤ → Type 0

@@ -9,7 +9,8 @@ use Rattle.mt_dviops.specs.declared.page.PageCopy.{PageCopy}
 use Rattle.mt_dviops.specs.declared.totals.Totals.{Totals}
 use Rattle.mt_dvi.specs.File.{empty_page}
 use Rattle.mt_dviops.specs.Source.{SourcePage}
-use Rattle.mt_dviops.specs.Result.{greatest_page_depth, is_selected, last_bop, pages_bytes, places_in, places_on, post_of, post_post_bytes, pre_bytes, padding_bytes, with_tail}
+use Rattle.mt_dvi.specs.Encoded.{pre_bytes}
+use Rattle.mt_dviops.specs.Result.{greatest_page_depth, is_selected, last_bop, pages_bytes, places_in, places_on, post_of, post_post_bytes, padding_bytes, with_tail}
 
 -- a font is among the selected ones
 abbrev pub has_selected : SelectedFonts → ℕ → Bool

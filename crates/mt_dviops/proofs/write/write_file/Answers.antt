@@ -22,7 +22,7 @@ pub returns : goal.returns
 returns c =
     let head = head_written _ _ _ c.args.definitions.now c.args.mag c.in_ok-out.ensures.items (rw (to_z-of_z c.ranges.mag) at c.in_ok-pre.ensures) c.in_ok-extend_from_slice.ensures.items in
     let post : c.len-post.result ≡ length c.write_pages.new.out.items = omega (arith, c.len-post.ensures) in
-    let whole : c.len.result ≡ length c.post_post.new.out.items = omega (arith, c.len.ensures) in
+    let whole : c.len.result ≡ length c.write_post_post.new.out.items = omega (arith, c.len.ensures) in
     let all = file_written _ _ _ _ _ _ c.args.definitions.now c.padding-end.result.now c.args.mag (pointer_of c.in_ok-last.last) c.args.totals.now (all_told c.args.pages.now) _ _ head
-    c.in_ok-last.ensures.pages c.in_ok-last.ensures.last (rw (to_z-of_z c.ranges.mag) at c.in_ok-post.ensures) (sym (count_same c.args.pages.now)) c.in_ok-extend_from_slice-2.ensures.items post c.in_ok-post_post.ensures (c.padding-end.ensures ∙ ap padding_bytes whole) c.in_ok-extend_from_slice-3.ensures.items in
+    c.in_ok-last.ensures.pages c.in_ok-last.ensures.last (rw (to_z-of_z c.ranges.mag) at c.in_ok-write_post.ensures) (sym (count_same c.args.pages.now)) c.in_ok-extend_from_slice-2.ensures.items post c.in_ok-write_post_post.ensures (c.padding-end.ensures ∙ ap padding_bytes whole) c.in_ok-extend_from_slice-3.ensures.items in
     c.from_vec.ensures ∙ all

@@ -12,7 +12,7 @@ overflow_cast-at c = let s = left_short _ _ _ _ _ c.loop-rest.invariant in omega
 pub loop-rest-preserved : goal.loop-rest-preserved
 loop-rest-preserved c =
     let at : c.len-at.result ≡ length c.loop-rest.out.items = omega (arith, c.len-at.ensures) in
-    pages_next c.args.out.now.items c.args.pages.now c.loop-rest.out.items _ (pointer_of c.loop-rest.last) c.len-at.result c.loop-rest.rest.now _ c.in-len1-up.len_at_least at c.in_ok-page.ensures c.loop-rest.invariant
+    pages_next c.args.out.now.items c.args.pages.now c.loop-rest.out.items _ (pointer_of c.loop-rest.last) c.len-at.result c.loop-rest.rest.now _ c.in-len1-up.len_at_least at c.in_ok-write_page.ensures c.loop-rest.invariant
 
 pub returns-clause-pages : goal.returns-clause-pages
 returns-clause-pages c = (pages_end c.args.out.now.items c.args.pages.now c.loop-rest.out.items (pointer_of c.loop-rest.last) c.loop-rest.rest.now c.in_default.len_below c.loop-rest.invariant).bytes

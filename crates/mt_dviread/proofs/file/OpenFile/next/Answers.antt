@@ -4,7 +4,7 @@ use Rattle.mt_dvi.specs.Codes.{operand_size}
 use Rattle.mt_dvi.specs.File.{Fault}
 use Rattle.mt_dvi.specs.Machine as machine
 use Rattle.mt_dviread.specs.inner.Operations.{cause_of}
-use Rattle.mt_dviread.proofs.Turns.{front, turn_cut, turn_fails, turn_out, turns_on, whole}
+use Rattle.mt_dviread.proofs.Turns.{front, not_cut, turn_cut, turn_fails, turn_out, turns_on, whole}
 use Rattle.mt_dviread.proofs.file.OpenFile.next.Goals as goal
 
 pub returns-in_default-clause-turns : goal.returns-in_default-clause-turns
@@ -34,3 +34,9 @@ returns-clause-turns c = λ file s.
     let f = front c.args.self.now.rest.now _ _ _ _ _ c.in-len1-up.len_at_least refl c.past-later.ensures.is c.operand_size-size.ensures c.if-later-size.false c.front.ensures.is c.past-after.ensures.is in
     turns_on c.args.fonts.now file c.args.self.now c.step.new.self _ c.args.self.now.rest.now _ c.operand_size-size.result c.front.result.now c.past-after.result.now c.in-Ok.deed f
     (c.in-Ok.ensures.follows file _ s c.decode-operation.ensures) refl refl
+
+pub returns-in-Err-clause-cut : goal.returns-in-Err-clause-cut
+returns-in-Err-clause-cut c = λ e. absurd (not_cut c.args.self.now.rest.now _ _ _ _ (front c.args.self.now.rest.now _ _ _ _ _ c.in-len1-up.len_at_least refl c.past-later.ensures.is c.operand_size-size.ensures c.if-later-size.false c.front.ensures.is c.past-after.ensures.is) e)
+
+pub returns-clause-cut : goal.returns-clause-cut
+returns-clause-cut c = λ e. absurd (not_cut c.args.self.now.rest.now _ _ _ _ (front c.args.self.now.rest.now _ _ _ _ _ c.in-len1-up.len_at_least refl c.past-later.ensures.is c.operand_size-size.ensures c.if-later-size.false c.front.ensures.is c.past-after.ensures.is) e)

@@ -1,6 +1,0 @@
-use Rattle.std.proofs.Common.{to_z-of_z}
-use Rattle.mt_dviops.proofs.Pieces.{scale_joined}
-use Rattle.mt_dviops.proofs.emit.push_scale.Goals as goal
-
-pub returns : goal.returns
-returns c = scale_joined _ _ _ _ c.args.mag c.in_ok-push4.ensures c.in_ok-push4-2.ensures (rw (to_z-of_z c.ranges.mag) at c.in_ok-push_signed.ensures)
