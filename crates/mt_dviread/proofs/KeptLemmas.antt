@@ -1,6 +1,6 @@
 -- What `read_dvi` keeps of a file, and its answers.
-use Rattle.std.proofs.Common.{◌≡◌, ℕ, ◌+◌, ◌≤◌, List, [], ◌∷◌, ◌++◌, length, refl, sym, ◌∙◌, ap, arith, length-append}
-use Rattle.std.specs.Prelude.{Ok, Err, Option, Some, None, Result, IfSome, IfOk, IfErr}
+use Rattle.std.proofs.Common.{◌≡◌, ℕ, ◌+◌, ◌≤◌, List, [], ◌∷◌, ◌++◌, length, refl, sym, ◌∙◌, ap, arith, length-append, length-drop, inl, inr}
+use Rattle.std.specs.Prelude.{Ok, Err, Option, Some, None, Result, IfSome, IfOk, IfErr, IsSome, ◌⊎◌}
 use Rattle.std.proofs.lemmas.List.{append-nil, map-append}
 use Rattle.mt_family.specs.SetValue.{SetValue}
 use Rattle.mt_box.specs.declared.place.Place.{Place}
@@ -20,7 +20,10 @@ use Rattle.mt_dviread.specs.declared.deed.Deed.TheVariants.{Passes, BeginsPage, 
 use Rattle.mt_dviread.specs.declared.error.DviError.{DviError}
 use Rattle.mt_dviread.specs.declared.error.DviError.TheVariants as errors
 use Rattle.mt_dviread.specs.declared.file.OpenFile.{OpenFile}
-use Rattle.mt_dviread.specs.Sees.{Finishes, GoesOn, IsWithin, Sees, Turns}
+use Rattle.mt_dviread.specs.declared.file.Phase.{Phase}
+use Rattle.mt_dviread.specs.declared.file.Phase.TheVariants.{BeforePre, BetweenPages, InPage, AfterPost}
+use Rattle.mt_dviread.specs.Sees.{Finishes, GoesOn, IsReading, IsWithin, Sees, Turns, phase_of}
+use Rattle.mt_dviread.proofs.Offsets.{fault_not_before, read_fault}
 use Rattle.mt_dviread.proofs.Turns.{file_after, if_some, reads_fault, reads_on, reads_out, starts}
 
 all_places_more : (pages : List (List Place)) (page : List Place) → length (all_places (pages ++ page ∷ [])) ≡ length (all_places pages) + length page
@@ -73,6 +76,20 @@ pub none_left : {A : Type 0} (o : Option A) → ((x : A) → o ≡ Some x → �
 none_left None not = refl
 none_left (Some x) not = absurd (not x refl)
 
+-- an opcode has a byte at least
+further : (fonts : SetValue) (file : File) (o new : OpenFile) (deed : Deed) → GoesOn fonts file o.rest.now deed new → new.at + length new.rest.now ≡ o.at + length o.rest.now → 1 ≤ new.at
+further fonts file o new deed t same =
+    let old = ap length t.begins.is in
+    let left = ap length t.left in
+    let rest = length-drop (operand_size t.code t.later) t.later in
+    omega (arith, same, old, left, rest)
+
+phase_before : (p : Phase) → files.BeforePre ≡ phase_of p → p ≡ BeforePre
+phase_before BeforePre e = refl
+phase_before BetweenPages e = absurd (cc)
+phase_before InPage e = absurd (cc)
+phase_before AfterPost e = absurd (cc)
+
 -- one turn of the loop
 pub keeping_on : (fonts : SetValue) (bytes : List ℕ) (o new : OpenFile) (pages ended : List (List Place)) (page begun : List Place) (deed : Deed) → IsKeeping fonts bytes o pages page
     → ((file : File) → Sees fonts o file → GoesOn fonts file o.rest.now deed new) → IsWithin new → new.at + length new.rest.now ≡ o.at + length o.rest.now
@@ -83,6 +100,7 @@ keeping_on fonts bytes o new pages ended page begun deed k turns within same e b
       file = file_after fonts k.file o.rest.now deed new t;
       reading = reads_on fonts bytes o new k.file deed t k.reading within same;
       keeps = rw (e, b) (keeps_on deed pages page k.file t.next (operand_size t.code t.later + 1) k.keeps t.changes);
+      first = inr (further fonts k.file o new deed t same);
     }
 
 pub keeping_done : (fonts : SetValue) (bytes : List ℕ) (o new : OpenFile) (pages : List (List Place)) (page : List Place) → IsKeeping fonts bytes o pages page
@@ -109,7 +127,42 @@ keeping_starts fonts bytes o pages page s within is none empty =
       file = files.at_start;
       reading = starts fonts bytes o s within is;
       keeps = rw (none, empty) (record { ended = refl; begun = refl; counted = omega arith });
+      first = inl (phase_before o.phase s.phase);
     }
+
+-- behind the first opcode no fault is at offset 0
+not_first : (fonts : SetValue) (bytes : List ℕ) (o : OpenFile) (file : File) → IsReading fonts bytes o file → 1 ≤ o.at → (fault : Fault) → DviFault fonts bytes fault → fault.at ≡ 0 → ⊥
+not_first fonts bytes o file r further fault is zero =
+    let there = r.sees.at in
+    let at = fault_not_before fonts file 0 o.rest.now fault (sym r.reads ∙ read_fault fonts bytes fault is) in
+    omega (arith, further, there, at, zero)
+
+same_fault : (fonts : SetValue) (bytes : List ℕ) (f g : Fault) → DviFault fonts bytes f → DviFault fonts bytes g → f ≡ g
+same_fault fonts bytes f g e h = let a : pages_of fonts bytes ≡ Err f = e in let b : pages_of fonts bytes ≡ Err g = h in cc
+
+-- an error where the fault is at offset 0
+pub keeping_early : (fonts : SetValue) (bytes : List ℕ) (o new : OpenFile) (pages : List (List Place)) (page : List Place) (error : DviError) → IsKeeping fonts bytes o pages page
+    → ((file : File) → Sees fonts o file → Turns fonts file o.rest.now (Err error) new) → (o.phase ≡ BeforePre → IsSome (fault_of error))
+    → (fault : Fault) → DviFault fonts bytes fault → fault.at ≡ 0 → fault_of error ≡ Some fault
+keeping_early fonts bytes o new pages page error k turns first fault is zero = by_fault (fault_of error) refl (keeping_fault fonts bytes o new pages page error k turns) where
+  by_first : fault_of error ≡ None → (o.phase ≡ BeforePre) ⊎ (1 ≤ o.at) → ⊥
+  by_first e (inl before) = (let f : IsSome (fault_of error) = first before in absurd (cc))
+  by_first e (inr further) = not_first fonts bytes o k.file k.reading further fault is zero
+
+  by_fault : (f : Option Fault) → fault_of error ≡ f → IfSome f (λ (x : Fault). DviFault fonts bytes x) → fault_of error ≡ Some fault
+  by_fault None e h = absurd (by_first e k.first)
+  by_fault (Some x) e h = e ∙ ap (λ (y : Fault). Some y) (same_fault fonts bytes x fault h is)
+
+-- memory ran out behind the first opcode
+pub keeping_late : (fonts : SetValue) (bytes : List ℕ) (o new : OpenFile) (pages : List (List Place)) (page : List Place) (deed : Deed) → IsKeeping fonts bytes o pages page
+    → ((file : File) → Sees fonts o file → GoesOn fonts file o.rest.now deed new) → IsWithin new → new.at + length new.rest.now ≡ o.at + length o.rest.now
+    → (fault : Fault) → DviFault fonts bytes fault → fault.at ≡ 0 → ⊥
+keeping_late fonts bytes o new pages page deed k turns within same fault is zero =
+    let t = turns k.file k.reading.sees in
+    not_first fonts bytes new _ (reads_on fonts bytes o new k.file deed t k.reading within same) (further fonts k.file o new deed t same) fault is zero
+
+pub not_both : (fonts : SetValue) (bytes : List ℕ) (pages : List (List Place)) (fault : Fault) → Dvi fonts bytes pages → DviFault fonts bytes fault → ⊥
+not_both fonts bytes pages fault read refused = let a : pages_of fonts bytes ≡ Ok pages = read in let b : pages_of fonts bytes ≡ Err fault = refused in absurd (cc)
 
 -- a file that is read has no fault
 no_fault : (fonts : SetValue) (bytes : List ℕ) (error : DviError) → IfSome (fault_of error) (DviFault fonts bytes) → (pages : List (List Place)) → pages_of fonts bytes ≡ Ok pages → error ≡ errors.OutOfMemory

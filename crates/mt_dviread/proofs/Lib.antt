@@ -8,6 +8,8 @@ pub mod MachineLemmas
 pub mod OpenFiles
 -- what the next opcode does
 pub mod Turns
+-- where faults are
+pub mod Offsets
 -- what `read_dvi` keeps of a file, and its answers
 pub mod KeptLemmas
 -- how many operands an opcode has

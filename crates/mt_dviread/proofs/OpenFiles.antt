@@ -29,7 +29,7 @@ use Rattle.mt_dviread.specs.inner.Operations.{IsOperation, IsPostamble, cause_of
 use Rattle.mt_dviread.specs.inner.Defined.{Defines, Knows}
 use Rattle.mt_dviread.specs.inner.Performs.{Seen, seen, place_of}
 use Rattle.mt_dviread.specs.inner.Follows.{Advances, Counts, EndsFile, Fills, Follows, Goes}
-use Rattle.mt_dviread.specs.Deeds.{Changes, IsDeed, deed_in_page, places_of_page}
+use Rattle.mt_dviread.specs.Deeds.{Changes, deed_in_page, places_of_page}
 use Rattle.mt_dviread.specs.Sees.{Sees, phase_of}
 
 -- what holds of a cause, one way and another

@@ -1,7 +1,7 @@
 -- What the next opcode of a file does, as the reader tells it (`turn_goes`, `turn_ends`, `turn_fails`), and the reading
 -- after it.
-use Rattle.std.proofs.Common.{◌≡◌, ℕ, ◌+◌, ◌<◌, ◌≤◌, List, [], ◌∷◌, length, drop, take, get_or, refl, sym, ◌∙◌, ap, subst, arith, length-drop}
-use Rattle.std.specs.Prelude.{Ok, Err, Option, Some, None, Result, IfSome, true}
+use Rattle.std.proofs.Common.{◌≡◌, ℕ, ◌+◌, ◌<◌, ◌≤◌, List, [], ◌∷◌, length, drop, take, get_or, refl, sym, ◌∙◌, ap, subst, arith}
+use Rattle.std.specs.Prelude.{Ok, Err, Option, Some, None, IfSome, IsSome, true}
 use Rattle.std.specs.Option.{option_map}
 use Rattle.std.proofs.lemmas.Bool.Decides.{nat_tests}
 use Rattle.mt_family.specs.SetValue.{SetValue}
@@ -13,10 +13,9 @@ use Rattle.mt_dviread.specs.Faults.{fault_of}
 use Rattle.mt_dviread.specs.declared.cause.Cause.{Cause}
 use Rattle.mt_dviread.specs.declared.deed.Deed.{Deed}
 use Rattle.mt_dviread.specs.declared.error.DviError.{DviError}
-use Rattle.mt_dviread.specs.declared.error.DviError.TheVariants as errors
 use Rattle.mt_dviread.specs.declared.file.OpenFile.{OpenFile}
 use Rattle.mt_dviread.specs.Deeds.{IsDeed}
-use Rattle.mt_dviread.specs.Sees.{Finishes, GoesOn, IsReading, IsWithin, Sees, Turns, are_cut, continuation}
+use Rattle.mt_dviread.specs.Sees.{Finishes, GoesOn, IsReading, IsWithin, Sees, Turns, are_cut}
 use Rattle.mt_dviread.specs.inner.Operations.{cause_of}
 use Rattle.mt_dviread.specs.inner.Follows.{Follows}
 use Rattle.mt_dviread.proofs.Sizes.{size_of_operands}
@@ -208,3 +207,8 @@ not_cut (x ∷ xs) code size operands after f e =
     let l = f.long in
     let lt : length xs < operand_size x xs = grind (arith, nat_tests) in
     omega (arith, s, l, lt)
+
+-- the fault of a cause
+pub cause_told : (at : ℕ) (cause : Option machine.Cause) (fault : Option Fault) → fault ≡ option_map (λ (c : machine.Cause). let f : Fault = record { cause = c; at = at } in f) cause → IsSome cause → IsSome fault
+cause_told at None fault e some = absurd (cc)
+cause_told at (Some c) fault e some = rw e refl

@@ -1,5 +1,5 @@
 //! What is read of a file so far, and what an operation does to it.
-ghost use Rattle.std.specs.Prelude.{◌≡◌, ◌<◌, ◌≤◌, ◌+◌, ◌^◌, nat_le, [], List, ℕ, ◌==◌, ◌&&◌, length, IfOk, IfSome, Ok, Err, Some, true};
+ghost use Rattle.std.specs.Prelude.{◌≡◌, ◌<◌, ◌≤◌, ◌+◌, ◌^◌, nat_le, [], List, ℕ, ◌==◌, ◌&&◌, length, IfErr, IfOk, IfSome, IsSome, Ok, Err, Some, true};
 ghost use Rattle.std.specs.List.{list_all};
 ghost use Rattle.std.specs.Ordering.{int_eq};
 ghost use Rattle.mt_family.specs.SetValue.{SetValue};
@@ -10,9 +10,11 @@ ghost use Rattle.mt_dvi.specs.File as files;
 ghost use Rattle.mt_dvi.specs.Machine as machine;
 ghost use Rattle.mt_dviread.specs.declared.deed.Deed.{Deed};
 ghost use Rattle.mt_dviread.specs.declared.deed.Deed.TheVariants.{Passes, BeginsPage, EndsPage};
-ghost use Rattle.mt_dviread.specs.declared.file.Phase.TheVariants.{AfterPost, BetweenPages};
+ghost use Rattle.mt_dviread.specs.declared.file.Phase.TheVariants.{AfterPost, BeforePre, BetweenPages};
+ghost use Rattle.mt_dviread.specs.declared.cause.Cause.TheVariants.{BadPreamble};
 ghost use Rattle.mt_dviread.specs.Deeds.{IsNear, IsNearDeed};
-ghost use Rattle.mt_dviread.specs.inner.Operations.{IsOperation, IsPreamble, IsPostamble, IsDefinition};
+ghost use Rattle.mt_dviread.specs.Faults.{fault_of};
+ghost use Rattle.mt_dviread.specs.inner.Operations.{cause_of, IsOperation, IsPreamble, IsPostamble, IsDefinition};
 ghost use Rattle.mt_dviread.specs.inner.Follows.{Goes, Fills, Does, EndsFile, Follows, Counts};
 ghost use Rattle.mt_dviread.specs.Sees.{Sees, IsWithin, Turns, are_cut};
 ghost use Rattle.mt_dviread.specs.declared.error.DviError.TheVariants.{Truncated};
@@ -156,6 +158,7 @@ impl<'a> OpenFile<'a> {
         ensures turns { (file : files.File) → Sees fonts.now self.old file
             → Turns fonts.now file self.old.rest.now result self.new }
         ensures cut { are_cut self.old.rest.now ≡ true → result ≡ Err (Truncated self.old.at) }
+        ensures first { self.old.phase ≡ BeforePre → IfErr result (λ error. IsSome (fault_of error)) }
         ensures near { IfOk result (λ deed. IfSome deed IsNearDeed) }
         ensures within { IfOk result (λ deed. IsWithin self.new) }
         ensures shorter { (deed : Deed) → result ≡ Ok (Some deed)
@@ -196,6 +199,7 @@ impl<'a> OpenFile<'a> {
             → Sees fonts.now self.old file → IsOperation operation.entry meant
             → Follows fonts.now file.phase file meant result self.new
             (files.file_step fonts.now file meant after.now) }
+        ensures first { self.old.phase ≡ BeforePre → IfErr result (λ cause. IsSome (cause_of cause)) }
         ensures near { IfOk result (λ deed. IfSome deed IsNearDeed) }
         ensures at { self.new.at ≡ self.old.at }
         ensures rest { self.new.rest ≡ self.old.rest }
@@ -222,6 +226,7 @@ impl<'a> OpenFile<'a> {
         ensures goes { (fonts : SetValue) (file : files.File) (meant : codes.Operation)
             → Sees fonts self.old file → file.again ≡ [] → IsOperation operation.entry meant
             → Goes fonts Passes file result self.new (files.before_pre_step file meant) }
+        ensures refused { IfErr result (λ cause. cause ≡ BadPreamble) }
         ensures others { self.new ≡ record (self.old) { phase = self.new.phase; mag = self.new.mag } }
     {
         match operation {
@@ -234,6 +239,7 @@ impl<'a> OpenFile<'a> {
         ensures goes { (fonts : SetValue) (file : files.File) (meant : codes.Preamble)
             → Sees fonts self.old file → file.again ≡ [] → IsPreamble preamble meant
             → Goes fonts Passes file result self.new (files.before_pre_step file (Pre meant)) }
+        ensures refused { IfErr result (λ cause. cause ≡ BadPreamble) }
         ensures others { self.new ≡ record (self.old) { phase = self.new.phase; mag = self.new.mag } }
     {
         if !is_preamble(preamble) {

@@ -1,7 +1,7 @@
 //! The reader.
-ghost use Rattle.std.specs.Prelude.{◌≡◌, ◌≤◌, List, length, [], IfOk, IfErr, IfSome, OnOk};
+ghost use Rattle.std.specs.Prelude.{◌≡◌, ◌≤◌, List, length, [], IfOk, IfErr, IfSome, IsErrAnd, OnOk, Some};
 ghost use Rattle.mt_box.specs.declared.place.Place.{Place};
-ghost use Rattle.mt_dvi.specs.File.{Dvi, DviFault};
+ghost use Rattle.mt_dvi.specs.File.{Dvi, DviFault, Fault};
 ghost use Rattle.mt_dvi.specs.Limits.{max_places};
 ghost use Rattle.mt_dvi.specs.Written.{Written};
 ghost use Rattle.mt_dvi.specs.WrittenPlaces.{all_places};
@@ -70,6 +70,8 @@ pub fn read_dvi(alloc: Global, fonts: &FontSet, bytes: &[u8]) -> Result<PageList
     ensures is { IfOk result (λ pages. Dvi fonts.now bytes.now pages) }
     ensures fault { IfErr result (λ error.
         IfSome (fault_of error) (λ fault. DviFault fonts.now bytes.now fault)) }
+    ensures early { (fault : Fault) → DviFault fonts.now bytes.now fault → fault.at ≡ 0
+        → IsErrAnd result (λ error. fault_of error ≡ Some fault) }
     ensures few { IfOk result (λ pages. length (all_places pages) ≤ max_places) }
     ensures round_trip { (pages : List (List Place)) → Written fonts.now bytes.now pages
         → ReadsBack result pages }

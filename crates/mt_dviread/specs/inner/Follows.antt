@@ -1,5 +1,5 @@
 -- What an operation does to what the reader keeps of a file (`Goes`, `Follows`).
-use Rattle.std.specs.Prelude.{◌≡◌, ◌<◌, ◌^◌, ℕ, Option, Some, None, Result, Ok, Err, IfSome, Bool, true, false, nat_le}
+use Rattle.std.specs.Prelude.{◌≡◌, ◌<◌, ◌^◌, Option, Some, None, Result, Ok, Err, IfSome, Bool, true, false, nat_le}
 use Rattle.mt_family.specs.SetValue.{SetValue}
 use Rattle.mt_box.specs.declared.place.Place.{Place}
 use Rattle.mt_dvi.specs.Codes as codes
@@ -9,7 +9,7 @@ use Rattle.mt_dvi.specs.Limits.{max_places}
 use Rattle.mt_dvi.specs.Machine.{TooMany}
 use Rattle.mt_dviread.specs.declared.cause.Cause.{Cause}
 use Rattle.mt_dviread.specs.declared.deed.Deed.{Deed}
-use Rattle.mt_dviread.specs.declared.deed.Deed.TheVariants.{Passes, Performs}
+use Rattle.mt_dviread.specs.declared.deed.Deed.TheVariants.{Performs}
 use Rattle.mt_dviread.specs.declared.file.OpenFile.{OpenFile}
 use Rattle.mt_dviread.specs.inner.Operations.{cause_of}
 use Rattle.mt_dviread.specs.Deeds.{Changes, IsDeed, count_with}

@@ -1,11 +1,12 @@
 -- What `read_dvi` keeps of the places of a file (`Keeps`).
-use Rattle.std.specs.Prelude.{◌≡◌, ℕ, ◌≤◌, ◌+◌, List, [], ◌∷◌, ◌++◌, length}
+use Rattle.std.specs.Prelude.{◌≡◌, ℕ, ◌≤◌, ◌+◌, List, [], ◌∷◌, ◌++◌, length, ◌⊎◌}
 use Rattle.mt_family.specs.SetValue.{SetValue}
 use Rattle.mt_box.specs.declared.place.Place.{Place}
 use Rattle.mt_dvi.specs.File.{File, places_of}
 use Rattle.mt_dvi.specs.WrittenPlaces.{all_places}
 use Rattle.mt_dviread.specs.declared.deed.Deed.{Deed}
 use Rattle.mt_dviread.specs.declared.file.OpenFile.{OpenFile}
+use Rattle.mt_dviread.specs.declared.file.Phase.TheVariants.{BeforePre}
 use Rattle.mt_dviread.specs.declared.deed.Deed.TheVariants.{EndsPage}
 use Rattle.mt_dviread.specs.Deeds.{places_of_page}
 use Rattle.mt_dviread.specs.Sees.{IsReading}
@@ -26,3 +27,5 @@ pub record IsKeeping (fonts : SetValue) (bytes : List ℕ) (open_file : OpenFile
   pub file : File
   pub reading : IsReading fonts bytes open_file file
   pub keeps : Keeps pages page file
+  -- no opcode has been read, or a byte at least
+  pub first : (open_file.phase ≡ BeforePre) ⊎ (1 ≤ open_file.at)

@@ -1,7 +1,7 @@
-use Rattle.std.proofs.Common.{◌≡◌, List, ◌∙◌, sym, ap}
+use Rattle.std.proofs.Common.{◌∙◌, sym, ap}
 use Rattle.std.specs.Prelude.{Ok}
 use Rattle.std.proofs.lemmas.Result.{err_from_is_err_and}
-use Rattle.mt_dviread.proofs.KeptLemmas.{back, keeping_done, keeping_fault, keeping_on, keeping_starts, none_left}
+use Rattle.mt_dviread.proofs.KeptLemmas.{back, keeping_done, keeping_early, keeping_fault, keeping_late, keeping_on, keeping_starts, none_left, not_both}
 use Rattle.mt_dviread.proofs.read.read_dvi.Goals as goal
 
 pub loop-places-init : goal.loop-places-init
@@ -31,3 +31,18 @@ returns-clause-round_trip c =
     let ends = rw (none_left c.in_ok-deed.field-0 c.in_default.not-Some) at turns in
     back c.args.fonts.now c.args.bytes.now (Ok c.from_vec.result)
     (keeping_done c.args.fonts.now c.args.bytes.now c.loop-places.file c.next.new.self _ _ c.loop-places.invariant ends ∙ ap Ok (sym c.from_vec.ensures)) tt
+
+pub returns-in_err-deed-clause-early : goal.returns-in_err-deed-clause-early
+returns-in_err-deed-clause-early c =
+    let p = err_from_is_err_and c.from_residual.result c.from_residual.ensures.1 in
+    rw (p.1, p.2) (keeping_early c.args.fonts.now c.args.bytes.now c.loop-places.file c.next.new.self _ _ c.in_err-deed.field-0.0 c.loop-places.invariant (λ file s. c.in_err-deed.ensures.turns file s) c.in_err-deed.ensures.first)
+
+pub returns-in_err-take-clause-early : goal.returns-in_err-take-clause-early
+returns-in_err-take-clause-early c = λ fault is zero.
+    let goes = rw c.in-Some.is at c.in_ok-deed.ensures.turns in
+    absurd (keeping_late c.args.fonts.now c.args.bytes.now c.loop-places.file c.next.new.self _ _ c.in-Some.deed c.loop-places.invariant goes c.in_ok-deed.ensures.within c.in_ok-deed.ensures.same fault is zero)
+
+pub returns-clause-early : goal.returns-clause-early
+returns-clause-early c = λ fault is zero.
+    let ends = rw (none_left c.in_ok-deed.field-0 c.in_default.not-Some) at c.in_ok-deed.ensures.turns in
+    absurd (not_both c.args.fonts.now c.args.bytes.now _ fault (keeping_done c.args.fonts.now c.args.bytes.now c.loop-places.file c.next.new.self _ _ c.loop-places.invariant ends) is)

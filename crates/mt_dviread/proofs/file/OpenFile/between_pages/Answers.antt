@@ -1,7 +1,6 @@
-use Rattle.std.proofs.Common.{FitsSigned, rules, w32, refl, subst}
+use Rattle.std.proofs.Common.{FitsSigned, rules, w32, refl}
 use Rattle.std.proofs.lemmas.Int.{to_z-of_z}
 use Rattle.std.proofs.lemmas.Result.{err_from_is_err_and}
-use Rattle.mt_dviread.proofs.OpenFiles.{goes_by}
 use Rattle.mt_dviread.proofs.file.OpenFile.between_pages.Goals as goal
 
 pub returns-in_err-begin_page-in-Bop-clause-does : goal.returns-in_err-begin_page-in-Bop-clause-does

@@ -1,10 +1,10 @@
-use Rattle.std.proofs.Common.{ℕ, ◌<◌, length, drop, refl, sym, ap, ◌∙◌, arith}
+use Rattle.std.proofs.Common.{ℕ, ◌<◌, length, drop, refl, ap, ◌∙◌, arith}
 use Rattle.std.specs.Option.{option_map}
 use Rattle.mt_dvi.specs.Codes.{operand_size}
 use Rattle.mt_dvi.specs.File.{Fault}
 use Rattle.mt_dvi.specs.Machine as machine
 use Rattle.mt_dviread.specs.inner.Operations.{cause_of}
-use Rattle.mt_dviread.proofs.Turns.{front, not_cut, turn_cut, turn_fails, turn_out, turns_on, whole}
+use Rattle.mt_dviread.proofs.Turns.{cause_told, front, not_cut, turn_cut, turn_fails, turn_out, turns_on, whole}
 use Rattle.mt_dviread.proofs.file.OpenFile.next.Goals as goal
 
 pub returns-in_default-clause-turns : goal.returns-in_default-clause-turns
@@ -40,3 +40,6 @@ returns-in-Err-clause-cut c = λ e. absurd (not_cut c.args.self.now.rest.now _ _
 
 pub returns-clause-cut : goal.returns-clause-cut
 returns-clause-cut c = λ e. absurd (not_cut c.args.self.now.rest.now _ _ _ _ (front c.args.self.now.rest.now _ _ _ _ _ c.in-len1-up.len_at_least refl c.past-later.ensures.is c.operand_size-size.ensures c.if-later-size.false c.front.ensures.is c.past-after.ensures.is) e)
+
+pub returns-in-Err-clause-first : goal.returns-in-Err-clause-first
+returns-in-Err-clause-first c = λ before. cause_told _ (cause_of c.in-Err.cause) _ c.at.ensures (c.in-Err.ensures.first before)
