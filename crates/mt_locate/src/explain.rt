@@ -5,14 +5,15 @@ ghost use Rattle.mt_locate.specs.Places.{IsPlaceIn};
 
 use crate::dvi_files::explain_dvi;
 use crate::excerpt::{push_excerpt, push_place};
-use crate::files::{fetched, fetched_list};
+use crate::family_lines::push_family_lines;
+use crate::files::{ReadList, fetched, fetched_list};
 use crate::font_lines::explain_fonts;
 use crate::matter::{family_of, push_font_words};
 use crate::place_limit::locate_too_many;
 use crate::places::{Located, locate};
 use crate::source_matter::push_matter;
 use crate::text::push_texts;
-use mt_family::{FontList, FontSet, Size};
+use mt_family::FontSet;
 use mt_outside::{Cabinet, Sink, write_all};
 use mt_scaled::{Bytes, Items};
 use mt_status::{Much, Status, write_explanation};
@@ -66,7 +67,7 @@ fn source_lines(
     source: &[u8],
     status: &Status,
     fonts: Option<&FontSet>,
-    list: Option<&FontList>,
+    list: Option<&ReadList>,
 ) -> Result<Option<Bytes>, AllocError> {
     let Some(located) = located_in(alloc, words, source, status, fonts)? else {
         return Ok(None);
@@ -76,10 +77,13 @@ fn source_lines(
     push_place(&mut out, file, located.place)?;
     push_texts(&mut out, &[b": "])?;
     push_matter(alloc, &mut out, source, status, &located)?;
-    push_font_words(&mut out, status, list)?;
+    push_font_words(&mut out, status, list.map(|read| &read.list))?;
     push_texts(&mut out, &[b"\n"])?;
     push_call(&mut out, file, &located)?;
     push_excerpt(&mut out, source, located.place)?;
+    if let Some(list) = list {
+        push_family_lines(alloc, &mut out, words.fonts, list, status)?;
+    }
     Ok(Some(Items::from_vec(out)))
 }
 
@@ -89,7 +93,7 @@ fn list_for<C: Cabinet>(
     words: &Source<'_>,
     status: &Status,
     cabinet: &mut C,
-) -> Result<Option<FontList>, AllocError>
+) -> Result<Option<ReadList>, AllocError>
     ensures holds { C.holds cabinet.new ≡ C.holds cabinet.old }
 {
     match family_of(status) {
@@ -152,7 +156,7 @@ fn explain_files<C: Cabinet>(
 ) -> Result<Option<Bytes>, AllocError>
     ensures holds { C.holds cabinet.new ≡ C.holds cabinet.old }
 {
-    if let Some(text) = explain_dvi(alloc, files, status)? {
+    if let Some(text) = explain_dvi(alloc, files, status, cabinet)? {
         return Ok(Some(text));
     }
     match files.first() {

@@ -2,9 +2,11 @@
 ghost use Rattle.std.specs.Prelude.{◌≡◌};
 
 use crate::excerpt::push_line;
+use crate::family_lines::push_family_lines;
 use crate::files::{fetched, fetched_list};
 use crate::fonts::push_character;
 use crate::matter::{push_explanation, push_font_words};
+use crate::places::place_at;
 use crate::position::line_around;
 use crate::text::{push_number, push_texts};
 use crate::window::shown_columns;
@@ -51,37 +53,54 @@ fn begins_as_list(text: &[u8]) -> bool {
     text.starts_with(LIST_HEAD)
 }
 
-// Adds what else is the matter with a line of a font list: its end, or that the first line is none since the list is
-// the other file.
-fn push_line_words(
-    out: &mut Vec<u8>,
-    line: &[u8],
-    exchanged: Option<&str>,
-) -> Result<(), AllocError> {
-    if let Some(other) = exchanged {
-        push_texts(
+// What else is said of a line of a font list.
+#[derive(Clone, Copy)]
+enum Beside<'a> {
+    // How it ends, where it does not end with LF alone.
+    Ending,
+    // This file begins as a font list, and the list does not.
+    Exchanged(&'a str),
+    // How the fonts of the list of this name are fetched.
+    Fetching(&'a str),
+}
+
+// Adds what else is said of a line of a font list.
+fn push_line_words(out: &mut Vec<u8>, line: &[u8], beside: Beside<'_>) -> Result<(), AllocError> {
+    match (beside, line) {
+        (Beside::Exchanged(other), _) => push_texts(
             out,
             &[
                 b": ",
                 other.as_bytes(),
-                b" begins as a font list: are the two files exchanged?",
+                b" begins as a font list; are the two files exchanged?",
             ],
-        )
-    } else if let [.., b'\r'] = line {
-        push_texts(out, &[b": the line ends with CR, and LF alone ends a line"])
-    } else {
-        Ok(())
+        ),
+        (Beside::Fetching(list), _) => push_texts(
+            out,
+            &[
+                b"; examples/fetch-fonts ",
+                list.as_bytes(),
+                b" copies the TFM files of TeX's fonts",
+            ],
+        ),
+        (Beside::Ending, [.., b'\r']) => {
+            push_texts(
+                out,
+                &[b": the line ends with CR and LF, and must end with LF"],
+            )
+        }
+        _ => Ok(()),
     }
 }
 
-// The lines for a line of a font list. `exchanged` is the name of the other file, where that one begins as a font list.
+// The lines for a line of a font list.
 fn list_lines(
     alloc: Global,
     file: &str,
     list: &[u8],
     status: &Status,
     line: u32,
-    exchanged: Option<&str>,
+    beside: Beside<'_>,
 ) -> Result<Option<Bytes>, AllocError> {
     let Some(offset) = line_start(list, line) else {
         return Ok(None);
@@ -95,27 +114,27 @@ fn list_lines(
     push_number(&mut out, line)?;
     push_texts(&mut out, &[b": "])?;
     push_explanation(alloc, &mut out, status)?;
-    push_line_words(&mut out, text, exchanged)?;
+    push_line_words(&mut out, text, beside)?;
     push_texts(&mut out, &[b"\n"])?;
     push_list_line(&mut out, line as usize, text)?;
     Ok(Some(Items::from_vec(out)))
 }
 
-// The name of the other file, where a file does not begin as a font list and that one does.
-fn exchanged_with<'a, C: Cabinet>(
+// Whether the other file begins as a font list, where a list does not, or how a line of the list ends.
+fn beside_line<'a, C: Cabinet>(
     alloc: Global,
     list: &[u8],
     other: &'a str,
     cabinet: &mut C,
-) -> Result<Option<&'a str>, AllocError>
+) -> Result<Beside<'a>, AllocError>
     ensures holds { C.holds cabinet.new ≡ C.holds cabinet.old }
 {
     if begins_as_list(list) {
-        return Ok(None);
+        return Ok(Beside::Ending);
     }
     match fetched(alloc, cabinet, other, MAX_LIST_BYTES)? {
-        Some(bytes) if begins_as_list(bytes.as_slice()) => Ok(Some(other)),
-        _ => Ok(None),
+        Some(bytes) if begins_as_list(bytes.as_slice()) => Ok(Beside::Exchanged(other)),
+        _ => Ok(Beside::Ending),
     }
 }
 
@@ -132,8 +151,8 @@ fn explain_list<C: Cabinet>(
     let Some(list) = fetched(alloc, cabinet, file, MAX_LIST_BYTES)? else {
         return Ok(None);
     };
-    let exchanged = exchanged_with(alloc, list.as_slice(), other, cabinet)?;
-    list_lines(alloc, file, list.as_slice(), status, line, exchanged)
+    let beside = beside_line(alloc, list.as_slice(), other, cabinet)?;
+    list_lines(alloc, file, list.as_slice(), status, line, beside)
 }
 
 // The name of a font's file.
@@ -188,7 +207,7 @@ fn explain_font<C: Cabinet>(
     let Some(list) = fetched_list(alloc, cabinet, fonts)? else {
         return Ok(None);
     };
-    match list.lines.get(number as usize) {
+    match list.list.lines.get(number as usize) {
         Some(line) => font_line(alloc, line, status, cabinet),
         None => Ok(None),
     }
@@ -209,13 +228,86 @@ fn explain_family<C: Cabinet>(
     let mut out = Vec::new(alloc);
     push_texts(&mut out, &[fonts.as_bytes(), b": "])?;
     push_explanation(alloc, &mut out, status)?;
-    push_font_words(&mut out, status, Some(&list))?;
+    push_font_words(&mut out, status, Some(&list.list))?;
     push_texts(&mut out, &[b"\n"])?;
+    push_family_lines(alloc, &mut out, fonts, &list, status)?;
     Ok(Some(Items::from_vec(out)))
 }
 
-/// The lines for a refusal of a font list, of a font of it or of a family; `None` for another status, and where the
-/// files do not have what it tells. `other` is the source or the DVI file beside the list.
+// Whether a line begins with these bytes and a blank.
+fn begins_with_word(line: &[u8], word: &[u8]) -> bool {
+    line.starts_with(word) && matches!(line.get(word.len()), Some(b' '))
+}
+
+// The bytes behind a word and the blanks behind it, where a line begins with it.
+fn behind_word<'a>(line: &'a [u8], word: &[u8]) -> Option<&'a [u8]> {
+    if !begins_with_word(line, word) || word.len() > line.len() {
+        return None;
+    }
+    let mut rest = &line[word.len()..];
+    while let [b' ', after @ ..] = rest {
+        rest = after;
+    }
+    Some(rest)
+}
+
+// The offset of the first line of a list for a font of this name.
+fn line_of_font(list: &[u8], name: &[u8]) -> Option<usize> {
+    let mut rest = list;
+    let mut offset: usize = 0;
+    let mut before = b'\n';
+    while let [byte, after @ ..] = rest {
+        if before == b'\n' {
+            match behind_word(rest, b"font") {
+                Some(fields) if begins_with_word(fields, name) => return Some(offset),
+                _ => {}
+            }
+        }
+        before = *byte;
+        offset = offset.saturating_add(1);
+        rest = after;
+    }
+    None
+}
+
+// The name of a font, where a file has the name of its TFM file.
+fn font_of_file(file: &[u8]) -> Option<&[u8]> {
+    match file {
+        [name @ .., b'.', b't', b'f', b'm'] => Some(name),
+        _ => None,
+    }
+}
+
+// The lines for a TFM file that cannot be read, by the line of the list that names its font.
+fn explain_unread<C: Cabinet>(
+    alloc: Global,
+    fonts: &str,
+    file: &Name,
+    status: &Status,
+    cabinet: &mut C,
+) -> Result<Option<Bytes>, AllocError>
+    ensures holds { C.holds cabinet.new ≡ C.holds cabinet.old }
+{
+    let Some(name) = font_of_file(file.as_slice()) else {
+        return Ok(None);
+    };
+    let Some(list) = fetched(alloc, cabinet, fonts, MAX_LIST_BYTES)? else {
+        return Ok(None);
+    };
+    let Some(offset) = line_of_font(list.as_slice(), name) else {
+        return Ok(None);
+    };
+    let Some(place) = place_at(list.as_slice(), offset) else {
+        return Ok(None);
+    };
+    let line = place.position.line as u32;
+    let beside = Beside::Fetching(fonts);
+    list_lines(alloc, fonts, list.as_slice(), status, line, beside)
+}
+
+/// The lines for a refusal of a font list, of a font of it, also of one whose file cannot be read, or of a family;
+/// `None` for another status, and where the files do not have what it tells. `other` is the source or the DVI file
+/// beside the list.
 ///
 /// # Errors
 ///
@@ -233,6 +325,7 @@ pub fn explain_fonts<C: Cabinet>(
         Status::FontList { line, .. } => explain_list(alloc, fonts, other, status, *line, cabinet),
         Status::BadTfm { font, .. } => explain_font(alloc, fonts, *font, status, cabinet),
         Status::BadFamily { .. } => explain_family(alloc, fonts, status, cabinet),
+        Status::ReadFault { name } => explain_unread(alloc, fonts, name, status, cabinet),
         _ => Ok(None),
     }
 }

@@ -37,8 +37,8 @@ fn push_fraction(out: &mut Vec<u8>, part: i64) -> Result<(), AllocError> {
     Ok(())
 }
 
-// A length in points, whole ones without a point.
-fn push_points(out: &mut Vec<u8>, length: i64) -> Result<(), AllocError> {
+/// Adds a length in points, a whole number without a decimal point.
+pub fn push_points(out: &mut Vec<u8>, length: i64) -> Result<(), AllocError> {
     push_number(out, length / POINT)?;
     if length % POINT > 0 {
         push_texts(out, &[b"."])?;

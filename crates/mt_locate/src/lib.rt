@@ -3,22 +3,30 @@
 #![tactic(auto)]
 
 mod dvi_files;
+mod dvi_fonts;
 mod excerpt;
 mod explain;
+mod family_lines;
 mod fault;
 mod files;
 mod font_lines;
 mod fonts;
+mod group_words;
+mod known_names;
 mod matter;
 mod missing;
+mod missing_words;
 mod names;
+mod nearest;
 mod place_limit;
 mod places;
 mod position;
 mod regular_files;
 mod source_matter;
 mod text;
+mod token_words;
 mod tokens;
+mod unmatched;
 mod window;
 
 pub use explain::write_located;

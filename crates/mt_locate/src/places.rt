@@ -1,16 +1,20 @@
 //! The place in a source that a status tells.
-ghost use Rattle.std.specs.Prelude.{◌≡◌, ◌≤◌, ◌↔◌, ℕ, IfOk, IfSome, IsSome, length};
+ghost use Rattle.std.specs.Prelude.{◌≡◌, ◌≢◌, ◌≤◌, ◌↔◌, ℕ, IfOk, IfSome, IsSome, length};
 ghost use Rattle.std.specs.Option.{option_map};
-ghost use Rattle.mt_status.specs.declared.status.Status.TheVariants.{BadSource};
+ghost use Rattle.mt_status.specs.declared.status.Status.TheVariants.{BadFormula, BadSource};
+ghost use Rattle.mt_token.specs.Errors.{first_outside_cause};
 ghost use Rattle.mt_token.specs.Tokens.{source_tokens};
 ghost use Rattle.mt_locate.specs.Places.{IsPlaceIn, bad_byte, byte_found, offset_within, told_byte};
+ghost use Rattle.mt_locate.specs.Places.{open_formula_cause, token_found};
 
 use crate::fault::{FormulaFault, expanded, fault_at, has_fault, name_at, name_of};
 use crate::missing::{lacks_argument, missing_argument};
 use crate::position::{Position, position_at};
+use crate::token_words::{cause_words, name_words};
 use crate::tokens::{marked_tokens, offset_of};
-use mt_reader::{FormulaWanted, ReadError, find_formula};
-use mt_scaled::Name;
+use crate::unmatched::{unmatched_token, unmatched_words};
+use mt_reader::{FormulaWanted, OutsideCause, ReadError, find_formula};
+use mt_scaled::{Bytes, Name};
 use mt_status::{MISSING_ARGUMENT, Much, Status};
 use mt_token::{FIRST_OUTSIDE_CAUSE, Token, TokenError, tokens};
 use std::alloc::{AllocError, Global};
@@ -41,6 +45,10 @@ pub struct Located {
     /// The name of the token at fault, which stands there or comes from a macro that is called there. None for a macro
     /// that lacks an argument, and where no single token is at fault.
     pub name: Option<Name>,
+    /// What is said of the fault, where the token tells more than the cause.
+    pub words: Option<Bytes>,
+    /// What is said of the name, where it means nothing in a formula.
+    pub name_words: Option<Bytes>,
     /// The macro in whose body it is found, or which lacks an argument, where that is one of the source.
     pub call: Option<MacroCall>,
 }
@@ -69,6 +77,8 @@ pub fn place_alone(source: &[u8], offset: usize) -> Option<Located>
     Some(Located {
         place,
         name: None,
+        words: None,
+        name_words: None,
         call: None,
     })
 }
@@ -126,6 +136,8 @@ fn with_places(
     Ok(Some(Located {
         place,
         name: copied_name(alloc, name)?,
+        words: None,
+        name_words: None,
         call: macro_call(alloc, source, fault.definition)?,
     }))
 }
@@ -176,24 +188,62 @@ fn locate_byte(
     Ok(told_byte(source, found, offset, cause))
 }
 
+// The place of a token of the source, by its offset.
+fn place_of_token(
+    alloc: Global,
+    source: &[u8],
+    offset: usize,
+    token: &Token,
+) -> Result<Option<Located>, AllocError>
+    ensures is { IfOk result (λ found. IfSome found (λ located. IsPlaceIn source.now located.place)) }
+    ensures at { IfOk result (λ found. option_map (λ located. located.place.offset) found
+        ≡ offset_within source.now offset) }
+{
+    let Some(mut located) = place_alone(source, offset) else {
+        return Ok(None);
+    };
+    located.name = copied_name(alloc, name_of(token))?;
+    Ok(Some(located))
+}
+
 // A token of the source, by its index.
 fn locate_token(alloc: Global, source: &[u8], index: usize) -> Result<Option<Located>, AllocError>
+    ensures is { IfOk result (λ found. IfSome found (λ located. IsPlaceIn source.now located.place)) }
+    ensures token { IfOk result (λ found. option_map (λ located. located.place.offset) found
+        ≡ token_found source.now index) }
+{
+    match tokens(alloc, source) {
+        Ok(list) => match list.get(index) {
+            Some(token) => place_of_token(alloc, source, token.start as usize, token),
+            None => Ok(None),
+        },
+        Err(TokenError::OutOfMemory) => Err(AllocError),
+        Err(_) => Ok(None),
+    }
+}
+
+// The brace of a formula that has no partner, or the first `$` of the formula, which is the token of an index.
+fn locate_open_formula(
+    alloc: Global,
+    source: &[u8],
+    index: usize,
+) -> Result<Option<Located>, AllocError>
     ensures is { IfOk result (λ found. IfSome found (λ located. IsPlaceIn source.now located.place)) }
 {
     let Some(list) = marked_tokens(alloc, source)? else {
         return Ok(None);
     };
-    let Some(token) = list.get(index) else {
+    let Some(token) = unmatched_token(list.as_slice(), index) else {
         return Ok(None);
     };
-    let Some(place) = marked_place(source, token.start) else {
+    let Some(offset) = offset_of(token.start) else {
         return Ok(None);
     };
-    Ok(Some(Located {
-        place,
-        name: copied_name(alloc, name_of(token))?,
-        call: None,
-    }))
+    let Some(mut located) = place_alone(source, offset) else {
+        return Ok(None);
+    };
+    located.words = Some(unmatched_words(alloc, list.as_slice(), index, token)?);
+    Ok(Some(located))
 }
 
 // The first `$` of a formula.
@@ -239,12 +289,14 @@ fn locate_expanded(
         return Ok(None);
     }
     let index = index as usize;
-    with_places(
-        alloc,
-        source,
-        fault_at(&formula, tokens.as_slice(), index),
-        name_at(tokens.as_slice(), index),
-    )
+    let list = tokens.as_slice();
+    let fault = fault_at(&formula, list, index);
+    let Some(mut located) = with_places(alloc, source, fault, name_at(list, index))? else {
+        return Ok(None);
+    };
+    located.words = cause_words(alloc, source, &formula, list, index, cause)?;
+    located.name_words = name_words(alloc, &formula, list, index)?;
+    Ok(Some(located))
 }
 
 // A macro of a formula that lacks an argument. Where it cannot be found, the formula's first `$`.
@@ -272,9 +324,9 @@ fn locate_missing(
 }
 
 /// Where a refusal stands in the source of which it tells. A byte of the source and a token of the source stand where
-/// they stand; a token of a formula after expansion, as docs/FORMATS.md says ("Places"); what is wrong with a
-/// formula as a whole, and a page too many, at the first `$` of the formula. `None` where the status tells no place in
-/// a source, or where this source does not have what it tells.
+/// they stand, but a formula without its end at the brace that has no partner; a token of a formula after expansion, as
+/// docs/FORMATS.md says ("Places"); what is wrong with a formula as a whole, and a page too many, at the first `$` of
+/// the formula. `None` where the status tells no place in a source, or where this source does not have what it tells.
 ///
 /// # Errors
 ///
@@ -284,11 +336,16 @@ pub fn locate(alloc: Global, source: &[u8], status: &Status) -> Result<Option<Lo
     ensures byte { (offset cause : ℕ) → status.now ≡ BadSource offset cause
         → IfOk result (λ found. option_map (λ located. located.place.offset) found
         ≡ byte_found source.now offset cause) }
+    ensures token { (n index cause : ℕ) → status.now ≡ BadFormula n index cause → first_outside_cause ≤ cause
+        → cause ≢ open_formula_cause → IfOk result (λ found. option_map (λ located. located.place.offset) found
+        ≡ token_found source.now index) }
 {
     match status {
         Status::BadSource { offset, cause } => locate_byte(alloc, source, *offset, *cause),
         Status::BadFormula { n, token, cause } => {
-            if *cause >= FIRST_OUTSIDE_CAUSE {
+            if *cause == OutsideCause::OpenFormula.number() {
+                locate_open_formula(alloc, source, *token as usize)
+            } else if *cause >= FIRST_OUTSIDE_CAUSE {
                 locate_token(alloc, source, *token as usize)
             } else if *cause == MISSING_ARGUMENT {
                 locate_missing(alloc, source, *n, *token)

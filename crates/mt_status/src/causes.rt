@@ -8,85 +8,85 @@ use mt_token::FIRST_OUTSIDE_CAUSE;
 
 /// Why a line of the font list is refused, in the order of `ListError` of mt_family.
 const LIST_CAUSES: [&str; 4] = [
-    "the line has none of the stated forms",
-    "an earlier line has the same font and size, or the same family",
-    "the family has the number of no earlier font line",
-    "at most 48 fonts may be listed",
+    "this is not a valid line of a font list",
+    "the list already has this font at this size, or this family",
+    "the family uses the number of a font that is not above it in the list",
+    "a font list can have at most 48 fonts",
 ];
 
-/// Why a font is refused, in the order of `TfmError` of mt_tfm, and last where an earlier font has its size. The tenth is
-/// want of memory, a status of its own.
+/// Why a font is refused, in the order of `TfmError` of mt_tfm, and last where an earlier font has its size. The tenth
+/// is want of memory, a status of its own.
 const FONT_CAUSES: [&str; 12] = [
-    "the TFM file ends too early",
-    "the counts at the beginning of the TFM file do not fit together",
+    "the TFM file is too short",
+    "the counts at the beginning of the TFM file do not add up",
     "the design size is less than 1pt",
     "a character has an index past the end of its table",
-    "the next larger characters of a character lead back to it",
-    "a dimension is 16 times the size or more",
+    "the chain of larger characters leads back to the same character",
+    "a dimension is 16 times the font's size or more",
     "the first entry of a table of dimensions is not 0",
-    "a step of the ligatures and kerns leads past a table, or to no character",
-    "a recipe has a piece that is no character",
+    "a ligature or kern step leads past the end of a table, or to a missing character",
+    "a recipe for a large character uses a missing character",
     "",
-    "so many thousandths of its design size are 2048pt or more",
-    "an earlier font has the same name and comes to the same size",
+    "scaled by this factor the font would be 2048pt or larger",
+    "an earlier font in the list has the same name and the same size",
 ];
 
 /// Why a family at a size is refused, in the order of `SetError` of mt_family.
 const FAMILY_CAUSES: [&str; 2] = [
     "formulas need a font of this family at this size",
-    "the font has too few parameters: family 2 needs 22, family 3 needs 13",
+    "the font has too few parameters: family 2 needs 22, and family 3 needs 13",
 ];
 
 /// Why a byte of the source is refused, in the order of `TokenError` of mt_token.
 const SOURCE_CAUSES: [&str; 2] = [
-    "a byte above 127 may stand in a comment alone",
-    "this byte cannot stand here",
+    "only comments can have characters that are not ASCII",
+    "this character is not allowed here",
 ];
 
-/// Why a token of a formula is refused, in the order of `ReadError` of mt_formula. The eleventh, too many open groups, and
-/// the twelfth, want of memory, are statuses of their own.
+/// Why a token of a formula is refused, in the order of `ReadError` of mt_formula. The eleventh, too many open groups,
+/// and the twelfth, want of memory, are statuses of their own.
 const READ_CAUSES: [&str; 13] = [
-    "this name or character means nothing in a formula",
-    "a second superscript, as a prime is one, or a second subscript",
-    "a second \\over, or a word like it, in one group",
-    "no delimiter where one must stand",
-    "a brace, \\right, \\middle, \\of, \\cr, $, & or # that does not fit, or a group without its end",
-    "\\limits, or a word like it, without a large operator before it",
-    "no field, group or row where one must stand",
-    "no number where one must stand, or one out of range",
-    "no dimension where one must stand, or one out of range",
-    "\\eqno and \\leqno may stand once in a display, outside of groups; \\eqalignno and its like are a whole display",
+    "unknown name or character in a formula",
+    "double superscript or subscript",
+    "a group can have only one \\over or similar command",
+    "missing delimiter",
+    "a brace, \\left, \\right, \\middle, \\root, \\of, \\cr, $, & or # without its counterpart",
+    "\\limits, \\nolimits and \\displaylimits are allowed only after a large operator",
+    "missing character or group",
+    "missing number, or number out of range",
+    "missing dimension, or dimension out of range",
+    "\\eqno and \\leqno may come once in a display, outside groups; \\eqalignno and its like must be a whole display",
     "",
     "",
-    "a row has at most two cells in \\eqalign, three in \\eqalignno and \\leqalignno, one in \\displaylines",
+    "too many columns: \\eqalign has two, \\eqalignno and \\leqalignno have three, \\displaylines has one",
 ];
 
 /// Why a macro of a formula is refused (`MISSING_ARGUMENT`).
-const NO_ARGUMENT: &str = "a macro without one of its arguments";
+const NO_ARGUMENT: &str = "a macro is missing an argument";
 
 /// Why a token outside of formulas is refused, in the order of `OutsideCause` of mt_reader.
 const OUTSIDE_CAUSES: [&str; 6] = [
-    "this token cannot stand outside of formulas",
-    "a formula without end, or with a } that closes no group",
-    "\\def without a name, or with a bad parameter",
-    "a body of \\def without its }",
-    "at most 1,000 macros may be defined",
-    "a bad character or code after \\mathcode or \\delcode",
+    "this is not allowed outside formulas",
+    "the formula has no closing $, or braces that do not match",
+    "invalid \\def: expected a name, the parameters #1, #2 and so on, and a body in { }",
+    "the body of this \\def has no closing }",
+    "at most 1,000 macros can be defined",
+    "invalid character or code after \\mathcode or \\delcode",
 ];
 
 /// Why a byte of a DVI file is refused, in the order of `DviError` of mt_dviread.
 const DVI_CAUSES: [&str; 11] = [
-    "the DVI file ends too early",
-    "this opcode cannot stand here",
-    "this is no preamble of TeX's DVI files",
-    "the page does not point to the page before",
-    "the postamble does not fit the file",
-    "a font that is not defined, or not in the font list",
-    "the font has no such character",
-    "a pop without a push",
-    "at most 1,000 pushes may be open",
+    "the DVI file is too short",
+    "this opcode is not allowed here",
+    "the file does not begin as a DVI file of TeX's does",
+    "the page does not point to the page before it",
+    "the postamble does not match the rest of the file",
+    "a font is not defined in the DVI file, or is not in the font list",
+    "the font does not have this character",
+    "pop without push",
+    "at most 1,000 pushes can be open",
     "a move leads beyond 2^31 - 1 scaled points",
-    "at most 2,000,000 glyphs and rules may be placed",
+    "at most 2,000,000 glyphs and rules can be placed",
 ];
 
 // The text of a cause, by the texts of the causes from number `first` on; of another number an empty one, since no

@@ -29,27 +29,9 @@ fn too_much(kind: Much) -> &'static str
     ensures { IsLine result.now }
 {
     match kind {
-        Much::Pages =>
-            "at most 5,000 pages may be set, and a file of copied pages has at most 65,535",
-        Much::Places => "at most 2,000,000 glyphs and rules may be placed",
-        Much::Bytes => "a DVI file may have at most 67,108,864 bytes",
-    }
-}
-
-// Of the setting of a formula.
-fn setting_cause(status: &Status) -> &'static str
-    ensures { IsLine result.now }
-{
-    match status {
-        Status::Budget { .. } => {
-            "at most 20,000 steps of macros and 50,000 tokens a formula, and 1,000,000 tokens in all"
-        }
-        Status::MissingFamily { .. } => "the family has no font at this size",
-        Status::MissingChar { .. } => "the font has no such character",
-        Status::SmartLigature { .. } => "a ligature that keeps one of its characters is not set",
-        Status::Overflow { .. } => "a length or a place is 16384pt or more in size",
-        Status::TooTall { .. } => "a delimiter may repeat its piece at most 2,000 times",
-        _ => "at most 150 groups may be open",
+        Much::Pages => "a source can have at most 5,000 pages, and a file of copied pages 65,535",
+        Much::Places => "at most 2,000,000 glyphs and rules can be placed",
+        Much::Bytes => "a DVI file can have at most 67,108,864 bytes",
     }
 }
 
@@ -59,12 +41,12 @@ fn explanation(status: &Status) -> &'static str
 {
     match status {
         Status::Done | Status::BadWords => "",
-        Status::ReadFault { .. } => "the file is not there, is a folder, or may not be read",
+        Status::ReadFault { .. } => "the file does not exist, is a directory, or cannot be read",
         Status::TooLong { .. } => {
-            "at most 65,536 bytes in a font list, 131,068 in a TFM file, 4,194,304 in a source, \
-             67,108,864 in a DVI file"
+            "a font list can have at most 65,536 bytes, a TFM file 131,068, a source 4,194,304, \
+             and a DVI file 67,108,864"
         }
-        Status::WriteFault { .. } => "the output takes no more, and what it has is cut off",
+        Status::WriteFault { .. } => "the output could not be written in full",
         Status::FontList { cause, .. } => list_cause(*cause),
         Status::BadTfm { cause, .. } => font_cause(*cause),
         Status::BadFamily { cause, .. } => family_cause(*cause),
@@ -72,10 +54,21 @@ fn explanation(status: &Status) -> &'static str
         Status::BadFormula { cause, .. } => token_cause(*cause),
         Status::TooMuch { kind, .. } => too_much(*kind),
         Status::BadDvi { cause, .. } | Status::BadFile { cause, .. } => dvi_cause(*cause),
-        Status::BadPick { .. } => "the DVI file has no page of this number",
-        Status::MagClash { .. } => "its magnification is another than that of file 0",
-        Status::OutOfMemory => "the run needs more memory than there is",
-        _ => setting_cause(status),
+        Status::BadPick { .. } => "the DVI file does not have this page",
+        Status::MagClash { .. } => "the magnification is not that of file 0",
+        Status::OutOfMemory => "there is not enough memory",
+        Status::Budget { .. } => {
+            "a formula can take at most 20,000 steps of macros and 50,000 tokens, \
+             and all formulas together 1,000,000 tokens"
+        }
+        Status::MissingFamily { .. } => "the family has no font at this size",
+        Status::MissingChar { .. } => "the font does not have this character",
+        Status::SmartLigature { .. } => {
+            "a ligature that keeps one of its characters is not supported"
+        }
+        Status::Overflow { .. } => "a length or a position is 16384pt or more",
+        Status::TooTall { .. } => "a delimiter can repeat its piece at most 2,000 times",
+        Status::TooDeep { .. } => "at most 150 groups can be open",
     }
 }
 

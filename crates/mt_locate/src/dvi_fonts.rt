@@ -1,0 +1,150 @@
+//! The font that an opcode of a DVI file selects (tex.web, section 586).
+ghost use Rattle.std.specs.Prelude.{◌≤◌, length};
+
+use crate::fonts::push_points;
+use crate::text::{push_number, push_texts};
+use mt_dvi::opcode::{FNT_DEF1, FNT_NUM_0, FNT1, PRE, XXX1};
+use mt_dviread::opcode_at;
+use std::alloc::AllocError;
+
+/// A font as a DVI file defines it.
+#[derive(Clone, Copy)]
+struct DefinedFont<'a> {
+    // Its number in the file.
+    number: u64,
+    // Its size in scaled points.
+    size: u64,
+    // Its area and its name.
+    name: &'a [u8],
+}
+
+// The first of these bytes, or all.
+fn front(bytes: &[u8], count: usize) -> &[u8] {
+    if count <= bytes.len() {
+        &bytes[..count]
+    } else {
+        bytes
+    }
+}
+
+// The bytes behind so many.
+fn behind(bytes: &[u8], count: usize) -> &[u8]
+    ensures falls { length result.now ≤ length bytes.now }
+{
+    if count <= bytes.len() {
+        &bytes[count..]
+    } else {
+        &[]
+    }
+}
+
+// The number that these bytes have, the highest one first.
+fn unsigned(bytes: &[u8]) -> u64 {
+    let mut number: u64 = 0;
+    for byte in bytes {
+        number = number.saturating_mul(256).saturating_add(u64::from(*byte));
+    }
+    number
+}
+
+// The number of the font that an opcode selects.
+fn selected_number(code: u8, operands: &[u8]) -> Option<u64> {
+    if code < FNT_NUM_0 || code >= XXX1 {
+        None
+    } else if code < FNT1 {
+        Some(u64::from(code - FNT_NUM_0))
+    } else {
+        Some(unsigned(operands))
+    }
+}
+
+// The font that an opcode defines: its number, and then a checksum, the size, the design size, and the lengths of the
+// area and of the name.
+fn defined_font(code: u8, operands: &[u8]) -> Option<DefinedFont<'_>> {
+    if code < FNT_DEF1 || code >= PRE {
+        return None;
+    }
+    let count = usize::from(code - FNT_DEF1) + 1;
+    let fields = behind(operands, count);
+    let names = behind(fields, 14);
+    let lengths = front(behind(fields, 12), 2);
+    let [area, length] = lengths else {
+        return None;
+    };
+    Some(DefinedFont {
+        number: unsigned(front(operands, count)),
+        size: unsigned(front(behind(fields, 4), 4)),
+        name: front(names, usize::from(*area) + usize::from(*length)),
+    })
+}
+
+// The first definition of a number before an offset.
+fn definition_before(bytes: &[u8], offset: u64, number: u64) -> Option<DefinedFont<'_>> {
+    let mut rest = bytes;
+    let mut at: u64 = 0;
+    while let [_, later @ ..] = rest {
+        if at >= offset {
+            return None;
+        }
+        let opcode = opcode_at(rest, 0)?;
+        let size = opcode.end.saturating_sub(1) as usize;
+        match defined_font(opcode.code, front(later, size)) {
+            Some(font) if font.number == number => return Some(font),
+            _ => {}
+        }
+        at = at.saturating_add(opcode.end);
+        rest = behind(later, size);
+    }
+    None
+}
+
+// Adds what is the matter with the font of a number.
+fn push_selected(
+    out: &mut Vec<u8>,
+    bytes: &[u8],
+    offset: u64,
+    number: u64,
+) -> Result<(), AllocError> {
+    match definition_before(bytes, offset, number) {
+        Some(font) => {
+            push_texts(out, &[b"font ", font.name, b" at "])?;
+            push_points(out, font.size as i64)?;
+            push_texts(out, &[b" is not in the list"])
+        }
+        None => {
+            push_texts(out, &[b"font number "])?;
+            push_number(out, number)?;
+            push_texts(out, &[b" is not defined"])
+        }
+    }
+}
+
+/// Adds what is the matter with the font of the opcode at an offset, where it selects one that is not defined or not in
+/// the font list, or where it defines one again; whether it does.
+///
+/// # Errors
+///
+/// `AllocError` where memory ran out.
+pub fn push_font_fault(out: &mut Vec<u8>, bytes: &[u8], offset: u64) -> Result<bool, AllocError> {
+    let from = behind(bytes, offset as usize);
+    let Some(opcode) = opcode_at(from, 0) else {
+        return Ok(false);
+    };
+    let operands = front(behind(from, 1), opcode.end.saturating_sub(1) as usize);
+    if let Some(number) = selected_number(opcode.code, operands) {
+        push_selected(out, bytes, offset, number)?;
+        return Ok(true);
+    }
+    match defined_font(opcode.code, operands) {
+        Some(font) => {
+            push_texts(out, &[b"font number "])?;
+            push_number(out, font.number)?;
+            push_texts(out, &[b" is defined again with another name or size"])?;
+            Ok(true)
+        }
+        None => {
+            push_texts(out, &[b"no font is selected"])?;
+            Ok(true)
+        }
+    }
+}
