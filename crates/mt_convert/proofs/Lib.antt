@@ -20,6 +20,8 @@ pub mod SecondPass
 pub mod holds
 -- stacks as lists
 pub mod Stacks
+-- as many turns as a list holds are enough for its flat list
+mod Flattening
 -- what a turn leaves
 pub mod Turning
 -- boundaries stay at the ends

@@ -6,6 +6,8 @@ pub mod Current
 pub mod Joining
 -- the flat list, without choices and conditional spaces
 pub mod Flat
+-- how much items hold
+pub mod Sizes
 -- the items between the two passes, and their final classes
 pub mod Halves
 -- the first pass: the items are set

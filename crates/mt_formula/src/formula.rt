@@ -2,11 +2,14 @@
 ghost use Rattle.std.specs.Prelude.{◌≡◌, ◌≤◌, ◌^◌, ◌+◌, ◌*◌, length, IfOk};
 ghost use Rattle.mt_scaled.specs.Number.{Within};
 ghost use Rattle.mt_macro.specs.Limits.{max_tokens};
-ghost use Rattle.mt_scan.specs.Parts.{Read, after_blanks};
+ghost use Rattle.mt_scan.specs.Parts.{Read, after_blanks, IsAnswered};
 ghost use Rattle.mt_formula.specs.Answers.{IsFault, ReadsAs};
 ghost use Rattle.mt_formula.specs.Counts.{body_rows, formula_items, IsModestFormula};
-ghost use Rattle.mt_formula.specs.Formulas.{FormulaParts, ReadFault, reading_of, is_at_left, body_ending};
-ghost use Rattle.mt_formula.specs.Formulas.{display_here, formula, list_formula, reading};
+ghost use Rattle.mt_formula.specs.Rules.{FormulaParts, is_at_left, body_ending};
+ghost use Rattle.mt_formula.specs.Formulas.{ReadFault, reading_of};
+ghost use Rattle.mt_formula.specs.Rules.{display_here, formula, list_formula};
+ghost use Rattle.mt_formula.specs.Formulas.{reading};
+ghost use Rattle.mt_formula.specs.Tags.{IsTagPlaced};
 ghost use Rattle.mt_formula.specs.machine.Carried.{carried_run};
 ghost use Rattle.mt_formula.specs.machine.Reads.{HasFault, ReadsFormula};
 
@@ -135,7 +138,8 @@ fn error_at(cause: ReadCause, place: u32) -> ReadError
 // The error of a formula of so many tokens.
 fn error_of(stop: Stop, count: usize) -> ReadError
     requires { count ≤ 2 ^ 31 }
-    ensures { (read : Read FormulaParts) → HasFault stop read → IsFault result (reading_of count read) }
+    ensures { (read : Read FormulaParts) → (answered : IsAnswered read)
+        → HasFault stop read → IsFault result (reading_of count read answered) }
 {
     match stop {
         Stop::Fault(fault) => error_at(fault.cause, count.saturating_sub(fault.left) as u32),
@@ -167,6 +171,7 @@ pub fn read_formula(
     ensures items { IfOk result (λ formula. formula_items formula ≤ 4 * length list.now + 8) }
     ensures rows { IfOk result (λ formula. body_rows formula.0 ≤ length list.now) }
     ensures modest { length list.now ≤ max_tokens → IfOk result IsModestFormula }
+    ensures tags { IfOk result (λ formula. IsTagPlaced display formula.0 formula.1) }
 {
     match formula_parts(alloc, codes, units, display, list) {
         Ok(formula) => Ok(formula),

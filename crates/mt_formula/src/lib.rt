@@ -3,9 +3,13 @@
 
 mod forms;
 mod formula;
+mod laws;
 mod open;
 mod read_error;
 mod step;
 
 pub use formula::read_formula;
+pub use laws::{
+    parts_of_lists_count_no_turns, reading_counts_no_turns, tokens_are_a_formula_or_at_fault,
+};
 pub use read_error::ReadError;

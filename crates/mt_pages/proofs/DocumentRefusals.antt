@@ -23,8 +23,8 @@ use Rattle.mt_family.specs.SetValue.{SetValue}
 use Rattle.mt_family.specs.Sets.{units_of}
 use Rattle.mt_scan.specs.declared.fault.ReadCause.{ReadCause}
 use Rattle.mt_scan.specs.declared.fault.ReadCause.TheVariants.{UnknownName, DoubleScript, TwoFractions, BadDelimiter, Unbalanced, MisplacedLimits, MissingField, BadNumber, BadDimension, MisplacedNumber, TooDeep as TooManyGroups, ExtraCell}
-use Rattle.mt_scan.specs.Parts.{Read, ReadOr, Got, Fault, NoTurn}
-use Rattle.mt_formula.specs.Formulas.{Reading, Reads, ReadFault, NotReadInTurns, reading}
+use Rattle.mt_scan.specs.Parts.{Read, ReadOr, Got, Fault, NoTurn, IsAnswered}
+use Rattle.mt_formula.specs.Formulas.{Reading, Reads, ReadFault, reading}
 use Rattle.mt_reader.specs.Limits.{max_total_tokens}
 use Rattle.mt_reader.specs.declared.outside_cause.OutsideCause.{OutsideCause}
 use Rattle.mt_reader.specs.declared.outside_role.OutsideRole.{OutsideRole}
@@ -38,6 +38,7 @@ use Rattle.mt_pages.specs.Documents.{document_from, document_of, document_refusa
 use Rattle.mt_status.specs.declared.status.Status.TheVariants.{OutOfMemory}
 use Rattle.mt_status.proofs.Avoiding.{Avoids, avoids_err}
 use Rattle.mt_pages.proofs.Balanced.{balanced}
+use Rattle.mt_reader.specs.Answered.{definition_answered, math_code_answered, delcode_answered}
 
 -- ---- tokens
 
@@ -145,15 +146,15 @@ table_avoids : (s : DocumentState) (left : ℕ) (rest : List Token) (made : Resu
 table_avoids s left rest (Ok macros) = tt
 table_avoids s left rest (Err e) = tt
 
-definition_avoids : (s : DocumentState) (left : ℕ) (read : ReadOr OutsideCause MacroDefinition) → TurnAvoids (after_definition s left read)
-definition_avoids s left (Fault cause at) = tt
-definition_avoids s left NoTurn = λ same. cc
-definition_avoids s left (Got d rest) = table_avoids s left rest (define s.macros d.name d.params d.body)
+definition_avoids : (s : DocumentState) (left : ℕ) (read : ReadOr OutsideCause MacroDefinition) (a : IsAnswered read) → TurnAvoids (after_definition s left read a)
+definition_avoids s left (Fault cause at) a = tt
+definition_avoids s left NoTurn a = elim a [ ]
+definition_avoids s left (Got d rest) a = table_avoids s left rest (define s.macros d.name d.params d.body)
 
-assignment_avoids : (s : DocumentState) (left : ℕ) (read : Read CodeTables) → TurnAvoids (after_assignment s left read)
-assignment_avoids s left (Fault cause at) = tt
-assignment_avoids s left NoTurn = λ same. cc
-assignment_avoids s left (Got tables rest) = tt
+assignment_avoids : (s : DocumentState) (left : ℕ) (read : Read CodeTables) (a : IsAnswered read) → TurnAvoids (after_assignment s left read a)
+assignment_avoids s left (Fault cause at) a = tt
+assignment_avoids s left NoTurn a = elim a [ ]
+assignment_avoids s left (Got tables rest) a = tt
 
 cause_avoids : (n : ℕ) (cause : ReadCause) (place : ℕ) → reading_refusal n cause place ≡ OutOfMemory → ⊥
 cause_avoids n UnknownName place h = cc
@@ -171,7 +172,6 @@ cause_avoids n ExtraCell place h = cc
 
 reading_avoids : (units : Units) (s : DocumentState) (display : Bool) (total : ℕ) (rest : List Token) (read : Reading) → TurnAvoids (after_reading units s display total rest read)
 reading_avoids units s display total rest (ReadFault cause place) = cause_avoids (s.count + 1) cause place
-reading_avoids units s display total rest NotReadInTurns = λ same. cc
 reading_avoids units s display total rest (Reads body tag) = tt
 
 expanded_avoids : (units : Units) (s : DocumentState) (display : Bool) (rest list : List Token) (b : Bool) → nat_lt max_total_tokens (s.total + length list) ≡ b
@@ -199,9 +199,9 @@ formula_avoids units s rest false = formula_in_avoids units s (begins_display re
 
 turn_by_avoids : (units : Units) (s : DocumentState) (rest : List Token) (role : OutsideRole) → TurnAvoids (turn_by units s rest role)
 turn_by_avoids units s rest Passed = tt
-turn_by_avoids units s rest Defines = definition_avoids s (length rest + 1) (macro_definition rest)
-turn_by_avoids units s rest SetsMathCode = assignment_avoids s (length rest + 1) (math_code_assignment s.tables rest)
-turn_by_avoids units s rest SetsDelimiterCode = assignment_avoids s (length rest + 1) (delcode_assignment s.tables rest)
+turn_by_avoids units s rest Defines = definition_avoids s (length rest + 1) (macro_definition rest) (definition_answered rest)
+turn_by_avoids units s rest SetsMathCode = assignment_avoids s (length rest + 1) (math_code_assignment s.tables rest) (math_code_answered s.tables rest)
+turn_by_avoids units s rest SetsDelimiterCode = assignment_avoids s (length rest + 1) (delcode_assignment s.tables rest) (delcode_answered s.tables rest)
 turn_by_avoids units s rest BeginsFormula = formula_avoids units s rest (is_page_limit s)
 turn_by_avoids units s rest EndsPage = tt
 turn_by_avoids units s rest EndsDocument = tt

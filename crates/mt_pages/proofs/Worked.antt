@@ -13,7 +13,7 @@ use Rattle.mt_plain.specs.CodeTables.{plain_codes}
 use Rattle.mt_plain.specs.Names.{control}
 use Rattle.mt_plain.specs.MacroTexts.{macro_texts, accent_macros, delimiter_macros, other_macros, family_macros, function_macros, limit_macros}
 use Rattle.mt_plain.specs.PlainMacros.{plain_table, body_of as plain_body}
-use Rattle.mt_formula.specs.Formulas.{item_run}
+use Rattle.mt_formula.specs.Rules.{item_run}
 use Rattle.mt_rules.specs.AtomRow.{atom_row}
 use Rattle.mt_rules.specs.DisplayRows.{equations_line, rows_line}
 use Rattle.mt_rules.specs.Nuclei.{nucleus_row}

@@ -9,7 +9,7 @@ use Rattle.mt_scan.specs.declared.fault.ReadCause.{ReadCause}
 use Rattle.mt_scan.specs.declared.fault.ReadCause.TheVariants.{TooDeep as TooManyGroups}
 use Rattle.mt_scan.specs.Errors.{cause_number}
 use Rattle.mt_rules.specs.declared.document.Formula.{Formula}
-use Rattle.mt_reader.specs.Documents.{DocumentAnswer, DocumentFault, NotLexed, Outside, NotExpanded, NotRead, TooManyTokens, TooManyPages, OutOfTurns}
+use Rattle.mt_reader.specs.Documents.{DocumentAnswer, DocumentFault, NotLexed, Outside, NotExpanded, NotRead, TooManyTokens, TooManyPages}
 use Rattle.mt_reader.specs.Causes.{outside_number}
 use Rattle.mt_reader.specs.Sources.{source_document}
 use Rattle.mt_status.specs.Codes.{missing_argument}
@@ -48,7 +48,6 @@ document_refusal (NotExpanded n outcome) = expansion_refusal n outcome
 document_refusal (NotRead n cause place) = reading_refusal n cause place
 document_refusal (TooManyTokens n count) = Budget n
 document_refusal (TooManyPages count) = TooMuch Pages count
-document_refusal (OutOfTurns n) = BadFormula n 0 0
 
 abbrev pub document_from : DocumentAnswer → Result (List (List Formula)) Status
 document_from (Ok pages) = Ok pages

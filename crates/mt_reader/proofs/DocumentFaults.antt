@@ -10,7 +10,7 @@ use Rattle.mt_plain.specs.CodeTables.{plain_codes}
 use Rattle.mt_plain.specs.Names.{control}
 use Rattle.mt_plain.specs.MacroTexts.{macro_texts, accent_macros, delimiter_macros, other_macros, family_macros, function_macros, limit_macros}
 use Rattle.mt_plain.specs.PlainMacros.{plain_table, body_of as plain_body}
-use Rattle.mt_formula.specs.Formulas.{item_run}
+use Rattle.mt_formula.specs.Rules.{item_run}
 use Rattle.mt_reader.specs.declared.outside_cause.OutsideCause.TheVariants.{Misplaced, OpenFormula, BadDefinition, OpenBody, TooManyNames, BadAssignment}
 
 -- cause 31

@@ -22,8 +22,8 @@ use Rattle.mt_reader.specs.declared.outside_cause.OutsideCause.{OutsideCause}
 use Rattle.mt_reader.specs.declared.outside_role.OutsideRole.{OutsideRole}
 use Rattle.mt_reader.specs.declared.outside_role.OutsideRole.TheVariants.{Passed, Defines, SetsMathCode, SetsDelimiterCode, BeginsFormula, EndsPage, EndsDocument, Misplaced}
 use Rattle.mt_reader.specs.declared.document_error.DocError.{DocError}
-use Rattle.mt_scan.specs.Parts.{Read, ReadOr, Got, Fault, NoTurn}
-use Rattle.mt_formula.specs.Formulas.{Reading, Reads, ReadFault, NotReadInTurns, reading}
+use Rattle.mt_scan.specs.Parts.{Read, ReadOr, Got, Fault, NoTurn, IsAnswered}
+use Rattle.mt_formula.specs.Formulas.{Reading, Reads, ReadFault, reading}
 use Rattle.mt_reader.specs.Definitions.{MacroDefinition, macro_definition}
 use Rattle.mt_reader.specs.Assignments.{math_code_assignment, delcode_assignment}
 use Rattle.mt_reader.specs.Dollars.{begins_display, between_dollars}
@@ -33,8 +33,11 @@ use Rattle.mt_reader.specs.Weights.{HasFewItems, HaveFewItems, HasModestLists, I
 use Rattle.mt_formula.proofs.ItemBounds.{HasAtMost, reading_bound}
 use Rattle.mt_formula.proofs.Nesting.{formula_modest}
 use Rattle.mt_reader.proofs.Expanding.{expanded_short}
+use Rattle.mt_reader.specs.Tags.{HasTagPlaced, HaveTagsPlaced}
+use Rattle.mt_formula.proofs.Tagging.{formula_tagged}
 use Rattle.mt_reader.specs.Limits.{max_total_tokens}
 use Rattle.mt_macro.specs.Limits.{max_tokens}
+use Rattle.mt_reader.specs.Answered.{definition_answered, math_code_answered, delcode_answered}
 
 module _ (P : Formula → Type 0) (units : Units) where
   abbrev pub HoldsOfRead : Type 0
@@ -65,20 +68,19 @@ module _ (P : Formula → Type 0) (units : Units) where
   defined s left rest (Ok macros) h = record { pages = h.pages; page = h.page }
   defined s left rest (Err e) h = tt
 
-  definition_read : (s : DocumentState) (left : ℕ) (r : ReadOr OutsideCause MacroDefinition) → OfState s → OfTurn (after_definition s left r)
-  definition_read s left (Got d rest) h = defined s left rest (define s.macros d.name d.params d.body) h
-  definition_read s left (Fault cause at) h = tt
-  definition_read s left NoTurn h = tt
+  definition_read : (s : DocumentState) (left : ℕ) (r : ReadOr OutsideCause MacroDefinition) (a : IsAnswered r) → OfState s → OfTurn (after_definition s left r a)
+  definition_read s left (Got d rest) a h = defined s left rest (define s.macros d.name d.params d.body) h
+  definition_read s left (Fault cause at) a h = tt
+  definition_read s left NoTurn a h = elim a [ ]
 
-  assigned : (s : DocumentState) (left : ℕ) (r : Read CodeTables) → OfState s → OfTurn (after_assignment s left r)
-  assigned s left (Got tables rest) h = record { pages = h.pages; page = h.page }
-  assigned s left (Fault cause at) h = tt
-  assigned s left NoTurn h = tt
+  assigned : (s : DocumentState) (left : ℕ) (r : Read CodeTables) (a : IsAnswered r) → OfState s → OfTurn (after_assignment s left r a)
+  assigned s left (Got tables rest) a h = record { pages = h.pages; page = h.page }
+  assigned s left (Fault cause at) a h = tt
+  assigned s left NoTurn a h = elim a [ ]
 
   module _ (reads : HoldsOfRead) where
     formula_put : (s : DocumentState) (display : Bool) (total : ℕ) (rest list : List Token) (r : Reading) → OfState s → length list ≤ max_tokens → reading s.tables units display list ≡ r → OfTurn (after_reading units s display total rest r)
     formula_put s display total rest list (ReadFault cause place) h few e = tt
-    formula_put s display total rest list NotReadInTurns h few e = tt
     formula_put s display total rest list (Reads body tag) h few e = record {
       pages = h.pages;
       page = All-append P s.page (record { number = s.count + 1; display = display; body = body; tag = tag } ∷ []) h.page (All-cons P _ [] (reads s.tables display list body tag (s.count + 1) few e) (All-nil P));
@@ -103,9 +105,9 @@ module _ (P : Formula → Type 0) (units : Units) where
 
     turned : (s : DocumentState) (rest : List Token) (role : OutsideRole) → OfState s → OfTurn (turn_by units s rest role)
     turned s rest Passed h = h
-    turned s rest Defines h = definition_read s (length rest + 1) (macro_definition rest) h
-    turned s rest SetsMathCode h = assigned s (length rest + 1) (math_code_assignment s.tables rest) h
-    turned s rest SetsDelimiterCode h = assigned s (length rest + 1) (delcode_assignment s.tables rest) h
+    turned s rest Defines h = definition_read s (length rest + 1) (macro_definition rest) (definition_answered rest) h
+    turned s rest SetsMathCode h = assigned s (length rest + 1) (math_code_assignment s.tables rest) (math_code_answered s.tables rest) h
+    turned s rest SetsDelimiterCode h = assigned s (length rest + 1) (delcode_assignment s.tables rest) (delcode_answered s.tables rest) h
     turned s rest BeginsFormula h = begun s rest (is_page_limit s) h
     turned s rest EndsPage h = record { pages = page_ended s.pages s.page h.pages h.page; page = All-nil P }
     turned s rest EndsDocument h = h
@@ -155,6 +157,13 @@ modest units tables display list body tag n few e = record {
 
 pub formulas_modest : (units : Units) (tables : CodeTables) (macros : Table) (tokens : List Token) (result : Result (List (List Formula)) DocError) → IsDocument result (document units tables macros tokens) → IfOk result IsModestDocument
 formulas_modest units tables macros tokens result e = all_formulas HasModestLists units (modest units) tables macros tokens result e
+
+tagged : (units : Units) → HoldsOfRead HasTagPlaced units
+tagged units tables display list body tag n few e = formula_tagged tables units display list body tag e
+
+-- the number of a formula stands beside the list of a display
+pub formulas_tagged : (units : Units) (tables : CodeTables) (macros : Table) (tokens : List Token) (result : Result (List (List Formula)) DocError) → IsDocument result (document units tables macros tokens) → IfOk result HaveTagsPlaced
+formulas_tagged units tables macros tokens result e = all_formulas HasTagPlaced units (tagged units) tables macros tokens result e
 
 pub turn_modest : (units : Units) (s : DocumentState) (rest : List Token) (role : OutsideRole) → OfState HasModestLists units s → OfTurn HasModestLists units (turn_by units s rest role)
 turn_modest units s rest role h = turned HasModestLists units (modest units) s rest role h

@@ -21,3 +21,7 @@ mod DocumentWriting
 -- worked documents, and documents at fault
 mod DocumentCases
 mod DocumentFaults
+-- tokens are a document or it is refused
+mod Deciding
+-- the turns of a document are always enough
+pub mod Falling

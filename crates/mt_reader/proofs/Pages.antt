@@ -14,14 +14,15 @@ use Rattle.mt_reader.specs.declared.outside_cause.OutsideCause.{OutsideCause}
 use Rattle.mt_reader.specs.declared.document_error.DocError.{DocError}
 use Rattle.mt_reader.specs.declared.outside_role.OutsideRole.{OutsideRole}
 use Rattle.mt_reader.specs.declared.outside_role.OutsideRole.TheVariants.{Passed, Defines, SetsMathCode, SetsDelimiterCode, BeginsFormula, EndsPage, EndsDocument, Misplaced}
-use Rattle.mt_scan.specs.Parts.{Read, ReadOr, Got, Fault, NoTurn}
-use Rattle.mt_formula.specs.Formulas.{Reading, Reads, ReadFault, NotReadInTurns, reading}
+use Rattle.mt_scan.specs.Parts.{Read, ReadOr, Got, Fault, NoTurn, IsAnswered}
+use Rattle.mt_formula.specs.Formulas.{Reading, Reads, ReadFault, reading}
 use Rattle.mt_reader.specs.Definitions.{MacroDefinition, macro_definition}
 use Rattle.mt_reader.specs.Assignments.{math_code_assignment, delcode_assignment}
 use Rattle.mt_reader.specs.Dollars.{begins_display, between_dollars}
 use Rattle.mt_reader.specs.Documents.{DocumentState, DocumentAnswer, start_state, DocumentTurn, Goes, Ends, Stops, StopsOutside, TooManyTokens, outside_role, with_page, state_pages, with_table, after_definition, after_assignment, is_empty_page, is_page_limit, after_reading, after_expansion, formula_in, formula_turn, turn_by, turn_answer, pages_from, document}
 use Rattle.mt_reader.specs.Refusals.{IsDocument}
 use Rattle.mt_reader.specs.Limits.{max_total_tokens, max_document_pages}
+use Rattle.mt_reader.specs.Answered.{definition_answered, math_code_answered, delcode_answered}
 
 -- what has been read makes at most so many pages
 abbrev pub FewPages : DocumentState → Type 0
@@ -47,15 +48,15 @@ with_table_fits : (s : DocumentState) (left : ℕ) (rest : List Token) (made : R
 with_table_fits s left rest (Ok macros) f = f
 with_table_fits s left rest (Err e) f = tt
 
-definition_fits : (s : DocumentState) (left : ℕ) (d : ReadOr OutsideCause MacroDefinition) → FewPages s → TurnFits (after_definition s left d)
-definition_fits s left (Fault cause at) f = tt
-definition_fits s left NoTurn f = tt
-definition_fits s left (Got d rest) f = with_table_fits s left rest (define s.macros d.name d.params d.body) f
+definition_fits : (s : DocumentState) (left : ℕ) (d : ReadOr OutsideCause MacroDefinition) (a : IsAnswered d) → FewPages s → TurnFits (after_definition s left d a)
+definition_fits s left (Fault cause at) a f = tt
+definition_fits s left NoTurn a f = elim a [ ]
+definition_fits s left (Got d rest) a f = with_table_fits s left rest (define s.macros d.name d.params d.body) f
 
-assignment_fits : (s : DocumentState) (left : ℕ) (r : Read CodeTables) → FewPages s → TurnFits (after_assignment s left r)
-assignment_fits s left (Fault cause at) f = tt
-assignment_fits s left NoTurn f = tt
-assignment_fits s left (Got tables rest) f = f
+assignment_fits : (s : DocumentState) (left : ℕ) (r : Read CodeTables) (a : IsAnswered r) → FewPages s → TurnFits (after_assignment s left r a)
+assignment_fits s left (Fault cause at) a f = tt
+assignment_fits s left NoTurn a f = elim a [ ]
+assignment_fits s left (Got tables rest) a f = f
 
 abbrev AnswerFits : DocumentAnswer → Type 0
 AnswerFits (Ok pages) = length pages ≤ max_document_pages
@@ -67,7 +68,6 @@ AgainFits again = (s : DocumentState) (tokens : List Token) → FewPages s → A
 module _ (units : Units) where
   reading_fits : (s : DocumentState) (display : Bool) (total : ℕ) (rest : List Token) (r : Reading) → FewPages s → is_page_limit s ≡ false → TurnFits (after_reading units s display total rest r)
   reading_fits s display total rest (ReadFault cause place) f room = tt
-  reading_fits s display total rest NotReadInTurns f room = tt
   reading_fits s display total rest (Reads body tag) f room = push_page s.pages s.page (record { number = s.count + 1; display = display; body = body; tag = tag }) f room
 
   expansion_fits : (s : DocumentState) (display : Bool) (rest : List Token) (o : Expansion) → FewPages s → is_page_limit s ≡ false → TurnFits (after_expansion units s display rest o)
@@ -91,9 +91,9 @@ module _ (units : Units) where
 
   pub turn_by_fits : (s : DocumentState) (rest : List Token) (role : OutsideRole) → FewPages s → TurnFits (turn_by units s rest role)
   turn_by_fits s rest Passed f = f
-  turn_by_fits s rest Defines f = definition_fits s (length rest + 1) (macro_definition rest) f
-  turn_by_fits s rest SetsMathCode f = assignment_fits s (length rest + 1) (math_code_assignment s.tables rest) f
-  turn_by_fits s rest SetsDelimiterCode f = assignment_fits s (length rest + 1) (delcode_assignment s.tables rest) f
+  turn_by_fits s rest Defines f = definition_fits s (length rest + 1) (macro_definition rest) (definition_answered rest) f
+  turn_by_fits s rest SetsMathCode f = assignment_fits s (length rest + 1) (math_code_assignment s.tables rest) (math_code_answered s.tables rest) f
+  turn_by_fits s rest SetsDelimiterCode f = assignment_fits s (length rest + 1) (delcode_assignment s.tables rest) (delcode_answered s.tables rest) f
   turn_by_fits s rest BeginsFormula f = formula_turn_fits s rest (is_page_limit s) refl f
   turn_by_fits s rest EndsPage f = f
   turn_by_fits s rest EndsDocument f = f

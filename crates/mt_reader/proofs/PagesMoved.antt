@@ -14,14 +14,15 @@ use Rattle.mt_plain.specs.CodeTables.{CodeTables}
 use Rattle.mt_reader.specs.declared.outside_cause.OutsideCause.{OutsideCause}
 use Rattle.mt_reader.specs.declared.outside_role.OutsideRole.{OutsideRole}
 use Rattle.mt_reader.specs.declared.outside_role.OutsideRole.TheVariants.{Passed, Defines, SetsMathCode, SetsDelimiterCode, BeginsFormula, EndsPage, EndsDocument, Misplaced}
-use Rattle.mt_scan.specs.Parts.{Read, ReadOr, Got, Fault, NoTurn}
-use Rattle.mt_formula.specs.Formulas.{Reading, Reads, ReadFault, NotReadInTurns, reading}
+use Rattle.mt_scan.specs.Parts.{Read, ReadOr, Got, Fault, NoTurn, IsAnswered}
+use Rattle.mt_formula.specs.Formulas.{Reading, Reads, ReadFault, reading}
 use Rattle.mt_reader.specs.Definitions.{MacroDefinition, macro_definition}
 use Rattle.mt_reader.specs.Assignments.{math_code_assignment, delcode_assignment}
 use Rattle.mt_reader.specs.Dollars.{begins_display, between_dollars}
 use Rattle.mt_reader.specs.Documents.{DocumentState, DocumentTurn, Goes, Ends, Stops, StopsOutside, TooManyTokens, with_table, after_definition, after_assignment, is_empty_page, is_page_limit, after_reading, after_expansion, formula_in, formula_turn, turn_by}
 use Rattle.mt_reader.specs.DocumentTurns.{ends_page}
 use Rattle.mt_reader.specs.Limits.{max_total_tokens, max_document_pages}
+use Rattle.mt_reader.specs.Answered.{definition_answered, math_code_answered, delcode_answered}
 
 pub placeholders : (n : ℕ) → length (replicate {A = List Formula} n []) ≡ n
 placeholders zero = refl
@@ -46,20 +47,19 @@ module _ (read : List (List Formula)) where
   table_after s left rest (Ok macros) = refl
   table_after s left rest (Err e) = refl
 
-  definition_after : (s : DocumentState) (left : ℕ) (d : ReadOr OutsideCause MacroDefinition) → after_definition (after s) left d ≡ turn_after (after_definition s left d)
-  definition_after s left (Fault cause at) = refl
-  definition_after s left NoTurn = refl
-  definition_after s left (Got d rest) = table_after s left rest (define s.macros d.name d.params d.body)
+  definition_after : (s : DocumentState) (left : ℕ) (d : ReadOr OutsideCause MacroDefinition) (a : IsAnswered d) → after_definition (after s) left d a ≡ turn_after (after_definition s left d a)
+  definition_after s left (Fault cause at) a = refl
+  definition_after s left NoTurn a = elim a [ ]
+  definition_after s left (Got d rest) a = table_after s left rest (define s.macros d.name d.params d.body)
 
-  assignment_after : (s : DocumentState) (left : ℕ) (r : Read CodeTables) → after_assignment (after s) left r ≡ turn_after (after_assignment s left r)
-  assignment_after s left (Fault cause at) = refl
-  assignment_after s left NoTurn = refl
-  assignment_after s left (Got tables rest) = refl
+  assignment_after : (s : DocumentState) (left : ℕ) (r : Read CodeTables) (a : IsAnswered r) → after_assignment (after s) left r a ≡ turn_after (after_assignment s left r a)
+  assignment_after s left (Fault cause at) a = refl
+  assignment_after s left NoTurn a = elim a [ ]
+  assignment_after s left (Got tables rest) a = refl
 
   module _ (units : Units) where
     reading_after : (s : DocumentState) (display : Bool) (total : ℕ) (rest : List Token) (r : Reading) → after_reading units (after s) display total rest r ≡ turn_after (after_reading units s display total rest r)
     reading_after s display total rest (ReadFault cause place) = refl
-    reading_after s display total rest NotReadInTurns = refl
     reading_after s display total rest (Reads body tag) = refl
 
     counted_after : (s : DocumentState) (display : Bool) (rest list : List Token) (b : Bool)
@@ -85,9 +85,9 @@ module _ (read : List (List Formula)) where
 
     pub same_turn : (s : DocumentState) (rest : List Token) (role : OutsideRole) → length read ≡ length s.pages → ends_page role ≡ false → turn_by units (after s) rest role ≡ turn_after (turn_by units s rest role)
     same_turn s rest Passed same goes_on = refl
-    same_turn s rest Defines same goes_on = definition_after s (length rest + 1) (macro_definition rest)
-    same_turn s rest SetsMathCode same goes_on = assignment_after s (length rest + 1) (math_code_assignment s.tables rest)
-    same_turn s rest SetsDelimiterCode same goes_on = assignment_after s (length rest + 1) (delcode_assignment s.tables rest)
+    same_turn s rest Defines same goes_on = definition_after s (length rest + 1) (macro_definition rest) (definition_answered rest)
+    same_turn s rest SetsMathCode same goes_on = assignment_after s (length rest + 1) (math_code_assignment s.tables rest) (math_code_answered s.tables rest)
+    same_turn s rest SetsDelimiterCode same goes_on = assignment_after s (length rest + 1) (delcode_assignment s.tables rest) (delcode_answered s.tables rest)
     same_turn s rest BeginsFormula same goes_on =
         ap (λ (n : ℕ). formula_turn units (after s) rest (is_empty_page s.page && (n == max_document_pages))) same
         ∙ formula_after s rest (is_page_limit s)

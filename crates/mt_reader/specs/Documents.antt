@@ -13,7 +13,7 @@ use Rattle.mt_macro.specs.Expansion.{Expansion, Expanded, OverBudget, NoArgument
 use Rattle.mt_scaled.specs.declared.unit.Units.{Units}
 use Rattle.mt_plain.specs.CodeTables.{CodeTables}
 use Rattle.mt_scan.specs.declared.fault.ReadCause.{ReadCause}
-use Rattle.mt_scan.specs.Parts.{Read, ReadOr, Got, Fault, NoTurn}
+use Rattle.mt_scan.specs.Parts.{Read, ReadOr, Got, Fault, NoTurn, IsAnswered}
 use Rattle.mt_reader.specs.declared.outside_cause.OutsideCause.{OutsideCause}
 use Rattle.mt_reader.specs.declared.outside_cause.OutsideCause.{OutsideCause}
 use Rattle.mt_reader.specs.declared.outside_cause.OutsideCause.TheVariants as causes
@@ -22,11 +22,12 @@ use Rattle.mt_reader.specs.declared.outside_role.OutsideRole.TheVariants.{Passed
 use Rattle.mt_rules.specs.declared.document.Body.{Body}
 use Rattle.mt_rules.specs.declared.document.Formula.{Formula}
 use Rattle.mt_rules.specs.declared.document.Tag.{Tag}
-use Rattle.mt_formula.specs.Formulas.{Reading, Reads, ReadFault, NotReadInTurns, reading}
+use Rattle.mt_formula.specs.Formulas.{Reading, Reads, ReadFault, reading}
 use Rattle.mt_reader.specs.Definitions.{MacroDefinition, macro_definition}
 use Rattle.mt_reader.specs.Assignments.{math_code_assignment, delcode_assignment}
 use Rattle.mt_reader.specs.Dollars.{begins_display, between_dollars}
 use Rattle.mt_reader.specs.Limits.{max_total_tokens, max_document_pages}
+use Rattle.mt_reader.specs.Answered.{definition_answered, math_code_answered, delcode_answered}
 
 -- what has been read: the pages that are ended, the formulas of the page that is not, how many formulas there are, and
 -- how many tokens they had after expansion
@@ -52,8 +53,6 @@ pub data DocumentFault : Type 0 where
   NotRead : (n : ℕ) (cause : ReadCause) (place : ℕ) → DocumentFault
   TooManyTokens : (n : ℕ) (count : ℕ) → DocumentFault
   TooManyPages : (count : ℕ) → DocumentFault
-  -- no turn was left to read by, which no answer of the code fits
-  OutOfTurns : (n : ℕ) → DocumentFault
 
 abbrev pub DocumentAnswer : Type 0
 DocumentAnswer = Result (List (List Formula)) DocumentFault
@@ -102,15 +101,15 @@ with_table s left rest (Ok macros) = Goes (record s { macros = macros }) rest
 with_table s left rest (Err e) = outside_fault s causes.TooManyNames left
 
 -- a definition, and then whether there is room for it
-abbrev pub after_definition : DocumentState → ℕ → ReadOr OutsideCause MacroDefinition → DocumentTurn
-after_definition s left (Fault cause at) = outside_fault s cause at
-after_definition s left NoTurn = Stops (OutOfTurns (s.count + 1))
-after_definition s left (Got d rest) = with_table s left rest (define s.macros d.name d.params d.body)
+abbrev pub after_definition : DocumentState → ℕ → (read : ReadOr OutsideCause MacroDefinition) → IsAnswered read → DocumentTurn
+after_definition s left (Fault cause at) answered = outside_fault s cause at
+after_definition s left NoTurn answered = elim answered [ ]
+after_definition s left (Got d rest) answered = with_table s left rest (define s.macros d.name d.params d.body)
 
-abbrev pub after_assignment : DocumentState → ℕ → Read CodeTables → DocumentTurn
-after_assignment s left (Fault cause at) = outside_fault s causes.BadAssignment left
-after_assignment s left NoTurn = Stops (OutOfTurns (s.count + 1))
-after_assignment s left (Got tables rest) = Goes (record s { tables = tables }) rest
+abbrev pub after_assignment : DocumentState → ℕ → (read : Read CodeTables) → IsAnswered read → DocumentTurn
+after_assignment s left (Fault cause at) answered = outside_fault s causes.BadAssignment left
+after_assignment s left NoTurn answered = elim answered [ ]
+after_assignment s left (Got tables rest) answered = Goes (record s { tables = tables }) rest
 
 abbrev pub is_empty_page : List Formula → Bool
 is_empty_page [] = true
@@ -129,7 +128,6 @@ with_formula s display total body tag =
 module _ (units : Units) where
   abbrev pub after_reading : DocumentState → Bool → ℕ → List Token → Reading → DocumentTurn
   after_reading s display total rest (ReadFault cause place) = Stops (NotRead (s.count + 1) cause place)
-  after_reading s display total rest NotReadInTurns = Stops (OutOfTurns (s.count + 1))
   after_reading s display total rest (Reads body tag) = Goes (with_formula s display total body tag) rest
 
   abbrev pub after_expansion : DocumentState → Bool → List Token → Expansion → DocumentTurn
@@ -155,9 +153,9 @@ module _ (units : Units) where
 
   abbrev pub turn_by : DocumentState → List Token → OutsideRole → DocumentTurn
   turn_by s rest Passed = Goes s rest
-  turn_by s rest Defines = after_definition s (length rest + 1) (macro_definition rest)
-  turn_by s rest SetsMathCode = after_assignment s (length rest + 1) (math_code_assignment s.tables rest)
-  turn_by s rest SetsDelimiterCode = after_assignment s (length rest + 1) (delcode_assignment s.tables rest)
+  turn_by s rest Defines = after_definition s (length rest + 1) (macro_definition rest) (definition_answered rest)
+  turn_by s rest SetsMathCode = after_assignment s (length rest + 1) (math_code_assignment s.tables rest) (math_code_answered s.tables rest)
+  turn_by s rest SetsDelimiterCode = after_assignment s (length rest + 1) (delcode_assignment s.tables rest) (delcode_answered s.tables rest)
   turn_by s rest BeginsFormula = formula_turn s rest (is_page_limit s)
   turn_by s rest EndsPage = Goes (after_page_end s) rest
   turn_by s rest EndsDocument = Ends s

@@ -16,9 +16,13 @@ pub mod Causes
 pub mod Refusals
 -- how many formulas a document has
 pub mod Weights
+-- where the numbers of its formulas stand
+pub mod Tags
 -- tokens that are lent
 pub mod Lent
 -- what a turn leaves
 pub mod DocumentTurns
 -- documents that are read page by page
 pub mod PageReading
+-- what counts no turns is read or at fault
+pub mod Answered

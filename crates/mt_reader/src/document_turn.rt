@@ -1,6 +1,7 @@
 //! What becomes of a token outside of formulas, and of those after it.
 ghost use Rattle.std.specs.Prelude.{◌≡◌, ℕ, ◌≤◌, ◌<◌, ◌+◌, ◌-◌, ◌^◌, false, length};
 ghost use Rattle.mt_scaled.specs.Number.{Within};
+ghost use Rattle.mt_reader.specs.Answered.{definition_answered, math_code_answered, delcode_answered};
 ghost use Rattle.mt_reader.specs.Definitions.{macro_definition};
 ghost use Rattle.mt_reader.specs.Assignments.{math_code_assignment, delcode_assignment};
 ghost use Rattle.mt_reader.specs.Documents.{after_definition, after_assignment, after_reading};
@@ -78,7 +79,8 @@ fn definition_turn<'a>(
     requires whole { whole < 2 ^ 32 }
     requires tokens { length tokens.now < whole }
     ensures is { MeetsTurn result state.new whole
-        (after_definition (state_of state.old) (length tokens.now + 1) (macro_definition tokens.now)) }
+        (after_definition (state_of state.old) (length tokens.now + 1)
+        (macro_definition tokens.now) (definition_answered tokens.now)) }
     ensures spends { Spends result state.old state.new tokens.now }
 {
     match macro_definition(tokens) {
@@ -102,7 +104,7 @@ fn math_code_turn<'a>(
     requires whole { whole < 2 ^ 32 }
     requires tokens { length tokens.now < whole }
     ensures is { MeetsTurn result state.new whole (after_assignment (state_of state.old) (length tokens.now + 1)
-        (math_code_assignment state.old.codes tokens.now)) }
+        (math_code_assignment state.old.codes tokens.now) (math_code_answered state.old.codes tokens.now)) }
     ensures spends { Spends result state.old state.new tokens.now }
 {
     match state.assign_math_code(tokens) {
@@ -122,7 +124,7 @@ fn delcode_turn<'a>(
     requires whole { whole < 2 ^ 32 }
     requires tokens { length tokens.now < whole }
     ensures is { MeetsTurn result state.new whole (after_assignment (state_of state.old) (length tokens.now + 1)
-        (delcode_assignment state.old.codes tokens.now)) }
+        (delcode_assignment state.old.codes tokens.now) (delcode_answered state.old.codes tokens.now)) }
     ensures spends { Spends result state.old state.new tokens.now }
 {
     match state.assign_delcode(tokens) {

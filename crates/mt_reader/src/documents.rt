@@ -8,6 +8,7 @@ ghost use Rattle.mt_reader.specs.Documents.{document};
 ghost use Rattle.mt_reader.specs.Sources.{AreSourceTokens, source_document};
 ghost use Rattle.mt_reader.specs.Refusals.{IsDocument};
 ghost use Rattle.mt_reader.specs.Weights.{pages_weight, HaveFewItems, IsModestDocument};
+ghost use Rattle.mt_reader.specs.Tags.{HaveTagsPlaced};
 ghost use Rattle.mt_reader.specs.Limits.{max_document_pages};
 
 use crate::document_error::DocError;
@@ -74,6 +75,7 @@ pub fn read_document(alloc: Global, units: Units, bytes: &[u8]) -> Result<Docume
     ensures items { IfOk result HaveFewItems }
     ensures pages { IfOk result (λ pages. length pages ≤ max_document_pages) }
     ensures modest { IfOk result IsModestDocument }
+    ensures tags { IfOk result HaveTagsPlaced }
 {
     let list = source_tokens(alloc, bytes)?;
     document_of(alloc, units, list.as_slice())

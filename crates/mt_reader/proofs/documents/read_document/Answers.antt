@@ -1,6 +1,6 @@
 use Rattle.mt_plain.specs.CodeTables.{plain_codes}
 use Rattle.mt_plain.specs.PlainMacros.{plain_table}
-use Rattle.mt_reader.proofs.DocumentFormulas.{formulas_few, formulas_modest}
+use Rattle.mt_reader.proofs.DocumentFormulas.{formulas_few, formulas_modest, formulas_tagged}
 use Rattle.mt_reader.proofs.Pages.{pages_few}
 use Rattle.mt_reader.proofs.documents.read_document.Goals as goal
 
@@ -12,3 +12,6 @@ returns-clause-pages c = pages_few c.args.units plain_codes plain_table _ c.docu
 
 pub returns-clause-modest : goal.returns-clause-modest
 returns-clause-modest c = formulas_modest c.args.units plain_codes plain_table _ c.document_of.result c.document_of.ensures.is
+
+pub returns-clause-tags : goal.returns-clause-tags
+returns-clause-tags c = formulas_tagged c.args.units plain_codes plain_table _ c.document_of.result c.document_of.ensures.is
