@@ -11,9 +11,9 @@ use std::alloc::AllocError;
 #[derive(Clone, Copy)]
 struct DefinedFont<'a> {
     // Its number in the file.
-    number: u64,
+    number: u32,
     // Its size in scaled points.
-    size: u64,
+    size: u32,
     // Its area and its name.
     name: &'a [u8],
 }
@@ -39,20 +39,20 @@ fn behind(bytes: &[u8], count: usize) -> &[u8]
 }
 
 // The number that these bytes have, the highest one first.
-fn unsigned(bytes: &[u8]) -> u64 {
-    let mut number: u64 = 0;
+fn unsigned(bytes: &[u8]) -> u32 {
+    let mut number: u32 = 0;
     for byte in bytes {
-        number = number.saturating_mul(256).saturating_add(u64::from(*byte));
+        number = number.saturating_mul(256).saturating_add(u32::from(*byte));
     }
     number
 }
 
 // The number of the font that an opcode selects.
-fn selected_number(code: u8, operands: &[u8]) -> Option<u64> {
+fn selected_number(code: u8, operands: &[u8]) -> Option<u32> {
     if code < FNT_NUM_0 || code >= XXX1 {
         None
     } else if code < FNT1 {
-        Some(u64::from(code - FNT_NUM_0))
+        Some(u32::from(code - FNT_NUM_0))
     } else {
         Some(unsigned(operands))
     }
@@ -79,7 +79,7 @@ fn defined_font(code: u8, operands: &[u8]) -> Option<DefinedFont<'_>> {
 }
 
 // The first definition of a number before an offset.
-fn definition_before(bytes: &[u8], offset: u64, number: u64) -> Option<DefinedFont<'_>> {
+fn definition_before(bytes: &[u8], offset: u64, number: u32) -> Option<DefinedFont<'_>> {
     let mut rest = bytes;
     let mut at: u64 = 0;
     while let [_, later @ ..] = rest {
@@ -103,12 +103,12 @@ fn push_selected(
     out: &mut Vec<u8>,
     bytes: &[u8],
     offset: u64,
-    number: u64,
+    number: u32,
 ) -> Result<(), AllocError> {
     match definition_before(bytes, offset, number) {
         Some(font) => {
             push_texts(out, &[b"font ", font.name, b" at "])?;
-            push_points(out, font.size as i64)?;
+            push_points(out, i64::from(font.size))?;
             push_texts(out, &[b" is not in the list"])
         }
         None => {

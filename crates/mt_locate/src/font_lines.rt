@@ -239,16 +239,24 @@ fn begins_with_word(line: &[u8], word: &[u8]) -> bool {
     line.starts_with(word) && matches!(line.get(word.len()), Some(b' '))
 }
 
+// The bytes behind the blanks that a text begins with.
+fn behind_blanks(text: &[u8]) -> &[u8] {
+    let mut rest = text;
+    while let [byte, after @ ..] = rest {
+        if *byte != b' ' {
+            return rest;
+        }
+        rest = after;
+    }
+    rest
+}
+
 // The bytes behind a word and the blanks behind it, where a line begins with it.
 fn behind_word<'a>(line: &'a [u8], word: &[u8]) -> Option<&'a [u8]> {
     if !begins_with_word(line, word) || word.len() > line.len() {
         return None;
     }
-    let mut rest = &line[word.len()..];
-    while let [b' ', after @ ..] = rest {
-        rest = after;
-    }
-    Some(rest)
+    Some(behind_blanks(&line[word.len()..]))
 }
 
 // The offset of the first line of a list for a font of this name.
@@ -300,7 +308,9 @@ fn explain_unread<C: Cabinet>(
     let Some(place) = place_at(list.as_slice(), offset) else {
         return Ok(None);
     };
-    let line = place.position.line as u32;
+    let Ok(line) = u32::try_from(place.position.line) else {
+        return Ok(None);
+    };
     let beside = Beside::Fetching(fonts);
     list_lines(alloc, fonts, list.as_slice(), status, line, beside)
 }

@@ -122,11 +122,20 @@ fn nearest_own<'a>(wanted: &'a [u8], definitions: &[&'a [Token]]) -> Nearest<'a>
     nearest
 }
 
+// The nearest name, with these names too.
+fn nearest_in<'a>(nearest: Nearest<'a>, names: &[&'a [u8]]) -> Nearest<'a> {
+    let mut nearest = nearest;
+    for known in names {
+        nearest = nearest.or(Some(*known));
+    }
+    nearest
+}
+
 // The nearest name to another one: one that the source defines, or one that means something in a formula.
 fn nearest_name<'a>(formula: &SourceFormula<'a>, wanted: &'a [u8]) -> Option<&'a [u8]> {
     let mut nearest = nearest_own(wanted, formula.definitions.as_slice());
-    for known in formula_names() {
-        nearest = nearest.or(Some(*known));
+    for names in &formula_names() {
+        nearest = nearest_in(nearest, *names);
     }
     nearest.found()
 }
