@@ -2,6 +2,8 @@
 pub mod Log
 -- the line that explains a refusal
 pub mod Explanation
+-- what each refusal means in words
+pub mod Meanings
 -- the numbers of statuses
 pub mod Codes
 -- from what a status comes, and what a call that reads no file answers

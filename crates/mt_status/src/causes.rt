@@ -2,6 +2,8 @@
 //! one size, which come after the causes of a TFM file. The errors after those of a table are statuses of their own.
 ghost use Rattle.std.specs.Prelude.{◌≡◌, true};
 ghost use Rattle.mt_status.specs.Explanation.{IsLine, are_lines};
+ghost use Rattle.mt_status.specs.Meanings.{cause_text, lent_texts, token_meaning};
+ghost use Rattle.mt_status.specs.Meanings.{dvi_causes, family_causes, font_causes, list_causes, source_causes};
 
 use crate::status::MISSING_ARGUMENT;
 use mt_token::FIRST_OUTSIDE_CAUSE;
@@ -93,7 +95,8 @@ const DVI_CAUSES: [&str; 11] = [
 // error has it.
 fn text_of(texts: &[&'static str], first: u8, cause: u8) -> &'static str
     requires { are_lines texts.now ≡ true }
-    ensures { IsLine result.now }
+    ensures is { result.now ≡ cause_text (lent_texts texts.now) first cause }
+    ensures line { IsLine result.now }
 {
     if cause < first {
         return "";
@@ -106,35 +109,40 @@ fn text_of(texts: &[&'static str], first: u8, cause: u8) -> &'static str
 
 /// Of a line of the font list.
 pub fn list_cause(cause: u8) -> &'static str
-    ensures { IsLine result.now }
+    ensures is { result.now ≡ cause_text list_causes 1 cause }
+    ensures line { IsLine result.now }
 {
     text_of(&LIST_CAUSES, 1, cause)
 }
 
 /// Of a TFM file, or of a font's size.
 pub fn font_cause(cause: u8) -> &'static str
-    ensures { IsLine result.now }
+    ensures is { result.now ≡ cause_text font_causes 1 cause }
+    ensures line { IsLine result.now }
 {
     text_of(&FONT_CAUSES, 1, cause)
 }
 
 /// Of a family at a size.
 pub fn family_cause(cause: u8) -> &'static str
-    ensures { IsLine result.now }
+    ensures is { result.now ≡ cause_text family_causes 1 cause }
+    ensures line { IsLine result.now }
 {
     text_of(&FAMILY_CAUSES, 1, cause)
 }
 
 /// Of a byte of the source.
 pub fn source_cause(cause: u8) -> &'static str
-    ensures { IsLine result.now }
+    ensures is { result.now ≡ cause_text source_causes 1 cause }
+    ensures line { IsLine result.now }
 {
     text_of(&SOURCE_CAUSES, 1, cause)
 }
 
 /// Of a token of a formula, or of one outside of formulas.
 pub fn token_cause(cause: u8) -> &'static str
-    ensures { IsLine result.now }
+    ensures is { result.now ≡ token_meaning cause }
+    ensures line { IsLine result.now }
 {
     if cause == MISSING_ARGUMENT {
         NO_ARGUMENT
@@ -147,7 +155,8 @@ pub fn token_cause(cause: u8) -> &'static str
 
 /// Of a byte of a DVI file.
 pub fn dvi_cause(cause: u8) -> &'static str
-    ensures { IsLine result.now }
+    ensures is { result.now ≡ cause_text dvi_causes 1 cause }
+    ensures line { IsLine result.now }
 {
     text_of(&DVI_CAUSES, 1, cause)
 }

@@ -3,6 +3,7 @@ ghost use Rattle.std.specs.Prelude.{◌≡◌, ◌∷◌, [], List, ℕ, codes};
 ghost use Rattle.std.specs.List.{concat};
 ghost use Rattle.mt_status.specs.Log.{Gets};
 ghost use Rattle.mt_status.specs.Explanation.{IsLine, explained, usage};
+ghost use Rattle.mt_status.specs.Meanings.{meaning, too_much_meaning};
 ghost use Rattle.mt_status.specs.inner.LogParts.{part_bytes};
 
 use crate::causes::{dvi_cause, family_cause, font_cause, list_cause, source_cause, token_cause};
@@ -26,7 +27,8 @@ fn usage() -> &'static str
 }
 
 fn too_much(kind: Much) -> &'static str
-    ensures { IsLine result.now }
+    ensures is { result.now ≡ too_much_meaning kind }
+    ensures line { IsLine result.now }
 {
     match kind {
         Much::Pages => "a source can have at most 5,000 pages, and a file of copied pages 65,535",
@@ -37,7 +39,8 @@ fn too_much(kind: Much) -> &'static str
 
 // What a refusal means. docs/FORMATS.md has the table.
 fn explanation(status: &Status) -> &'static str
-    ensures { IsLine result.now }
+    ensures is { result.now ≡ meaning status.now }
+    ensures line { IsLine result.now }
 {
     match status {
         Status::Done | Status::BadWords => "",
@@ -142,7 +145,8 @@ fn write_explained<L: Sink>(log: &mut L, status: &Status, text: &str)
 /// feed makes two lines. A fault of the stream changes nothing else. Line and texts are those of
 /// docs/FORMATS.md ("Explanations").
 pub fn write_explanation<L: Sink>(log: &mut L, status: &Status)
-    ensures { (text : List ℕ) × IsLine text
+    ensures is { Gets L.written L.faults log.old log.new (explained status.now (meaning status.now)) }
+    ensures line { (text : List ℕ) × IsLine text
         × Gets L.written L.faults log.old log.new (explained status.now text) }
 {
     write_explained(log, status, explanation(status));
