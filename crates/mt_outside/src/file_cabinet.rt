@@ -1,26 +1,33 @@
-//! A cabinet over the files of a system. What a file holds is not told.
+//! A cabinet over the files of a system and its standard input. What a file holds is not told.
 ghost use Rattle.std.specs.Prelude.{◌≡◌, ◌<◌, ◌≤◌, ◌^◌, vec_len, length, IfOk, IfSome, MatchResult, Ok, Err, None};
 ghost use Rattle.mt_outside.specs.Counts.{FetchLeaves, next_count};
 ghost use Rattle.mt_outside.specs.Files.{content};
 
-use crate::reading::read_opened;
-use crate::{Cabinet, FetchError};
+use crate::reading::{read_opened, read_within};
+use crate::{Cabinet, FetchError, FileList, Held, SteadyCabinet};
 use mt_scaled::{Bytes, Name};
-use std::alloc::Global;
+use std::alloc::{AllocError, Global};
 use std::fs;
+use std::io::Input;
 use std::marker::Model;
 use std::rt::Files;
 
-/// The files of a system, by their paths. Contracts see its count of faults and the name of the
-/// last one.
+/// The name that stands for standard input. A file of this name is `./-`.
+pub const STANDARD_INPUT: &str = "-";
+
+/// The files of a system, by their paths, and its standard input, by the name `-`. Standard input
+/// is read once; a second fetch of it fails. What cannot be read again, which is standard input and
+/// all but regular files, is kept. Contracts see its count of faults and the name of the last one.
 #[derive(Drop)]
-pub struct FileCabinet<'a, R: Files> {
+pub struct FileCabinet<'a, R: Files + Input> {
     rt: &'a R,
     faults: u64,
     lost: Option<Name>,
+    has_read_input: bool,
+    kept: Vec<Held>,
 }
 
-impl<'a, R: Files> Model for FileCabinet<'a, R> {
+impl<'a, R: Files + Input> Model for FileCabinet<'a, R> {
     ghost use Rattle.mt_outside.specs.Memory.{FaultState};
 
     ghost Value = { FaultState };
@@ -28,16 +35,52 @@ impl<'a, R: Files> Model for FileCabinet<'a, R> {
     ghost view = { λ c. record { faults = c.faults; lost = c.lost } };
 }
 
-impl<'a, R: Files> FileCabinet<'a, R> {
+impl<'a, R: Files + Input> FileCabinet<'a, R> {
     /// A cabinet of the files that `rt` can open. Takes no memory.
-    pub fn new(rt: &'a R) -> Self
+    pub fn new(rt: &'a R, alloc: Global) -> Self
         ensures { result ≡ record { faults = 0; lost = None } }
     {
         FileCabinet {
             rt,
             faults: 0,
             lost: None,
+            has_read_input: false,
+            kept: Vec::new(alloc),
         }
+    }
+
+    /// What was fetched and cannot be read again, by the names that it was fetched by. Takes no
+    /// memory.
+    pub fn into_kept(self) -> SteadyCabinet {
+        SteadyCabinet::new(FileList::from_vec(self.kept))
+    }
+
+    // All the bytes of a file or of standard input, if they are no more than `limit`.
+    fn read(&mut self, alloc: Global, name: &str, limit: u64) -> Result<Vec<u8>, FetchError>
+        requires { limit < 2 ^ 40 }
+        ensures within { IfOk result (λ bytes. vec_len bytes ≤ limit) }
+        ensures same { self.new ≡ self.old }
+    {
+        if name != STANDARD_INPUT {
+            return read_opened(fs::open(self.rt, name), alloc, limit);
+        }
+        if self.has_read_input {
+            return Err(FetchError::Failed);
+        }
+        self.has_read_input = true;
+        read_within(&mut self.rt.reader(), alloc, limit)
+    }
+
+    // Keeps the bytes of what cannot be read again.
+    fn keep(&mut self, alloc: Global, name: &str, bytes: &[u8]) -> Result<(), AllocError>
+        ensures { self.new ≡ self.old }
+    {
+        if !is_rereadable(self.rt, name) {
+            let name = Name::from_slice(alloc, name.as_bytes())?;
+            let bytes = Bytes::from_vec(Vec::from_slice(alloc, bytes)?);
+            self.kept.push(Held { name, bytes })?;
+        }
+        Ok(())
     }
 
     // The answer to a read. One that failed is counted, and its name is kept.
@@ -57,7 +100,7 @@ impl<'a, R: Files> FileCabinet<'a, R> {
     }
 }
 
-impl<R: Files> Cabinet for FileCabinet<'_, R> {
+impl<R: Files + Input> Cabinet for FileCabinet<'_, R> {
     ghost holds = { λ c. None };
 
     ghost faults = { λ c. c.faults };
@@ -74,7 +117,19 @@ impl<R: Files> Cabinet for FileCabinet<'_, R> {
             → self.new.faults ≡ next_count self.old.faults }
     {
         let lost = Name::from_slice(alloc, name.as_bytes())?;
-        let read = read_opened(fs::open(self.rt, name), alloc, limit);
-        self.answer(lost, read)
+        let read = self.read(alloc, name, limit);
+        let bytes = self.answer(lost, read)?;
+        self.keep(alloc, name, bytes.as_slice())?;
+        Ok(bytes)
     }
+}
+
+/// Whether a name is that of a regular file, also by links, which can be read again. Standard input, a pipe, a terminal
+/// or another device may have nothing more to read, and the open of a named pipe waits for who writes to it.
+pub fn is_rereadable<R: Files>(rt: &R, name: &str) -> bool {
+    name != STANDARD_INPUT
+        && match fs::metadata(rt, name) {
+            Ok(metadata) => metadata.is_file(),
+            Err(_) => false,
+        }
 }

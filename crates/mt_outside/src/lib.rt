@@ -20,7 +20,7 @@ mod stream_sink;
 mod tests;
 
 pub use cabinet::{Cabinet, FetchError};
-pub use file_cabinet::FileCabinet;
+pub use file_cabinet::{FileCabinet, STANDARD_INPUT, is_rereadable};
 pub use files::{CallList, FileList, Held};
 pub use memory_cabinet::MemoryCabinet;
 pub use memory_sink::MemorySink;

@@ -1,5 +1,5 @@
 //! A cabinet in memory that never fails.
-ghost use Rattle.std.specs.Prelude.{◌≡◌, ◌<◌, ◌≤◌, ◌^◌, [], IfOk, length, Some, None, Ok, Err};
+ghost use Rattle.std.specs.Prelude.{◌≡◌, ◌<◌, ◌≤◌, ◌^◌, ◌↔◌, [], IfOk, IsSome, length, true, Some, None, Ok, Err};
 ghost use Rattle.mt_outside.specs.Counts.{FetchLeaves};
 ghost use Rattle.mt_outside.specs.Files.{content, find_file};
 
@@ -31,6 +31,13 @@ impl SteadyCabinet {
         ensures { result ≡ files }
     {
         SteadyCabinet { files }
+    }
+
+    /// Whether it holds a file of this name.
+    pub fn holds(&self, name: &str) -> bool
+        ensures { (result ≡ true) ↔ IsSome (find_file self.now name.now) }
+    {
+        find_first(self.files.as_slice(), name.as_bytes()).is_some()
     }
 }
 
