@@ -20,3 +20,5 @@ pub mod Balanced
 pub mod DocumentRefusals
 -- pages are never refused for want of memory
 pub mod PageRefusals
+-- a source that is refused at a formula is refused for a cause with a number
+mod Causes

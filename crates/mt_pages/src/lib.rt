@@ -4,6 +4,7 @@
 mod display_rows;
 mod document;
 mod formula_lines;
+mod laws;
 mod listings;
 mod page_lines;
 mod pages;
@@ -11,6 +12,7 @@ mod source;
 mod summaries;
 mod text_line;
 
+pub use laws::refused_formula_has_a_cause;
 pub use listings::listing;
 pub use source::{source_file, source_listing, source_pages, source_summary};
 pub use summaries::summary;
