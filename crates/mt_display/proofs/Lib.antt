@@ -6,6 +6,8 @@ pub mod OpenRows
 pub mod RowMaps
 -- the pieces of a row in a line
 pub mod RowPieces
+-- a row that is in range is packed, or memory runs out
+pub mod PackedRows
 -- the widths of both sides of equations
 pub mod EquationSides
 -- lines put on a page, one after another

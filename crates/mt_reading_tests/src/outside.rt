@@ -1,6 +1,7 @@
 use mt_outside::{
     Cabinet, CallList, FetchError, FileCabinet, FileList, Held, MemoryCabinet, MemorySink,
-    PutError, Sink, SteadyCabinet, SteadySink, StreamSink, write_all,
+    PutError, STANDARD_INPUT, Sink, SteadyCabinet, SteadySink, StreamSink, is_rereadable,
+    write_all,
 };
 use mt_scaled::{Bytes, Name};
 use std::alloc::{AllocError, Global};
@@ -109,16 +110,19 @@ fn real_files_are_read_whole_or_refused(rt: HostRuntime) -> Result<(), Fail> {
     let alloc = rt.alloc();
     let path = "mt_outside_file";
     fs::write(&rt, path, "ten bytes!")?;
-    let mut cabinet = FileCabinet::new(&rt);
+    let mut cabinet = FileCabinet::new(&rt, rt.alloc());
     assert_eq!(rt;
         cabinet.fetch(alloc, path, 10)?.as_slice(),
         b"ten bytes!".as_slice()
     );
     assert!(rt; matches!(&cabinet.fetch(alloc, path, 9), Err(FetchError::TooLong)));
+    assert!(rt; is_rereadable(&rt, path));
+    assert!(rt; !is_rereadable(&rt, STANDARD_INPUT));
     fs::remove_file(&rt, path)?;
     assert!(rt; matches!(&cabinet.fetch(alloc, path, 10), Err(FetchError::Failed)));
     // A folder can be opened, and cannot be read.
     assert!(rt; matches!(&cabinet.fetch(alloc, ".", 10), Err(FetchError::Failed)));
+    assert!(rt; !cabinet.into_kept().holds(path));
     Ok(())
 }
 

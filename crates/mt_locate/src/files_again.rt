@@ -1,26 +1,27 @@
-//! The files that can be read twice.
+//! The files of a run, once more.
 ghost use Rattle.std.specs.Prelude.{◌≡◌, ◌<◌, ◌≤◌, ◌^◌, length, IfOk, IfSome, None};
 ghost use Rattle.mt_outside.specs.Counts.{FetchLeaves, next_count};
 ghost use Rattle.mt_outside.specs.Files.{content};
 
-use mt_outside::{Cabinet, FetchError, FileCabinet};
+use mt_outside::{Cabinet, FetchError, FileCabinet, SteadyCabinet, is_rereadable};
 use mt_scaled::{Bytes, Name};
 use std::alloc::Global;
-use std::fs;
+use std::io::Input;
 use std::marker::Model;
 use std::rt::Files;
 
-/// The regular files of a system, by their paths. A pipe, a terminal or another device counts as a file that could not
-/// be read, and is not opened: it may have nothing more to read, and the open of a named pipe waits for who writes to
-/// it. Contracts see its count of faults and the name of the last one.
+/// The files that a run fetched, once more: those that its cabinet kept, since they cannot be read again, and the regular
+/// files of a system, by their paths. Any other name counts as a file that could not be read, and is not opened.
+/// Contracts see its count of faults and the name of the last one.
 #[derive(Drop)]
-pub struct RegularFiles<'a, R: Files> {
+pub struct FilesAgain<'a, R: Files + Input> {
     rt: &'a R,
+    kept: SteadyCabinet,
     faults: u64,
     lost: Option<Name>,
 }
 
-impl<'a, R: Files> Model for RegularFiles<'a, R> {
+impl<'a, R: Files + Input> Model for FilesAgain<'a, R> {
     ghost use Rattle.mt_outside.specs.Memory.{FaultState};
 
     ghost Value = { FaultState };
@@ -28,13 +29,14 @@ impl<'a, R: Files> Model for RegularFiles<'a, R> {
     ghost view = { λ c. record { faults = c.faults; lost = c.lost } };
 }
 
-impl<'a, R: Files> RegularFiles<'a, R> {
-    /// A cabinet of the regular files that `rt` can open. Takes no memory.
-    pub fn new(rt: &'a R) -> Self
+impl<'a, R: Files + Input> FilesAgain<'a, R> {
+    /// A cabinet of what was kept and of the regular files that `rt` can open. Takes no memory.
+    pub fn new(rt: &'a R, kept: SteadyCabinet) -> Self
         ensures { result ≡ record { faults = 0; lost = None } }
     {
-        RegularFiles {
+        FilesAgain {
             rt,
+            kept,
             faults: 0,
             lost: None,
         }
@@ -54,7 +56,7 @@ impl<'a, R: Files> RegularFiles<'a, R> {
     }
 }
 
-impl<R: Files> Cabinet for RegularFiles<'_, R> {
+impl<R: Files + Input> Cabinet for FilesAgain<'_, R> {
     ghost holds = { λ c. None };
 
     ghost faults = { λ c. c.faults };
@@ -63,19 +65,13 @@ impl<R: Files> Cabinet for RegularFiles<'_, R> {
 
     fn fetch(&mut self, alloc: Global, name: &str, limit: u64) -> Result<Bytes, FetchError> {
         let lost = Name::from_slice(alloc, name.as_bytes())?;
-        let read = if is_regular(self.rt, name) {
-            FileCabinet::new(self.rt).fetch(alloc, name, limit)
+        let read = if self.kept.holds(name) {
+            self.kept.fetch(alloc, name, limit)
+        } else if is_rereadable(self.rt, name) {
+            FileCabinet::new(self.rt, alloc).fetch(alloc, name, limit)
         } else {
             Err(FetchError::Failed)
         };
         self.answer(lost, read)
-    }
-}
-
-// Whether a path is that of a regular file, also by links.
-fn is_regular<R: Files>(rt: &R, path: &str) -> bool {
-    match fs::metadata(rt, path) {
-        Ok(metadata) => metadata.is_file(),
-        Err(_) => false,
     }
 }
