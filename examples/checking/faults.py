@@ -123,9 +123,16 @@ class Check:
         places.update(chunks.faults_of_setting([key for key in same if key not in places]))
         for key, place in places.items():
             for unit in same[key]:
-                line, column = self.document.line_column(unit.start)
-                moved = place.column + (column - 1 if place.line == 1 else 0)
-                unit.fault = self.unless_rejected(Place(line + place.line - 1, moved, place.text))
+                unit.fault = self.unless_rejected(self.in_document(unit, place))
+
+    def in_document(self, unit, place):
+        """The place within a formula as one of the document."""
+        first, before = self.document.line_column(unit.start)
+
+        def move(line, column):
+            return first + line - 1, column + (before - 1 if line == 1 else 0)
+
+        return Place(*move(place.line, place.column), place.text).with_opening(move)
 
     def with_letters_alike(self, key):
         """A formula is read in the same way with other letters and digits, where it has no number and no dimension."""
@@ -233,4 +240,8 @@ class Chunks:
             return Place(1, 1, answer.text)
         upto = self.source(chunk[: number + 1])
         first = upto.count("\n") - chunk[number][0].count("\n")
-        return answer.place._replace(line=max(1, answer.place.line - first + 1))
+
+        def move(line, column):
+            return max(1, line - first + 1), column
+
+        return Place(*move(*answer.place[:2]), answer.place.text).with_opening(move)

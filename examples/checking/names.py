@@ -31,6 +31,20 @@ def families_of(text):
     return sorted(number for number in found if number > 7)
 
 
+def advice(texts, fonts):
+    """What mends several of these texts of faults at once: the definitions and the font list beside the script."""
+    named = re.findall(r"(\\\S+) is (?:not defined|a name of plain TeX)", "\n".join(texts))
+    known = set(named) & set(definitions_of(HERE / "more-names.tex"))
+    if known:
+        what = known.pop() if len(known) == 1 else "%d of these names" % len(known)
+        yield "-p %s defines %s" % (HERE / "more-names.tex", what)
+    wanted = {int(number) for number in re.findall(r"has no font at this size: family (\d+) ", "\n".join(texts))}
+    other = HERE / "cm-ams.fonts"
+    found = sorted(wanted & listed_families(other) - listed_families(fonts)) if other.is_file() else []
+    if found:
+        yield "%s has %s" % (other, " and ".join("family %d" % number for number in found))
+
+
 def counts(check, program):
     """Lines of the names that are not known, most uses first."""
     uses = collections.Counter()

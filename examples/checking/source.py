@@ -13,7 +13,20 @@ TOKEN = re.compile(
 BAD = re.compile(r"\^\^|\\|~|[\x00-\x08\x0b-\x1f\x7f]|[\x80-\xff]+")
 NUMBER = r"(?:`(?:\\[A-Za-z]|\\.|[^\s\\])|\"[0-9A-F]+|'[0-7]+|[0-9]+)"
 ASSIGNMENT = re.compile(r"\\(?:math|del)code(?![A-Za-z])[\s+-]*" + NUMBER + r"\s*=?[\s+-]*" + NUMBER)
-Place = collections.namedtuple("Place", "line column text")
+# Where the text of a fault says that a group begins.
+OPENING = re.compile(r"(?<=the )(\S+) at line (\d+), column (\d+)(?= is still open)")
+
+
+class Place(collections.namedtuple("Place", "line column text")):
+    """A line, a column, and what is said there."""
+
+    def with_opening(self, move):
+        """The same with the line and the column in its text moved: `move` gives the new ones."""
+        return self._replace(text=OPENING.sub(lambda at: self.opening(at[1], move(int(at[2]), int(at[3]))), self.text))
+
+    @staticmethod
+    def opening(name, place):
+        return "%s at line %d, column %d" % (name, *place)
 
 
 class Unit:
@@ -66,7 +79,9 @@ class Document:
     def shown(self, place):
         """A place as a line of the output."""
         at = bisect.bisect_right(self.first_lines, place.line) - 1
-        return "%s:%d:%d: %s" % (self.files[at], place.line - self.first_lines[at] + 1, place.column, place.text)
+        before = self.first_lines[at] - 1
+        text = place.with_opening(lambda line, column: (line - before, column)).text
+        return "%s:%d:%d: %s" % (self.files[at], place.line - before, place.column, text)
 
     def without(self, units):
         """The source with blanks in place of these units."""
