@@ -23,7 +23,7 @@ SMALL_GREEK = (
 ).split()
 PAIRS = {
     "<=": "\\le", ">=": "\\ge", "->": "\\to", "=>": "\\Rightarrow", "<<": "\\ll", ">>": "\\gg",
-    "...": "\\ldots or \\cdots",
+    "!=": "\\ne", "...": "\\ldots or \\cdots",
 }
 # Commands with a number or a dimension, and what these look like.
 NUMBERED = (
@@ -106,7 +106,7 @@ class Warnings:
     def check_scripts(self):
         for index, at in enumerate(self.visible):
             sign, first = self.text(at), self.seen(index + 1)
-            if sign in ("^", "_") and first.isdigit() and self.seen(index + 2).isdigit():
+            if sign in ("^", "_") and (first.isdigit() or first == "-") and self.seen(index + 2).isdigit():
                 number = first
                 while self.seen(index + 1 + len(number)).isdigit():
                     number += self.seen(index + 1 + len(number))
@@ -117,6 +117,9 @@ class Warnings:
         at = 0
         while at < len(self.tokens):
             found = [sign for sign in PAIRS if [self.text(at + n) for n in range(len(sign))] == list(sign)]
+            if found == ["!="] and not self.text(at - 1).isspace():
+                # A factorial.
+                found = []
             if found:
                 self.warn(at, "%s is set as single characters: write %s" % (found[0], PAIRS[found[0]]))
                 at += len(found[0]) - 1
