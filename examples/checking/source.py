@@ -83,6 +83,9 @@ class Document:
         text = place.with_opening(lambda line, column: (line - before, column)).text
         return "%s:%d:%d: %s" % (self.files[at], place.line - before, place.column, text)
 
+    def line_in_file(self, line):
+        return line - self.first_lines[bisect.bisect_right(self.first_lines, line) - 1] + 1
+
     def without(self, units):
         """The source with blanks in place of these units."""
         parts, at = [], 0

@@ -45,7 +45,19 @@ def warnings_of(document, units):
     for unit in units:
         if unit.kind == "formula" and not unit.fault:
             found += warnings.of(unit)
-    return found
+    return found + list(without_dollar(document, units))
+
+
+def without_dollar(document, units):
+    """A formula without its $ ends at the $ of the next one, on a later line, and what follows there is outside."""
+    last = 0
+    for unit, following in zip(units, units[1:]):
+        if unit.kind == "formula" and following.kind == "stray":
+            place, end = document.line_column(unit.start), document.line_column(unit.end - 1)[0]
+            if last < place[0] < end == document.line_column(following.start)[0]:
+                text = "warning: this formula ends in line %d: is its closing %s missing?"
+                yield Place(*place, text % (document.line_in_file(end), "$$" if unit.text.startswith("$$") else "$"))
+            last = end
 
 
 class Warnings:
