@@ -15,10 +15,10 @@ type Replacement = (&'static [u8], &'static [u8], &'static [u8]);
 #[rattlefmt::skip]
 static IN_FORMULAS: [Replacement; 29] = [
     (b"\\", b"\\cr", b""),
-    (b"frac", b"{a\\over b}", b"\\def\\frac#1#2{{#1\\over#2}}"),
-    (b"dfrac", b"{\\displaystyle{a\\over b}}", b"\\def\\dfrac#1#2{{\\displaystyle{#1\\over#2}}}"),
-    (b"tfrac", b"{\\textstyle{a\\over b}}", b"\\def\\tfrac#1#2{{\\textstyle{#1\\over#2}}}"),
-    (b"binom", b"{n\\choose k}", b"\\def\\binom#1#2{{#1\\choose#2}}"),
+    (b"frac", b"{a\\over b}", b"\\def\\frac#1#2{{{#1}\\over{#2}}}"),
+    (b"dfrac", b"{\\displaystyle{a\\over b}}", b"\\def\\dfrac#1#2{{\\displaystyle{{#1}\\over{#2}}}}"),
+    (b"tfrac", b"{\\textstyle{a\\over b}}", b"\\def\\tfrac#1#2{{\\textstyle{{#1}\\over{#2}}}}"),
+    (b"binom", b"{n\\choose k}", b"\\def\\binom#1#2{{{#1}\\choose{#2}}}"),
     (b"text", b"{\\rm if\\;}, with \\; for each space", b"\\def\\text#1{{\\rm#1}}"),
     (b"mbox", b"{\\rm if\\;}, with \\; for each space", b"\\def\\mbox#1{{\\rm#1}}"),
     (b"mathrm", b"{\\rm d}", b"\\def\\mathrm#1{{\\rm#1}}"),
@@ -58,9 +58,9 @@ static OUTSIDE_FORMULAS: [(&[u8], &[u8]); 12] = [
     (b"]", b": write $$"),
     (b"(", b": write $"),
     (b")", b": write $"),
-    (b"newcommand", b": write \\def\\a#1{..}"),
-    (b"renewcommand", b": write \\def\\a#1{..}"),
-    (b"providecommand", b": write \\def\\a#1{..}"),
+    (b"newcommand", b": write \\def\\a{..}, or \\def\\a#1{..} with an argument"),
+    (b"renewcommand", b": write \\def\\a{..}, or \\def\\a#1{..} with an argument"),
+    (b"providecommand", b": write \\def\\a{..}, or \\def\\a#1{..} with an argument"),
     (b"DeclareMathOperator", b": write \\def\\a{\\mathop{\\rm a}\\nolimits}"),
     (b"let", b": write \\def\\a{\\b}"),
 ];
