@@ -16,11 +16,11 @@ pub mod Lining
 pub mod Faults
 -- a body under a radical sign
 pub mod UnderSign
--- a fraction: the columns of numerator and denominator
-pub mod Fractioned
 -- a fraction step by step
 pub mod FractionSteps
 -- delimiters of fixed sizes
 pub mod Bigs
 -- a radical with its degree
 pub mod Rooting
+-- fractions on marks
+mod MarkedFractions
