@@ -1,43 +1,42 @@
-//! The box of an extensible character (tex.web §713).
-ghost use Rattle.std.specs.Prelude.{◌≡◌, ◌^◌, ◌≤◌, ◌+ℤ◌, ◌++◌, ◌∷◌, [], IsTrue, IfOk, Err, ℕ, All, length, replicate, ◌==◌, if◌then◌else◌};
+//! Extensible characters on marks (tex.web §713).
+ghost use Rattle.std.specs.Prelude.{◌≡◌, ◌^◌, ◌≤◌, ◌+ℤ◌, ◌-ℤ◌, ◌*ℤ◌, ◌*◌, ◌∷◌, neg_ℤ, pos, IsTrue, IfOk, OnOk, Err, ℕ, All, length, replicate, ◌==◌, if◌then◌else◌};
 ghost use Rattle.std.specs.List.{slice_get};
-ghost use Rattle.mt_scaled.specs.Number.{Within, max_dimen};
+ghost use Rattle.mt_scaled.specs.Number.{Within};
 ghost use Rattle.mt_tfm.specs.Font.{exists, height_of};
 ghost use Rattle.mt_tfm.specs.Checks.{recipe_fits};
-ghost use Rattle.mt_box.specs.Boxes.{glyph_layout};
-ghost use Rattle.mt_box.specs.Columns.{entry_values, column_width, column_level, stack, AllModestEntries};
 ghost use Rattle.mt_box.specs.Extents.{ExtentsInRange};
 ghost use Rattle.mt_box.specs.Limits.{max_repeats};
-ghost use Rattle.mt_rules.specs.Symbols.{extents_without_italic};
-ghost use Rattle.mt_rules.specs.Setting.{make_box, TooTall};
+ghost use Rattle.mt_box.specs.marks.Layers.{put_on, top};
+ghost use Rattle.mt_rules.specs.Setting.{make_box, pass_unless, TooTall};
 ghost use Rattle.mt_rules.specs.declared.part_error.PartError.TheVariants.{TooTall as PartTooTall};
-ghost use Rattle.mt_rules.specs.Calls.{PartAnswers};
-ghost use Rattle.mt_rules.specs.Extensibles.{extensible_layout, recipe_piece, recipe_pieces, first_height as first_height_of};
-ghost use Rattle.mt_delim.specs.Glyphs.{ColumnAnswers, layout_with_width};
-ghost use Rattle.mt_delim.specs.inner.Runs.{run_glyphs, glyphs_of, IsFew, AreFew, GlyphsAnswers, ExtentsAnswers};
+ghost use Rattle.mt_rules.specs.OnMarks.{SetsOn};
+ghost use Rattle.mt_rules.specs.Extensibles.{extensible_layout, glyphs_layout, glyphs_places, glyphs_total, recipe_piece, recipe_pieces, test_glyphs, first_height as first_height_of};
+ghost use Rattle.mt_delim.specs.inner.Runs.{run_glyphs, glyphs_of, IsFew, AreFew};
 
 use crate::repeats::repeats;
-use mt_box::{Column, Entry, Extents, MAX_REPEATS, Packed, first_out, glyph_box, vpack};
-use mt_rules::{PartError, extents_without_italic, width_with_italic, with_width};
-use mt_scaled::{Length, in_range};
+use crate::search::height_plus_depth;
+use mt_box::{Extents, Ink, MAX_REPEATS, Mark, Marks, first_out};
+use mt_rules::{PartError, extents_without_italic, tested_part, width_with_italic};
+use mt_scaled::Length;
 use mt_tfm::{Font, Recipe};
-use std::alloc::{AllocError, Global};
+use std::alloc::AllocError;
 
-/// The box of an extensible character for a wanted size.
+/// The layout of an extensible character for a wanted size on top, and what it reaches.
 ///
 /// Refused with `TooTall`, then with `Overflow` of the first extent out of range of its glyphs,
-/// from the top, and of the box; and with `OutOfMemory`.
-pub fn extensible_box(
-    alloc: Global,
+/// from the top, and of the whole; and with `OutOfMemory`.
+pub fn extensible_on_marks(
+    marks: &mut Marks,
     font: &Font,
     number: u16,
     recipe: Recipe,
     wanted: Length,
-) -> Result<Packed, PartError>
+) -> Result<Extents, PartError>
     requires pieces { IsTrue (recipe_fits font.now.first font.now.chars recipe) }
     requires wanted { Within (2 ^ 40) wanted.sp }
-    ensures is { PartAnswers result (extensible_layout number font.now recipe wanted.sp) }
-    ensures level { IfOk result (λ b. b.level ≤ 2) }
+    ensures is { SetsOn result (top marks.new) (extensible_layout number font.now recipe wanted.sp) }
+    ensures rest { OnOk result (marks.new ≡ top marks.new ∷ marks.old) }
+    ensures in_range { IfOk result ExtentsInRange }
     ensures too_tall { (n : ℕ) → extensible_layout number font.now recipe wanted.sp ≡ Err (TooTall n)
         → result ≡ Err (PartTooTall n) }
 {
@@ -46,9 +45,16 @@ pub fn extensible_box(
         return Err(PartError::TooTall(n));
     }
     let runs = runs_of(recipe, n);
-    let column = column_of(alloc, font, number, &runs)?;
-    let top = first_height(font, &runs);
-    pack_to_width(alloc, column, top, width_with_italic(font, recipe.repeat))
+    if let Some(value) = first_glyph_out(font, &runs) {
+        return Err(PartError::Overflow(value));
+    }
+    runs_on_marks(
+        marks,
+        font,
+        number,
+        &runs,
+        width_with_italic(font, recipe.repeat),
+    )
 }
 
 // Glyphs of one character, one below another: a piece, none where its code is 0, or repeats.
@@ -97,114 +103,54 @@ fn below_middle(recipe: Recipe, n: u64) -> u64
     if recipe.middle == 0 { 0 } else { n }
 }
 
-// The glyphs of these runs, one below the other.
-fn column_of(alloc: Global, font: &Font, number: u16, runs: &[Run]) -> Result<Column, PartError>
+// The first extent of a glyph that is out of range, from the top. Of each run one glyph is tested.
+fn first_glyph_out(font: &Font, runs: &[Run]) -> Option<i64>
+    requires { All (λ c. IsTrue (exists font.now c)) (glyphs_of runs.now) }
+    ensures { test_glyphs font.now (glyphs_of runs.now) ≡ pass_unless result }
+{
+    for run in runs {
+        let out = run_out(font, *run);
+        if out.is_some() {
+            return out;
+        }
+    }
+    None
+}
+
+fn run_out(font: &Font, run: Run) -> Option<i64>
+    requires { All (λ c. IsTrue (exists font.now c)) (run_glyphs run) }
+    ensures { test_glyphs font.now (run_glyphs run) ≡ pass_unless result }
+{
+    match run.first() {
+        Some(code) => first_out(extents_without_italic(font, code)),
+        None => None,
+    }
+}
+
+// The layout of these runs on top: the first glyph stands on the baseline.
+fn runs_on_marks(
+    marks: &mut Marks,
+    font: &Font,
+    number: u16,
+    runs: &[Run],
+    width: Length,
+) -> Result<Extents, PartError>
     requires there { All (λ c. IsTrue (exists font.now c)) (glyphs_of runs.now) }
     requires few { AreFew runs.now }
-    ensures is { ColumnAnswers number font.now (glyphs_of runs.now) result }
-    ensures count { IfOk result (λ column. length column ≤ length runs.now) }
-    ensures modest { IfOk result AllModestEntries }
-    ensures level { IfOk result (λ column. column_level column ≤ 2) }
-    ensures width { IfOk result (λ column. Within max_dimen (column_width (entry_values column))) }
+    requires count { length runs.now ≤ 5 }
+    ensures is { SetsOn result (top marks.new)
+        (make_box (glyphs_layout number font.now width.sp (glyphs_of runs.now))) }
+    ensures rest { OnOk result (marks.new ≡ top marks.new ∷ marks.old) }
+    ensures in_range { IfOk result ExtentsInRange }
 {
-    let mut column = Column::from_vec(Vec::with_capacity(alloc, runs.len())?);
-    for run in runs {
-        column = with_run(alloc, column, font, number, *run)?;
-    }
-    Ok(column)
-}
-
-// The column with a run below it.
-fn with_run(
-    alloc: Global,
-    column: Column,
-    font: &Font,
-    number: u16,
-    run: Run,
-) -> Result<Column, PartError>
-    requires there { All (λ c. IsTrue (exists font.now c)) (run_glyphs run) }
-    requires few { IsFew run }
-    ensures { GlyphsAnswers number font.now (run_glyphs run) column result }
-{
-    match run {
-        Run::Piece(code) => with_piece(alloc, column, font, number, code),
-        Run::Repeats { code, count } => with_repeats(column, font, number, code, count),
-    }
-}
-
-// The column with a piece below it, a box of its own.
-fn with_piece(
-    alloc: Global,
-    column: Column,
-    font: &Font,
-    number: u16,
-    code: u8,
-) -> Result<Column, PartError>
-    requires { All (λ c. IsTrue (exists font.now c)) (recipe_piece code) }
-    ensures { GlyphsAnswers number font.now (recipe_piece code) column result }
-{
-    if code == 0 {
-        return Ok(column);
-    }
-    let body = piece_box(alloc, font, number, code)?;
-    Ok(with_entry(column, Entry::Boxed { shift: 0, body })?)
-}
-
-// The box of a glyph, without its italic correction.
-fn piece_box(alloc: Global, font: &Font, number: u16, code: u8) -> Result<Packed, PartError>
-    requires { IsTrue (exists font.now code) }
-    ensures is { PartAnswers result (make_box (glyph_layout number code
-        (extents_without_italic font.now code))) }
-    ensures level { IfOk result (λ b. b.level ≡ 1) }
-    ensures in_range { IfOk result (λ b. ExtentsInRange b.extents) }
-{
-    let extents = extents_without_italic(font, code);
-    Ok(glyph_box(alloc, number, code, extents)?)
-}
-
-// The column with the repeats below it, all in one stack.
-fn with_repeats(
-    column: Column,
-    font: &Font,
-    number: u16,
-    code: u8,
-    count: u64,
-) -> Result<Column, PartError>
-    requires there { All (λ c. IsTrue (exists font.now c)) (replicate count code) }
-    requires few { count ≤ max_repeats }
-    ensures { GlyphsAnswers number font.now (replicate count code) column result }
-{
-    if count == 0 {
-        return Ok(column);
-    }
-    let extents = tested_extents(font, code)?;
-    let stack = Entry::Stack {
-        font: number,
-        code,
-        extents,
-        count,
-    };
-    Ok(with_entry(column, stack)?)
-}
-
-// How far a glyph reaches, if it is in range.
-fn tested_extents(font: &Font, code: u8) -> Result<Extents, PartError>
-    requires { IsTrue (exists font.now code) }
-    ensures { ExtentsAnswers font.now code result }
-{
-    let extents = extents_without_italic(font, code);
-    match first_out(extents) {
-        Some(value) => Err(PartError::Overflow(value)),
-        None => Ok(extents),
-    }
-}
-
-fn with_entry(column: Column, entry: Entry) -> Result<Column, AllocError>
-    ensures { IfOk result (λ all. all ≡ column ++ entry ∷ []) }
-{
-    let mut entries = column.into_vec();
-    entries.push(entry)?;
-    Ok(Column::from_vec(entries))
+    let height = first_height(font, runs);
+    marks.begin()?;
+    let depth = put_runs(marks, font, number, runs, height)?;
+    tested_part(Extents {
+        width: width.sp,
+        height: height.sp,
+        depth: depth.sp,
+    })
 }
 
 // The height of the first glyph.
@@ -231,25 +177,128 @@ fn height_of_glyph(font: &Font, code: u8) -> Length
     }
 }
 
-// The column packed, in a box of this width.
-fn pack_to_width(
-    alloc: Global,
-    column: Column,
-    top: Length,
-    width: Length,
-) -> Result<Packed, PartError>
-    requires few { length column ≤ 2 ^ 21 }
-    requires modest { AllModestEntries column }
-    requires top { Within (2 ^ 31) top.sp }
-    requires width { Within max_dimen (column_width (entry_values column)) }
-    requires small { Within (2 ^ 32) width.sp }
-    ensures is { PartAnswers result (make_box (layout_with_width width.sp
-        (stack (entry_values column) top.sp))) }
-    ensures level { IfOk result (λ b. b.level ≡ column_level column) }
+// The glyphs of runs at the end of the top layout, from so far above the baseline downward; and how far they end below
+// it.
+fn put_runs(
+    marks: &mut Marks,
+    font: &Font,
+    number: u16,
+    runs: &[Run],
+    height: Length,
+) -> Result<Length, AllocError>
+    requires there { All (λ c. IsTrue (exists font.now c)) (glyphs_of runs.now) }
+    requires few { AreFew runs.now }
+    requires count { length runs.now ≤ 5 }
+    requires height { Within (2 ^ 31) height.sp }
+    ensures marks { OnOk result (marks.new
+        ≡ put_on (glyphs_places number font.now height.sp (glyphs_of runs.now)) marks.old) }
+    ensures depth { IfOk result (λ d. d.sp ≡ glyphs_total font.now (glyphs_of runs.now) -ℤ height.sp) }
 {
-    if !in_range(width.sp) {
-        return Err(PartError::Overflow(width.sp));
+    let mut depth = height.negated();
+    for run in runs {
+        depth = put_run(marks, font, number, *run, depth)?;
     }
-    let body = vpack(alloc, column, top.sp)?;
-    Ok(with_width(body, width.sp))
+    Ok(depth)
+}
+
+// The same of one run, from so far below the baseline.
+fn put_run(
+    marks: &mut Marks,
+    font: &Font,
+    number: u16,
+    run: Run,
+    depth: Length,
+) -> Result<Length, AllocError>
+    requires there { All (λ c. IsTrue (exists font.now c)) (run_glyphs run) }
+    requires few { IsFew run }
+    requires depth { Within (2 ^ 50) depth.sp }
+    ensures marks { OnOk result (marks.new
+        ≡ put_on (glyphs_places number font.now (neg_ℤ depth.sp) (run_glyphs run)) marks.old) }
+    ensures depth { IfOk result (λ d. d.sp ≡ depth.sp +ℤ glyphs_total font.now (run_glyphs run)) }
+    ensures near { IfOk result (λ d. Within (max_repeats * 2 ^ 32) (d.sp -ℤ depth.sp)) }
+{
+    match run {
+        Run::Piece(code) => put_piece(marks, font, number, code, depth),
+        Run::Repeats { code, count } => put_repeats(marks, font, number, code, count, depth),
+    }
+}
+
+fn put_piece(
+    marks: &mut Marks,
+    font: &Font,
+    number: u16,
+    code: u8,
+    depth: Length,
+) -> Result<Length, AllocError>
+    requires there { All (λ c. IsTrue (exists font.now c)) (recipe_piece code) }
+    requires depth { Within (2 ^ 50) depth.sp }
+    ensures marks { OnOk result (marks.new
+        ≡ put_on (glyphs_places number font.now (neg_ℤ depth.sp) (recipe_piece code)) marks.old) }
+    ensures depth { IfOk result (λ d. d.sp ≡ depth.sp +ℤ glyphs_total font.now (recipe_piece code)) }
+    ensures near { IfOk result (λ d. Within (max_repeats * 2 ^ 32) (d.sp -ℤ depth.sp)) }
+{
+    if code == 0 {
+        return Ok(depth);
+    }
+    let mark = Mark::Glyph { font: number, code };
+    marks.put(ink_below(font, code, mark, depth))?;
+    Ok(depth.plus(height_plus_depth(font, code)))
+}
+
+// All repeats are one mark.
+fn put_repeats(
+    marks: &mut Marks,
+    font: &Font,
+    number: u16,
+    code: u8,
+    count: u64,
+    depth: Length,
+) -> Result<Length, AllocError>
+    requires there { All (λ c. IsTrue (exists font.now c)) (replicate count code) }
+    requires few { count ≤ max_repeats }
+    requires depth { Within (2 ^ 50) depth.sp }
+    ensures marks { OnOk result (marks.new
+        ≡ put_on (glyphs_places number font.now (neg_ℤ depth.sp) (replicate count code)) marks.old) }
+    ensures depth { IfOk result (λ d. d.sp ≡ depth.sp +ℤ glyphs_total font.now (replicate count code)) }
+    ensures near { IfOk result (λ d. Within (max_repeats * 2 ^ 32) (d.sp -ℤ depth.sp)) }
+{
+    if count == 0 {
+        return Ok(depth);
+    }
+    let step = height_plus_depth(font, code);
+    let mark = Mark::Stack {
+        font: number,
+        code,
+        step: step.sp,
+        count,
+    };
+    marks.put(ink_below(font, code, mark, depth))?;
+    Ok(depth.plus(times(step, count)))
+}
+
+// A mark whose first glyph has its top so far below the baseline.
+#[tactic(auto, using(std::proofs::lemmas::Int::ints))]
+fn ink_below(font: &Font, code: u8, mark: Mark, depth: Length) -> Ink
+    requires there { IsTrue (exists font.now code) }
+    requires depth { Within (2 ^ 50) depth.sp }
+    ensures h { result.h ≡ pos 0 }
+    ensures v { result.v ≡ depth.sp +ℤ height_of font.now code }
+    ensures mark { result.mark ≡ mark }
+{
+    Ink {
+        h: 0,
+        v: depth.plus(height_of_glyph(font, code)).sp,
+        mark,
+    }
+}
+
+fn times(length: Length, count: u64) -> Length
+    requires length { Within (2 ^ 32) length.sp }
+    requires count { count ≤ max_repeats }
+    ensures is { result.sp ≡ length.sp *ℤ pos count }
+    ensures small { Within (max_repeats * 2 ^ 32) result.sp }
+{
+    Length {
+        sp: length.sp * count as i64,
+    }
 }

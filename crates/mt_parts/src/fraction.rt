@@ -45,7 +45,7 @@ pub fn fraction_box(
     let thickness = Length { sp: thickness };
     let (above, below) = (num.extents(), den.extents());
     let extents = fraction_on_marks(
-        alloc, &mut marks, fonts, style, thickness, left, right, above, below,
+        &mut marks, fonts, style, thickness, left, right, above, below,
     )?;
     let level = num.level().max(den.level()) + 3;
     Ok(marks.top_box(alloc, extents, level)?)

@@ -21,13 +21,12 @@ use mt_family::{FontSet, Size};
 use mt_rules::parameters::{delim1, delim2};
 use mt_rules::{Delim, PartError, Style, test_rule, tested_extents, tested_part};
 use mt_scaled::Length;
-use std::alloc::{AllocError, Global};
+use std::alloc::AllocError;
 
 /// The numerator and, on top, the denominator become the fraction: what it reaches.
 ///
 /// The order of refusals is that of `fraction_box`.
 pub fn fraction_on_marks(
-    alloc: Global,
     marks: &mut Marks,
     fonts: &FontSet,
     style: Style,
@@ -49,10 +48,10 @@ pub fn fraction_on_marks(
 {
     let size = style.size();
     let wanted = delimiter_size(fonts, style);
-    let left = delimiter_on_marks(alloc, marks, fonts, left, size, wanted)?;
+    let left = delimiter_on_marks(marks, fonts, left, size, wanted)?;
     marks.swap(0);
     marks.swap(1);
-    let right = delimiter_on_marks(alloc, marks, fonts, right, size, wanted)?;
+    let right = delimiter_on_marks(marks, fonts, right, size, wanted)?;
     marks.swap(0);
     marks.swap(1);
     let body = body_on_marks(marks, fonts, style, thickness, num, den)?;
