@@ -5,21 +5,18 @@ use Rattle.mt_token.specs.declared.token.Token.{Token}
 use Rattle.mt_scaled.specs.declared.unit.Units.{Units}
 use Rattle.mt_macro.specs.Braces.{Taken, group as group_taken}
 use Rattle.mt_rules.specs.declared.symbol.Delim.{Delim}
-use Rattle.mt_rules.specs.declared.class.Class.TheVariants.{Inner}
-use Rattle.mt_rules.specs.declared.kind.Kind.TheVariants.{Plain, Vcenter}
-use Rattle.mt_rules.specs.Sequence.{Sequence, Rows, TableGrid, End, More, LeftElement, ChoiceElement, SymbolPart, ListPart, RowsPart, BigPart}
+use Rattle.mt_rules.specs.Sequence.{Sequence, Rows, TableGrid, End, SymbolPart}
 use Rattle.mt_rules.specs.declared.document.Body.{Body}
 use Rattle.mt_plain.specs.CodeTables.{CodeTables}
 use Rattle.mt_scan.specs.declared.fault.ReadCause.TheVariants.{MissingField, Unbalanced}
 use Rattle.mt_scan.specs.declared.role.Preamble.{Preamble}
 use Rattle.mt_scan.specs.declared.role.Role.{Role}
 use Rattle.mt_scan.specs.declared.role.Role.TheVariants.{FractionWord, HboxWord, OpenBrace, CloseBrace, Tab, CrWord, DisplayWord}
-use Rattle.mt_scan.specs.declared.role.Side.TheVariants.{Up}
-use Rattle.mt_scan.specs.Role.{role_of, nucleus_kind, simple_element, is_open_brace, is_close_brace, is_math_shift, is_middle, is_superscript}
+use Rattle.mt_scan.specs.Role.{role_of, nucleus_kind, is_open_brace, is_close_brace, is_math_shift, is_middle, is_superscript}
 use Rattle.mt_scan.specs.Parts.{Read, ReadOr, Got, Fault, NoTurn, then_read, after_spaces, after_blanks, opening, IsAnswered}
 use Rattle.mt_scan.specs.Numbers.{whole_number, number_to}
 use Rattle.mt_scan.specs.Delimiters.{scan_delimiter}
-use Rattle.mt_formula.specs.Atoms.{AtomValue, append, element_of_atom, takes_scripts, root_atom, nucleus_of, nucleus_atom, plain_atom, with_script, prime_atom, prime_items}
+use Rattle.mt_formula.specs.Atoms.{AtomValue, append, element_of_atom, takes_scripts, root_atom, nucleus_atom, plain_atom, with_script, prime_atom, prime_items}
 use Rattle.mt_formula.specs.declared.open.open_list.Ending.{Ending}
 use Rattle.mt_formula.specs.declared.open.open_list.Ending.TheVariants.{AtEnd, AtBrace, AtRight, AtDollar, AtCell, AtOf}
 use Rattle.mt_formula.specs.declared.open.open_list.FractionHead.{FractionHead}
@@ -32,13 +29,13 @@ use Rattle.mt_formula.specs.declared.step.action.FieldStart.{FieldStart}
 use Rattle.mt_formula.specs.declared.step.action.FieldStart.TheVariants.{Symbol as SymbolStart, Group as GroupStart}
 use Rattle.mt_formula.specs.declared.step.action.Action.{Action}
 use Rattle.mt_formula.specs.declared.step.action.Action.TheVariants.{Nothing, Atom, Script, Item, Family, Limits, Prime as PrimeAction, Rows as RowsAction, Group, ScriptGroup, LeftRight, Choice, Table, Big, Root, Stop}
-use Rattle.mt_formula.specs.Lists.{ends_with_tokens, ends_at, misplaced_cause, ItemRun, items_before, ItemRunReader, fraction_list, fraction_head, list_end, denominator, after_item_run_at, after_item_run, list_after, list}
-use Rattle.mt_formula.specs.Groups.{brace_group, SegmentsReader, after_segment, segment_end, segments_from, segments}
+use Rattle.mt_formula.specs.Lists.{then_give, ends_with_tokens, ends_at, misplaced_cause, ItemRun, items_before, ItemRunReader, fraction_list, fraction_head, list_end, denominator, after_item_run_at, after_item_run, list_after, list}
+use Rattle.mt_formula.specs.Groups.{group_list, brace_group, SegmentsReader, after_segment, segment_end, segments_from, segments}
 use Rattle.mt_formula.specs.Fields.{field_start}
 use Rattle.mt_formula.specs.Primes.{followed_by, primes, after_primes, braced_argument, argument_at, argument_after, prime_script_at, prime_script_of, prime_script}
 use Rattle.mt_formula.specs.Rows.{brace_closes, row, next_row_at, next_row, rows_here_at, first_rows, later_rows, rows_from, rows}
 use Rattle.mt_formula.specs.Tables.{first_column, next_column, cell_start, cell_list, preamble_of, brace_level, row_or_end, next_cell, after_cell_at, after_cell, CellsReader, cell_and_more, rows_from_step, cell_end, cells_from, table_rows, table}
-use Rattle.mt_formula.specs.Items.{atom_given, table_given, root_with_group, root_from_start, root_with_degree, Given, GivesNothing, GivesAtom, GivesItem, GivesItems, GivesScript, GivesLimits, GivesFamily, GivesNoItem, choice_with_none, choice_with_one, choice_with_two, choice_with_three, action_here, action_then}
+use Rattle.mt_formula.specs.Items.{atom_given, table_given, field_from, field, choice_list, Given, GivesNothing, GivesAtom, GivesItem, GivesItems, GivesScript, GivesLimits, GivesFamily, GivesNoItem, action_here, given}
 use Rattle.mt_formula.specs.Runs.{is_in_tail, TailReader, ItemsReader, tail_item, atom_item, items_after, run_after, tail_with, tail_at, tail, item_with, item, items_at, items}
 use Rattle.mt_formula.specs.Displays.{display_body, nothing_behind, display_rows}
 use Rattle.mt_formula.specs.Rules.{run_of, readers, item_run, body_ending, with_tag, list_formula, display_at, display_here, formula}
@@ -135,6 +132,25 @@ table_given_four : (form : TableForm) (rows : TableGrid) → given_four (table_g
 table_given_four (Spaced preamble) rows = refl
 table_given_four (Enclosed left right) rows = refl
 
+-- what an action gives, with at most so many tokens left behind it
+abbrev GivesAs : Action → ℕ → Read Given → Type 0
+GivesAs a left (Got gives rest) = (given_four gives ≡ action_four a) × (length rest ≤ left)
+GivesAs a left (Fault cause at) = ⊤
+GivesAs a left NoTurn = ⊥
+
+gives_next : {R : Type 0} (a : Action) (left k : ℕ) (r : Read Given) (f : Given → List Token → Read R) → GivesAs a left r → ((gives : Given) (rest : List Token) → given_four gives ≡ action_four a → length rest ≤ left → Settles k (f gives rest)) → Settles k (then_read r f)
+gives_next a left k (Got gives rest) f s h = h gives rest s.0 s.1
+gives_next a left k (Fault cause at) f s h = tt
+gives_next a left k NoTurn f s h = elim s [ ]
+
+gives_after : {A : Type 0} (a : Action) (n left : ℕ) (r : Read A) (f : A → List Token → Read Given) → Settles n r → ((part : A) (rest : List Token) → length rest ≤ n → GivesAs a left (f part rest)) → GivesAs a left (then_read r f)
+gives_after a n left (Got part rest) f s h = h part rest s
+gives_after a n left (Fault cause at) f s h = tt
+gives_after a n left NoTurn f s h = elim s [ ]
+
+give_settles : {A : Type 0} (a : Action) (n left : ℕ) (r : Read A) (gives : A → Given) → Settles n r → n ≤ left → ((part : A) → given_four (gives part) ≡ action_four a) → GivesAs a left (then_give r gives)
+give_settles a n left r gives s le h = gives_after a n left r _ s (λ part rest fewer. (h part, omega (arith, fewer, le)))
+
 -- runs of items, by a tail and items
 module _ (n : ℕ) (more : TailReader) (tails : TailsSettle n more) where
   atom_item_settles : (level : ℕ) (family : Option ℕ) (atom : AtomValue) (ts : List Token) → length ts < n → Settles (length ts) (atom_item more level family atom ts)
@@ -221,11 +237,15 @@ module _ (tables : CodeTables) where
       list_settles ending level family ts few = list_after_settles End None ending level family ts few
 
       -- lists in groups
+      group_list_settles : (level : ℕ) (family : Option ℕ) (inside : List Token) → length inside < n → Settles (length inside) (group_list tables units again level family inside)
+      group_list_settles level family inside few =
+          settles_next (length inside) (length inside) (list tables units again AtBrace (level + 1) family inside) _ (list_settles AtBrace (level + 1) family inside few)
+          (λ inner brace s. omega (arith, s, drop_short brace))
+
       brace_group_settles : (level : ℕ) (family : Option ℕ) (ts : List Token) → length ts < n → Settles (length ts) (brace_group tables units again level family ts)
       brace_group_settles level family ts few =
           settles_where (λ (here : ⊤). 4) (4 * length ts) (length ts) (opening tables is_open_brace level ts) _ (opening_answered tables is_open_brace level ts) (opening_takes tables is_open_brace level ts)
-          (λ here inside w. settles_next (length inside) (length ts) (list tables units again AtBrace (level + 1) family inside) _ (list_settles AtBrace (level + 1) family inside (omega (arith, w, few)))
-          (λ inner brace s. omega (arith, s, w, drop_short brace)))
+          (λ here inside w. settles_more (length inside) (length ts) (group_list tables units again level family inside) (omega (arith, w)) (group_list_settles level family inside (omega (arith, w, few))))
 
       -- behind a middle there are fewer tokens
       segment_end_settles : (more : SegmentsReader) (inner : Sequence) (end : List Token) → SegmentsSettle (length end) more → Settles (length end) (segment_end tables more inner end)
@@ -356,60 +376,54 @@ module _ (tables : CodeTables) where
           settles_more (length (primes tables 0 ts).rest) (length ts) (prime_script tables units again level family ts) (omega (arith, primes_within tables 0 ts))
           (prime_script_of_settles (primes tables 0 ts).count level family (primes tables 0 ts).rest (omega (arith, primes_within tables 0 ts, few)))
 
-      -- what is read after an action, and what comes of what it gives, where that settles
-      module _ {R : Type 0} (k : ℕ) (next : Given → List Token → Read R) (level : ℕ) (family : Option ℕ) where
-        -- of what such an action gives, where so many tokens are left behind it
-        abbrev Follows : Action → ℕ → Type 0
-        Follows a left = (given : Given) (rest : List Token) → given_four given ≡ action_four a → length rest ≤ left → Settles k (next given rest)
+      -- fields
+      field_from_settles : (level : ℕ) (family : Option ℕ) (start : FieldStart) (after : List Token) → length after < n → Settles (length after) (field_from tables units again level family start after)
+      field_from_settles level family (SymbolStart symbol) after few = omega arith
+      field_from_settles level family GroupStart after few =
+          settles_next (length after) (length after) (group_list tables units again level family after) _ (group_list_settles level family after few) (λ inner rest s. s)
 
-        root_settles : (left : ℕ) → Follows Root left → (degree : Sequence) (start : FieldStart) (after : List Token) → length after ≤ left → length after < n → Settles k (root_from_start tables units again level family next degree start after)
-        root_settles left h degree (SymbolStart symbol) after le few = h (atom_given (root_atom degree (SymbolPart symbol))) after refl le
-        root_settles left h degree GroupStart after le few =
-            settles_next (length after) k (list tables units again AtBrace (level + 1) family after) (root_with_group next degree) (list_settles AtBrace (level + 1) family after few)
-            (λ inner brace s. h (atom_given (root_atom degree (nucleus_of inner))) (drop 1 brace) refl (omega (arith, s, le, drop_short brace)))
+      field_settles : (level : ℕ) (family : Option ℕ) (ts : List Token) → length ts < n → Settles (length ts) (field tables units again level family ts)
+      field_settles level family ts few =
+          settles_where none (4 * length ts) (length ts) (field_start tables level family ts) (field_from tables units again level family) (field_start_answered tables level family ts) (field_start_short tables level family ts)
+          (λ start rest w. settles_more (length rest) (length ts) (field_from tables units again level family start rest) (omega (arith, w)) (field_from_settles level family start rest (omega (arith, w, few))))
 
-        degree_settles : (left : ℕ) → Follows Root left → (degree : Sequence) (after : List Token) → length after ≤ left → length after < n → Settles k (root_with_degree tables units again level family next degree after)
-        degree_settles left h degree after le few =
-            settles_where none (4 * length after) k (field_start tables level family after) (root_from_start tables units again level family next degree) (field_start_answered tables level family after) (field_start_short tables level family after)
-            (λ start rest w. root_settles left h degree start rest (omega (arith, w, le)) (omega (arith, w, few)))
+      choice_list_settles : (level : ℕ) (family : Option ℕ) (ts : List Token) → length ts < n → Settles (length ts) (choice_list tables units again level family ts)
+      choice_list_settles level family ts few =
+          settles_more (length (after_spaces ts)) (length ts) (choice_list tables units again level family ts) (omega (arith, spaces_short ts))
+          (brace_group_settles level family (after_spaces ts) (omega (arith, few, spaces_short ts)))
 
-        choice_settles : (left : ℕ) → Follows Choice left → (display : Sequence) (after : List Token) → length after ≤ left → length after < n → Settles k (choice_with_none tables units again level family next display after)
-        choice_settles left h display after le few =
-            settles_next (length (after_spaces after)) k (brace_group tables units again level family (after_spaces after)) (choice_with_one tables units again level family next display) (brace_group_settles level family (after_spaces after) (omega (arith, few, spaces_short after)))
-            (λ text second s. settles_next (length (after_spaces second)) k (brace_group tables units again level family (after_spaces second)) (choice_with_two tables units again level family next display text) (brace_group_settles level family (after_spaces second) (omega (arith, few, s, spaces_short after, spaces_short second)))
-            (λ script third u. settles_next (length (after_spaces third)) k (brace_group tables units again level family (after_spaces third)) (choice_with_three next display text script) (brace_group_settles level family (after_spaces third) (omega (arith, few, s, u, spaces_short after, spaces_short second, spaces_short third)))
-            (λ small rest v. h (GivesItem (ChoiceElement display text script small)) rest refl (omega (arith, le, s, u, v, spaces_short after, spaces_short second, spaces_short third)))))
-
-        action_then_settles : (a : Action) (after : List Token) → action_four a + 4 * length after ≤ 4 * n → Follows a (length after) → Settles k (action_then tables units again level family a after next)
-        action_then_settles Nothing after few h = h GivesNothing after refl (omega arith)
-        action_then_settles (Atom kind symbol) after few h = h (atom_given (plain_atom (nucleus_kind kind) (SymbolPart symbol))) after (atom_given_four (plain_atom (nucleus_kind kind) (SymbolPart symbol))) (omega arith)
-        action_then_settles (Script side symbol) after few h = h (GivesScript side (SymbolPart symbol)) after refl (omega arith)
-        action_then_settles (Item item) after few h = h (GivesItem (simple_element item)) after refl (omega arith)
-        action_then_settles (Family other) after few h = h (GivesFamily other) after refl (omega arith)
-        action_then_settles (Limits limits) after few h = h (GivesLimits limits) after refl (omega arith)
-        action_then_settles PrimeAction after few h =
-            settles_next (length after) k (prime_script tables units again level family after) _ (prime_script_settles level family after (omega (arith, few))) (λ script rest s. h (GivesScript Up (ListPart script)) rest refl s)
-        action_then_settles RowsAction after few h =
-            settles_next (length after) k (rows tables units again level after) _ (rows_settle level after (omega (arith, few))) (λ inner rest s. h (GivesAtom (plain_atom Vcenter (RowsPart inner))) rest refl s)
-        action_then_settles (Group kind) after few h =
-            settles_next (length after) k (list tables units again AtBrace (level + 1) family after) _ (list_settles AtBrace (level + 1) family after (omega (arith, few)))
-            (λ inner brace s. h (atom_given (nucleus_atom (nucleus_kind kind) inner)) (drop 1 brace) (atom_given_four (nucleus_atom (nucleus_kind kind) inner)) (omega (arith, s, drop_short brace)))
-        action_then_settles (ScriptGroup side) after few h =
-            settles_next (length after) k (list tables units again AtBrace (level + 1) family after) _ (list_settles AtBrace (level + 1) family after (omega (arith, few)))
-            (λ inner brace s. h (GivesScript side (nucleus_of inner)) (drop 1 brace) refl (omega (arith, s, drop_short brace)))
-        action_then_settles (LeftRight left) after few h =
-            settles_next (length after) k (segments tables units again (level + 1) family after) _ (segments_settle (level + 1) family after (omega (arith, few)))
-            (λ inner rest s. h (GivesAtom (plain_atom (Plain Inner) (ListPart (More (LeftElement left) inner)))) rest refl s)
-        action_then_settles Choice after few h =
-            settles_next (length after) k (list tables units again AtBrace (level + 1) family after) _ (list_settles AtBrace (level + 1) family after (omega (arith, few)))
-            (λ display brace s. choice_settles (length after) h display (drop 1 brace) (omega (arith, s, drop_short brace)) (omega (arith, s, few, drop_short brace)))
-        action_then_settles (Table form) after few h =
-            settles_next (length after) k (table tables units again form level after) _ (table_settles form level after (omega (arith, few))) (λ rows rest s. h (table_given form rows) rest (table_given_four form rows) s)
-        action_then_settles (Big class delim size) after few h = h (GivesAtom (plain_atom (Plain class) (BigPart delim size))) after refl (omega arith)
-        action_then_settles Root after few h =
-            settles_next (length after) k (list tables units again AtOf (level + 1) family after) _ (list_settles AtOf (level + 1) family after (omega (arith, few)))
-            (λ degree word s. degree_settles (length after) h degree (drop 1 word) (omega (arith, s, drop_short word)) (omega (arith, s, few, drop_short word)))
-        action_then_settles Stop after few h = h GivesNoItem after refl (omega arith)
+      -- what an action gives
+      given_settles : (level : ℕ) (family : Option ℕ) (a : Action) (after : List Token) → action_four a + 4 * length after ≤ 4 * n → GivesAs a (length after) (given tables units again level family a after)
+      given_settles level family Nothing after few = (refl, omega arith)
+      given_settles level family (Atom kind symbol) after few = (atom_given_four (plain_atom (nucleus_kind kind) (SymbolPart symbol)), omega arith)
+      given_settles level family (Script side symbol) after few = (refl, omega arith)
+      given_settles level family (Item item) after few = (refl, omega arith)
+      given_settles level family (Family other) after few = (refl, omega arith)
+      given_settles level family (Limits limits) after few = (refl, omega arith)
+      given_settles level family (Big class delim size) after few = (refl, omega arith)
+      given_settles level family Stop after few = (refl, omega arith)
+      given_settles level family PrimeAction after few =
+          give_settles PrimeAction (length after) (length after) (prime_script tables units again level family after) _ (prime_script_settles level family after (omega (arith, few))) (omega arith) (λ script. refl)
+      given_settles level family RowsAction after few =
+          give_settles RowsAction (length after) (length after) (rows tables units again level after) _ (rows_settle level after (omega (arith, few))) (omega arith) (λ inner. refl)
+      given_settles level family (Group kind) after few =
+          give_settles (Group kind) (length after) (length after) (group_list tables units again level family after) _ (group_list_settles level family after (omega (arith, few))) (omega arith) (λ inner. atom_given_four (nucleus_atom (nucleus_kind kind) inner))
+      given_settles level family (ScriptGroup side) after few =
+          give_settles (ScriptGroup side) (length after) (length after) (group_list tables units again level family after) _ (group_list_settles level family after (omega (arith, few))) (omega arith) (λ inner. refl)
+      given_settles level family (LeftRight left) after few =
+          give_settles (LeftRight left) (length after) (length after) (segments tables units again (level + 1) family after) _ (segments_settle (level + 1) family after (omega (arith, few))) (omega arith) (λ inner. refl)
+      given_settles level family Choice after few =
+          gives_after Choice (length after) (length after) (group_list tables units again level family after) _ (group_list_settles level family after (omega (arith, few)))
+          (λ display second s. gives_after Choice (length second) (length after) (choice_list tables units again level family second) _ (choice_list_settles level family second (omega (arith, few, s)))
+          (λ text third u. gives_after Choice (length third) (length after) (choice_list tables units again level family third) _ (choice_list_settles level family third (omega (arith, few, s, u)))
+          (λ script fourth v. give_settles Choice (length fourth) (length after) (choice_list tables units again level family fourth) _ (choice_list_settles level family fourth (omega (arith, few, s, u, v)))
+          (omega (arith, s, u, v)) (λ small. refl))))
+      given_settles level family (Table form) after few =
+          give_settles (Table form) (length after) (length after) (table tables units again form level after) _ (table_settles form level after (omega (arith, few))) (omega arith) (λ rows. table_given_four form rows)
+      given_settles level family Root after few =
+          gives_after Root (length after) (length after) (list tables units again AtOf (level + 1) family after) _ (list_settles AtOf (level + 1) family after (omega (arith, few)))
+          (λ degree word s. give_settles Root (length (drop 1 word)) (length after) (field tables units again level family (drop 1 word)) _ (field_settles level family (drop 1 word) (omega (arith, few, s, drop_short word)))
+          (omega (arith, s, drop_short word)) (λ body. atom_given_four (root_atom degree body)))
 
       -- tails and items: all that an action reads is read by one turn less
       module _ (more : TailReader) (tails : TailsSettle n more) where
@@ -426,8 +440,8 @@ module _ (tables : CodeTables) where
         tail_at_settles : (level : ℕ) (family : Option ℕ) (atom : AtomValue) (ts : List Token) (b : Bool) → length ts < suc n → Settles (length ts) (tail_at tables units again more level family atom ts b)
         tail_at_settles level family atom ts true few =
             settles_where action_four (4 * length ts) (length ts) (action_here tables units level family (Some atom) ts) _ (action_here_answered tables level family units (Some atom) ts) (action_here_takes tables level family units (Some atom) ts)
-            (λ a after w. action_then_settles (length ts) (tail_with tables units again more level family atom ts) level family a after (omega (arith, w, few))
-            (λ given rest same le. tail_with_settles level family atom ts given rest few (omega (arith, w, same, le))))
+            (λ a after w. gives_next a (length after) (length ts) (given tables units again level family a after) (tail_with tables units again more level family atom ts) (given_settles level family a after (omega (arith, w, few)))
+            (λ gives rest same le. tail_with_settles level family atom ts gives rest few (omega (arith, w, same, le))))
         tail_at_settles level family atom ts false few = omega arith
 
         tail_settles : TailsSettle (suc n) (tail tables units again more)
@@ -448,7 +462,8 @@ module _ (tables : CodeTables) where
           item_after_settles : (level : ℕ) (family : Option ℕ) (a : Action) (after : List Token) → length after < n → action_four a ≤ 4 → Settles (length after) (then_read (item tables units again more level family a after) (items_after others level))
           item_after_settles level family a after few four =
               settles_next (length after) (length after) (item tables units again more level family a after) (items_after others level)
-              (action_then_settles (length after) (item_with tables units again more level family) level family a after (omega (arith, few, four)) (λ given rest same le. item_with_settles level family (length after) given rest few le))
+              (gives_next a (length after) (length after) (given tables units again level family a after) (item_with tables units again more level family) (given_settles level family a after (omega (arith, few, four)))
+              (λ gives rest same le. item_with_settles level family (length after) gives rest few le))
               (λ first rest s. settles_more (length rest) (length after) (items_after others level first rest) s (items_after_settle n others all level first rest (omega (arith, s, few))))
 
           items_at_settle : (level : ℕ) (family : Option ℕ) (k : ℕ) (a : Action) (after : List Token) → k < suc n → action_four a + 4 * length after ≤ 4 * k → Settles k (items_at tables units again more others level family a after)
