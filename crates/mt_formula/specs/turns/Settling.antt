@@ -32,7 +32,7 @@ use Rattle.mt_formula.specs.declared.step.action.Action.TheVariants.{Nothing, At
 use Rattle.mt_formula.specs.Lists.{then_give, ends_with_tokens, ends_at, misplaced_cause, ItemRun, items_before, ItemRunReader, fraction_list, fraction_head, list_end, denominator, after_item_run_at, after_item_run, list_after, list}
 use Rattle.mt_formula.specs.Groups.{group_list, brace_group, SegmentsReader, after_segment, segment_end, segments_from, segments}
 use Rattle.mt_formula.specs.Fields.{field_start}
-use Rattle.mt_formula.specs.Primes.{followed_by, primes, after_primes, braced_argument, argument_at, argument_after, prime_script_at, prime_script_of, prime_script}
+use Rattle.mt_formula.specs.Primes.{Argument, put_back, primes, after_primes, argument_read, braced_argument, argument_at, argument_after, prime_script_of, prime_script}
 use Rattle.mt_formula.specs.Rows.{brace_closes, row, next_row_at, next_row, rows_here_at, first_rows, later_rows, rows_from, rows}
 use Rattle.mt_formula.specs.Tables.{first_column, next_column, cell_start, cell_list, preamble_of, brace_level, row_or_end, next_cell, after_cell_at, after_cell, CellsReader, cell_and_more, rows_from_step, cell_end, cells_from, table_rows, table}
 use Rattle.mt_formula.specs.Items.{atom_given, table_given, field_from, field, choice_list, Given, GivesNothing, GivesAtom, GivesItem, GivesItems, GivesScript, GivesLimits, GivesFamily, GivesNoItem, action_here, given}
@@ -79,10 +79,10 @@ before_settles n first (Fault cause left) s = tt
 before_settles n first NoTurn s = elim s [ ]
 
 -- of what is read of an argument only the fault shows
-followed_settles : (n : ℕ) (after : List Token) (count : ℕ) (r : Read Sequence) → Settles n r → Settles (length after) (followed_by after count r)
-followed_settles n after count (Got inner rest) s = omega arith
-followed_settles n after count (Fault cause left) s = tt
-followed_settles n after count NoTurn s = elim s [ ]
+put_back_settles : (n : ℕ) (a : Argument) (r : Read Sequence) → Settles n r → Settles (length a.after) (put_back a r)
+put_back_settles n a (Got inner rest) s = omega arith
+put_back_settles n a (Fault cause left) s = tt
+put_back_settles n a NoTurn s = elim s [ ]
 
 -- a part that counts no turns
 settled_part : {A : Type 0} (n : ℕ) (r : Read A) → IsAnswered r → Within none (4 * n) r → Settles n r
@@ -338,10 +338,13 @@ module _ (tables : CodeTables) where
       after_primes_settle : (count level : ℕ) (family : Option ℕ) (ts : List Token) → length ts < n → Settles (length ts) (after_primes tables units again count level family ts)
       after_primes_settle count level family ts few = list_after_settles (prime_items count) (Some prime_atom) AtEnd level family ts few
 
+      argument_read_settles : (count level : ℕ) (family : Option ℕ) (a : Argument) → length a.tokens < n → Settles (length a.after) (argument_read tables units again count level family a)
+      argument_read_settles count level family a few = put_back_settles (length a.tokens) a (after_primes tables units again count level family a.tokens) (after_primes_settle count level family a.tokens few)
+
       braced_settles : (count level : ℕ) (family : Option ℕ) (inside : List Token) (o : Option Taken) → Fits (length inside) o → length inside < n → Settles (length inside) (braced_argument tables units again count level family inside o)
       braced_settles count level family inside (Some taken) h few =
-          settles_more (length taken.after) (length inside) (followed_by taken.after (length taken.after + 1) (after_primes tables units again count level family taken.argument)) (omega (arith, h))
-          (followed_settles (length taken.argument) taken.after (length taken.after + 1) (after_primes tables units again count level family taken.argument) (after_primes_settle count level family taken.argument (omega (arith, h, few))))
+          settles_more (length taken.after) (length inside) (argument_read tables units again count level family (record { tokens = taken.argument; behind = length taken.after + 1; after = taken.after })) (omega (arith, h))
+          (argument_read_settles count level family (record { tokens = taken.argument; behind = length taken.after + 1; after = taken.after }) (omega (arith, h, few)))
       braced_settles count level family inside None h few =
           settles_next (length inside) (length inside) (after_primes tables units again count level family inside) (λ (inner : Sequence) (rest : List Token). Fault Unbalanced 0) (after_primes_settle count level family inside few) (λ inner rest s. tt)
 
@@ -354,14 +357,14 @@ module _ (tables : CodeTables) where
           (λ here inside w. settles_more (length inside) (length (t ∷ rest)) (braced_argument tables units again count (level + 1) family inside (group_taken 0 inside)) (omega (arith, w))
           (braced_settles count (level + 1) family inside (group_taken 0 inside) (group_fits 0 inside) (omega (arith, w, few))))
       argument_at_settles count level family t rest _ few =
-          settles_more (length rest) (length (t ∷ rest)) (followed_by rest (length rest) (after_primes tables units again count level family (t ∷ []))) (omega arith)
-          (followed_settles 1 rest (length rest) (after_primes tables units again count level family (t ∷ [])) (after_primes_settle count level family (t ∷ []) (omega (arith, few))))
+          settles_more (length rest) (length (t ∷ rest)) (argument_read tables units again count level family (record { tokens = t ∷ []; behind = length rest; after = rest })) (omega arith)
+          (argument_read_settles count level family (record { tokens = t ∷ []; behind = length rest; after = rest }) (omega (arith, few)))
 
       argument_settles : (count level : ℕ) (family : Option ℕ) (ts : List Token) → length ts < n → Settles (length ts) (argument_after tables units again count level family ts)
       argument_settles count level family [] few = tt
       argument_settles count level family (t ∷ rest) few = argument_at_settles count level family t rest (role_of tables t) few
 
-      prime_script_at_settles : (count level : ℕ) (family : Option ℕ) (ts rest : List Token) (b : Bool) → length rest ≤ length ts → length ts < n → Settles (length ts) (prime_script_at tables units again count level family ts rest b)
+      prime_script_at_settles : (count level : ℕ) (family : Option ℕ) (ts rest : List Token) (b : Bool) → length rest ≤ length ts → length ts < n → Settles (length ts) (if b then argument_after tables units again count level family (after_spaces rest) else Got (prime_items (count + 1)) ts)
       prime_script_at_settles count level family ts rest true le few =
           settles_more (length (after_spaces rest)) (length ts) (argument_after tables units again count level family (after_spaces rest)) (omega (arith, le, spaces_short rest))
           (argument_settles count level family (after_spaces rest) (omega (arith, le, few, spaces_short rest)))
