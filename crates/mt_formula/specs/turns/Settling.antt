@@ -35,7 +35,7 @@ use Rattle.mt_formula.specs.Fields.{field_start}
 use Rattle.mt_formula.specs.Primes.{Argument, put_back, primes, after_primes, argument_read, braced_argument, argument_at, argument_after, prime_script_of, prime_script}
 use Rattle.mt_formula.specs.Rows.{brace_closes, row, next_row_at, next_row, rows_here_at, first_rows, later_rows, rows_from, rows}
 use Rattle.mt_formula.specs.Tables.{first_column, next_column, cell_start, cell_list, preamble_of, brace_level, row_or_end, next_cell, after_cell_at, after_cell, CellsReader, cell_and_more, rows_from_step, cell_end, cells_from, table_rows, table}
-use Rattle.mt_formula.specs.Items.{atom_given, table_given, field_from, field, choice_list, Given, GivesNothing, GivesAtom, GivesItem, GivesItems, GivesScript, GivesLimits, GivesFamily, GivesNoItem, action_here, given}
+use Rattle.mt_formula.specs.Items.{item_given, atom_given, table_given, field_from, field, choice_list, Given, GivesNothing, GivesAtom, GivesItems, GivesScript, GivesLimits, GivesFamily, GivesNoItem, action_here, given}
 use Rattle.mt_formula.specs.Runs.{is_in_tail, TailReader, ItemsReader, tail_item, atom_item, items_after, run_after, tail_with, tail_at, tail, item_with, item, items_at, items}
 use Rattle.mt_formula.specs.Displays.{display_body, nothing_behind, display_rows}
 use Rattle.mt_formula.specs.Rules.{run_of, readers, item_run, body_ending, with_tag, list_formula, display_at, display_here, formula}
@@ -124,7 +124,7 @@ given_four _ = 4
 atom_given_four : (a : AtomValue) → given_four (atom_given a) ≡ 4
 atom_given_four a = by_scripts (takes_scripts a.kind a.nucleus)
   where
-    by_scripts : (b : Bool) → given_four (if b then GivesAtom a else GivesItem (element_of_atom a)) ≡ 4
+    by_scripts : (b : Bool) → given_four (if b then GivesAtom a else item_given (element_of_atom a)) ≡ 4
     by_scripts true = refl
     by_scripts false = refl
 
@@ -430,20 +430,19 @@ module _ (tables : CodeTables) where
 
       -- tails and items: all that an action reads is read by one turn less
       module _ (more : TailReader) (tails : TailsSettle n more) where
-        tail_with_settles : (level : ℕ) (family : Option ℕ) (atom : AtomValue) (ts : List Token) (given : Given) (rest : List Token) → length ts < suc n → given_four given + 4 * length rest ≤ 4 * length ts → Settles (length ts) (tail_with tables units again more level family atom ts given rest)
+        tail_with_settles : (level : ℕ) (family : Option ℕ) (atom : AtomValue) (ts : List Token) (gives : Given) (rest : List Token) → length ts < suc n → given_four gives + 4 * length rest ≤ 4 * length ts → Settles (length ts) (tail_with tables units again more level family atom gives rest)
         tail_with_settles level family atom ts GivesNothing rest few w = settles_more (length rest) (length ts) (more level family atom rest) (omega (arith, w)) (tails level family atom rest (omega (arith, w, few)))
         tail_with_settles level family atom ts (GivesScript side part) rest few w = settles_more (length rest) (length ts) (more level family (with_script side part (Some atom)) rest) (omega (arith, w)) (tails level family (with_script side part (Some atom)) rest (omega (arith, w, few)))
         tail_with_settles level family atom ts (GivesLimits limits) rest few w = settles_more (length rest) (length ts) (more level family (record atom { limits = limits }) rest) (omega (arith, w)) (tails level family (record atom { limits = limits }) rest (omega (arith, w, few)))
         tail_with_settles level family atom ts (GivesFamily other) rest few w = settles_more (length rest) (length ts) (more level other atom rest) (omega (arith, w)) (tails level other atom rest (omega (arith, w, few)))
-        tail_with_settles level family atom ts (GivesAtom new) rest few w = omega arith
-        tail_with_settles level family atom ts (GivesItem item) rest few w = omega arith
-        tail_with_settles level family atom ts (GivesItems some) rest few w = omega arith
-        tail_with_settles level family atom ts GivesNoItem rest few w = omega arith
+        tail_with_settles level family atom ts (GivesAtom new) rest few w = omega (arith, w)
+        tail_with_settles level family atom ts (GivesItems some) rest few w = omega (arith, w)
+        tail_with_settles level family atom ts GivesNoItem rest few w = omega (arith, w)
 
         tail_at_settles : (level : ℕ) (family : Option ℕ) (atom : AtomValue) (ts : List Token) (b : Bool) → length ts < suc n → Settles (length ts) (tail_at tables units again more level family atom ts b)
         tail_at_settles level family atom ts true few =
             settles_where action_four (4 * length ts) (length ts) (action_here tables units level family (Some atom) ts) _ (action_here_answered tables level family units (Some atom) ts) (action_here_takes tables level family units (Some atom) ts)
-            (λ a after w. gives_next a (length after) (length ts) (given tables units again level family a after) (tail_with tables units again more level family atom ts) (given_settles level family a after (omega (arith, w, few)))
+            (λ a after w. gives_next a (length after) (length ts) (given tables units again level family a after) (tail_with tables units again more level family atom) (given_settles level family a after (omega (arith, w, few)))
             (λ gives rest same le. tail_with_settles level family atom ts gives rest few (omega (arith, w, same, le))))
         tail_at_settles level family atom ts false few = omega arith
 
@@ -454,7 +453,6 @@ module _ (tables : CodeTables) where
         item_with_settles : (level : ℕ) (family : Option ℕ) (k : ℕ) (given : Given) (rest : List Token) → k < n → length rest ≤ k → Settles k (item_with tables units again more level family given rest)
         item_with_settles level family k GivesNothing rest few le = le
         item_with_settles level family k (GivesAtom atom) rest few le = settles_more (length rest) k (atom_item more level family atom rest) le (atom_item_settles n more tails level family atom rest (omega (arith, few, le)))
-        item_with_settles level family k (GivesItem item) rest few le = le
         item_with_settles level family k (GivesItems some) rest few le = le
         item_with_settles level family k (GivesScript side part) rest few le = settles_more (length rest) k (atom_item more level family (with_script side part None) rest) le (atom_item_settles n more tails level family (with_script side part None) rest (omega (arith, few, le)))
         item_with_settles level family k (GivesLimits limits) rest few le = le
