@@ -120,6 +120,7 @@ pub fn put_limits(list: &mut OpenList, limits: Limits)
 }
 
 /// Sets the current family of the list.
+#[tactic(auto, using(crate::proofs::Inside::append_end))]
 pub fn put_family(list: &mut OpenList, family: Option<u8>)
     ensures { Becomes End (last_atom_of list.old.last) family list.old list.new }
 {
