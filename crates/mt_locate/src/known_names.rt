@@ -55,10 +55,10 @@ static FORMULA_NAMES_FROM_S: [&[u8]; 68] = [
 
 /// Names of plain TeX's and TeX's own that authors type in formulas, and that mathset does not have.
 #[rattlefmt::skip]
-static OTHER_NAMES: [&[u8]; 165] = [
+static OTHER_NAMES: [&[u8]; 162] = [
     b"Longleftarrow", b"Longleftrightarrow", b"Longrightarrow", b"Relbar", b"active", b"allowbreak", b"angle",
-    b"arrowvert", b"begingroup", b"bgroup", b"bigbreak", b"bmod", b"bordermatrix", b"bowtie", b"box", b"braceld",
-    b"bracelu", b"bracerd", b"braceru", b"bracevert", b"buildrel", b"cases", b"centerline", b"char", b"cong", b"copy",
+    b"arrowvert", b"begingroup", b"bgroup", b"bigbreak", b"bordermatrix", b"bowtie", b"box", b"braceld",
+    b"bracelu", b"bracerd", b"braceru", b"bracevert", b"buildrel", b"centerline", b"char", b"cong", b"copy",
     b"ddots", b"displ", b"displaywidth", b"doteq", b"dots", b"egroup", b"endgroup", b"endinsert", b"enskip",
     b"enspace", b"fi", b"footnote", b"global", b"goodbreak", b"halign", b"hang", b"hbar", b"hfil", b"hfill",
     b"hfilneg", b"hidewidth", b"hookleftarrow", b"hookrightarrow", b"hrule", b"hrulefill", b"hss", b"ialign", b"if",
@@ -69,7 +69,7 @@ static OTHER_NAMES: [&[u8]; 165] = [
     b"multispan", b"muskip", b"narrower", b"negthinspace", b"noalign", b"nobreak", b"noindent", b"nointerlineskip",
     b"normalbaselines", b"notin", b"null", b"nulldelimiterspace", b"number", b"oalign", b"offinterlineskip",
     b"oldstyle", b"omit", b"ooalign", b"openup", b"overbrace", b"overleftarrow", b"overrightarrow", b"pageno",
-    b"parindent", b"penalty", b"pmod", b"raise", b"rbrack", b"relbar", b"repeat", b"rgroup", b"rhook",
+    b"parindent", b"penalty", b"raise", b"rbrack", b"relbar", b"repeat", b"rgroup", b"rhook",
     b"rightarrowfill", b"rightleftharpoons", b"rightline", b"rlap", b"rmoustache", b"sb", b"scriptfont",
     b"scriptscriptfont", b"scriptspace", b"setbox", b"skew", b"slash", b"smallskip", b"sp", b"space", b"span",
     b"special", b"strut", b"surd", b"tabskip", b"textfont", b"textindent", b"the", b"thickmuskip", b"thinmuskip",

@@ -13,7 +13,7 @@ type Replacement = (&'static [u8], &'static [u8], &'static [u8]);
 
 /// In formulas.
 #[rattlefmt::skip]
-static IN_FORMULAS: [Replacement; 29] = [
+static IN_FORMULAS: [Replacement; 39] = [
     (b"\\", b"\\cr", b""),
     (b"frac", b"{a\\over b}", b"\\def\\frac#1#2{{{#1}\\over{#2}}}"),
     (b"dfrac", b"{\\displaystyle{a\\over b}}", b"\\def\\dfrac#1#2{{\\displaystyle{{#1}\\over{#2}}}}"),
@@ -27,6 +27,7 @@ static IN_FORMULAS: [Replacement; 29] = [
     (b"mathit", b"{\\it x}, for which the font list needs a family 4", b"\\def\\mathit#1{{\\it#1}}"),
     (b"mathbf", b"{\\bf x}, for which the font list needs a family 6", b"\\def\\mathbf#1{{\\bf#1}}"),
     (b"mathbb", b"{\\bf R}, for which the font list needs a family 6", b"\\def\\mathbb#1{{\\bf#1}}"),
+    (b"textbf", b"{\\bf if\\;}, for which the font list needs a family 6", b"\\def\\textbf#1{{\\bf#1}}"),
     (b"lvert", b"\\vert", b"\\def\\lvert{\\vert}"),
     (b"rvert", b"\\vert", b"\\def\\rvert{\\vert}"),
     (b"lVert", b"\\Vert", b"\\def\\lVert{\\Vert}"),
@@ -35,10 +36,19 @@ static IN_FORMULAS: [Replacement; 29] = [
     (b"overset", b"\\mathrel{\\mathop{=}\\limits^a}", b"\\def\\overset#1#2{\\mathrel{\\mathop{#2}\\limits^{#1}}}"),
     (b"stackrel", b"\\mathrel{\\mathop{=}\\limits^a}", b"\\def\\stackrel#1#2{\\mathrel{\\mathop{#2}\\limits^{#1}}}"),
     (b"underset", b"\\mathrel{\\mathop{=}\\limits_a}", b"\\def\\underset#1#2{\\mathrel{\\mathop{#2}\\limits_{#1}}}"),
+    (b"substack", b"{\\scriptstyle a\\atop\\scriptstyle b}", b""),
+    (b"cases", b"\\left\\{\\matrix{a&b\\cr c&d\\cr}\\right. with centered columns", b"\\def\\cases#1{\\left\\{\\matrix{#1}\\right.}"),
+    (b"bmod", b"\\mathbin{\\rm mod}", b"\\def\\bmod{\\mathbin{\\rm mod}}"),
+    (b"pmod", b"\\quad({\\rm mod}\\;n)", b"\\def\\pmod#1{\\quad({\\rm mod}\\;#1)}"),
+    (b"hspace", b"\\hskip1em", b"\\def\\hspace#1{\\hskip#1\\relax}"),
+    (b"color", b"nothing, since there are no colors", b"\\def\\color#1{}"),
+    (b"textcolor", b"nothing, since there are no colors", b"\\def\\textcolor#1#2{{#2}}"),
     (b"begin", b"\\matrix{a&b\\cr}, \\pmatrix{a&b\\cr} or \\eqalign{a&=b\\cr}", b""),
     (b"end", b"\\matrix{a&b\\cr}, \\pmatrix{a&b\\cr} or \\eqalign{a&=b\\cr}", b""),
     (b"tag", b"\\eqno(1) at the end of a display", b""),
     (b"label", b"\\eqno(1) at the end of a display, since there are no labels", b""),
+    (b"nonumber", b"nothing, since only \\eqno sets a number", b"\\def\\nonumber{}"),
+    (b"notag", b"nothing, since only \\eqno sets a number", b"\\def\\notag{}"),
     (b"[", b"$$", b""),
     (b"]", b"$$", b""),
     (b"(", b"$", b""),
