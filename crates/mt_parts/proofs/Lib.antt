@@ -1,7 +1,5 @@
 -- what was made is in range
 pub mod Made
--- lines over and under a body
-pub mod Ruled
 -- along the next larger characters of an accent
 pub mod Widest
 -- an accent over a body
@@ -22,5 +20,9 @@ pub mod FractionSteps
 pub mod Bigs
 -- a radical with its degree
 pub mod Rooting
+-- parts on marks
+pub mod MarkedParts
 -- fractions on marks
 mod MarkedFractions
+-- lines over and under a body on marks
+mod MarkedLines

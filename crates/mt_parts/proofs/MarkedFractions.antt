@@ -1,6 +1,6 @@
 -- Fractions on marks.
-use Rattle.std.proofs.Common.{◌≡◌, List, [], ◌∷◌, ℤ, pos, refl, sym, ◌∙◌, ap, subst, Bool}
-use Rattle.std.specs.Prelude.{Result, Ok, Err, OnOk}
+use Rattle.std.proofs.Common.{◌≡◌, List, [], ◌∷◌, ℤ, pos, sym, ◌∙◌, ap, subst, Bool}
+use Rattle.std.specs.Prelude.{Result, Ok}
 use Rattle.std.specs.Int.{int_max}
 use Rattle.std.specs.Ordering.{int_eq}
 use Rattle.mt_family.specs.SetValue.{SetValue}
@@ -10,54 +10,26 @@ use Rattle.mt_box.specs.Layout.{Layout}
 use Rattle.mt_box.specs.Boxes.{rebox}
 use Rattle.mt_box.specs.Rows.{PieceValue, PieceBox, pack}
 use Rattle.mt_box.specs.declared.marks.row.RowPiece.{RowPiece}
-use Rattle.mt_box.specs.marks.Layers.{top}
 use Rattle.mt_box.specs.declared.marks.row.RowPart.TheVariants as part
-use Rattle.mt_box.specs.marks.RowParts.{IsPieceOf, AreParts}
+use Rattle.mt_box.specs.marks.RowParts.{AreParts}
 use Rattle.mt_box.specs.marks.Recentred.{recentred_extents, recentred_places}
 use Rattle.mt_box.proofs.layers.Centred.{recentred_is}
 use Rattle.mt_rules.specs.declared.part_error.PartError.{PartError}
-use Rattle.mt_rules.specs.declared.part_error.PartError.TheVariants.{Overflow as PartOverflow, TooTall as PartTooTall, OutOfMemory as NoPartMemory}
 use Rattle.mt_rules.specs.declared.style.Style.{Style}
 use Rattle.mt_rules.specs.declared.symbol.Delim.{Delim}
 use Rattle.mt_rules.specs.Styles.{size_of}
-use Rattle.mt_rules.specs.Setting.{Setting, ◌>>=◌, ◌>>◌, make_box, test_rule}
-use Rattle.mt_rules.specs.Calls.{PartAnswers}
+use Rattle.mt_rules.specs.Setting.{◌>>=◌, make_box}
 use Rattle.mt_rules.specs.OnMarks.{SetsOn, layout_with}
 use Rattle.mt_rules.specs.Delimiters.{delimiter, piece_on_axis}
 use Rattle.mt_rules.specs.Fractions.{fraction, fraction_body, fraction_delimiter_size}
+use Rattle.mt_parts.proofs.MarkedParts.{one_piece}
 use Rattle.mt_parts.proofs.FractionSteps.{left_made, right_made, after_body, body_at, body_by}
 
-pub always : {T E P : Type 0} (r : Result T E) → P → OnOk r P
-always (Ok x) p = p
-always (Err e) p = tt
-
--- a fault is the same of a box and of marks
-pub fault_on : (e : PartError) (ps : List Place) (s : Setting Layout) → PartAnswers (Err e) s → SetsOn (Err e) ps s
-fault_on (PartOverflow value) ps s h = h
-fault_on (PartTooTall n) ps s h = h
-fault_on NoPartMemory ps s h = tt
-
-pub fault_off : (e : PartError) (ps : List Place) (s : Setting Layout) → SetsOn (Err e) ps s → PartAnswers (Err e) s
-fault_off (PartOverflow value) ps s h = h
-fault_off (PartTooTall n) ps s h = h
-fault_off NoPartMemory ps s h = tt
-
 -- ---- the row of three
-
-one_piece : (raise : ℤ) (e : Extents) (l : List Place) → IsPieceOf (PieceBox raise (layout_with e l)) record { extents = e; raise = raise } l
-one_piece raise e l = record { width = refl; height = refl; depth = refl; places = λ x. refl }
 
 pub three_pieces : (a b c : RowPiece) (l m n : List Place)
     → AreParts (PieceBox a.raise (layout_with a.extents l) ∷ PieceBox b.raise (layout_with b.extents m) ∷ PieceBox c.raise (layout_with c.extents n) ∷ []) (part.Layout a ∷ part.Layout b ∷ part.Layout c ∷ []) (l ∷ m ∷ n ∷ [])
 three_pieces a b c l m n = (one_piece a.raise a.extents l, (one_piece b.raise b.extents m, (one_piece c.raise c.extents n, tt)))
-
-pub row_made : (ms : List PieceValue) (e : Extents) (now rest : List (List Place)) → e ≡ (pack ms).extents → now ≡ (pack ms).places ∷ rest → layout_with e (top now) ≡ pack ms
-row_made ms e now rest p q =
-    let r : top now ≡ (pack ms).places = ap top q in
-    layout_is p r
-  where
-    layout_is : {e f : Extents} {ps qs : List Place} → e ≡ f → ps ≡ qs → (let l : Layout = record { extents = e; places = ps } in l) ≡ record { extents = f; places = qs }
-    layout_is p q = cc
 
 -- ---- what stands between the delimiters
 
@@ -70,9 +42,6 @@ pub body_made : (plain : Bool) (fonts : SetValue) (style : Style) (t width : ℤ
     → SetsOn r ps (fraction_body fonts style t (layout_with num n) (layout_with den d))
 body_made plain fonts style t width num den num' den' n d r ps e w p q h =
     subst (λ x. SetsOn r ps x) (body_at plain fonts style t width (layout_with num n) (layout_with den d) _ _ e w (recentred_layout num num' width n p) (recentred_layout den den' width d q)) h
-
-pub after_test : (w t : ℤ) (l : Layout) (r : Result Extents PartError) (ps : List Place) → test_rule w t ≡ Ok tt → SetsOn r ps (make_box l) → SetsOn r ps (test_rule w t >> make_box l)
-after_test w t l r ps e h = subst (λ a. SetsOn r ps (a >> make_box l)) (sym e) h
 
 -- ---- the whole
 
@@ -91,6 +60,3 @@ fraction_made fonts style t left_delim right_delim num den left right body wante
     ∙ (ap (λ x. make_box (pack (x ∷ PieceBox (pos 0) body ∷ piece_on_axis fonts (size_of style) right ∷ []))) (sym a)
     ∙ ap (λ x. make_box (pack (one ∷ PieceBox (pos 0) body ∷ x ∷ []))) (sym b)))) in
     subst (λ x. SetsOn r ps x) (sym same) k
-
-pub on_top : {l : List Place} {now rest : List (List Place)} → now ≡ l ∷ rest → now ≡ top now ∷ rest
-on_top {l} {now} {rest} e = e ∙ ap (λ t. t ∷ rest) (sym (ap top e))

@@ -3,25 +3,24 @@ ghost use Rattle.std.specs.Prelude.{◌≡◌, ◌^◌, ◌+ℤ◌, ◌-ℤ◌, 
 ghost use Rattle.mt_scaled.specs.Number.{Within, half_of, max_dimen};
 ghost use Rattle.mt_box.specs.declared.place.Place.{Place};
 ghost use Rattle.mt_box.specs.Extents.{ExtentsInRange};
-ghost use Rattle.mt_box.specs.Layout.{rule_places};
 ghost use Rattle.mt_box.specs.Rows.{PieceBox};
-ghost use Rattle.mt_box.specs.marks.Layers.{put_on, top};
+ghost use Rattle.mt_box.specs.marks.Layers.{top};
 ghost use Rattle.mt_box.specs.marks.RowParts.{IsNear};
 ghost use Rattle.mt_rules.specs.Setting.{make_box, pack_row};
 ghost use Rattle.mt_rules.specs.OnMarks.{SetsOn, layout_with};
 ghost use Rattle.mt_rules.specs.Delimiters.{piece_on_axis};
 ghost use Rattle.mt_rules.specs.Fractions;
 
+use crate::marked_rule::rule_on_marks;
 use crate::shifts::{
     ShiftLengths, greater_width, shifts_with_rule, shifts_without_rule, top_of_rule,
 };
-use mt_box::{Extents, Ink, Mark, Marks, Move, RowPart, RowPiece, pack_parts, recentre_layer};
+use mt_box::{Extents, Marks, Move, RowPart, RowPiece, pack_parts, recentre_layer};
 use mt_delim::{delimiter_on_marks, raise_of};
 use mt_family::{FontSet, Size};
 use mt_rules::parameters::{delim1, delim2};
 use mt_rules::{Delim, PartError, Style, test_rule, tested_extents, tested_part};
 use mt_scaled::Length;
-use std::alloc::AllocError;
 
 /// The numerator and, on top, the denominator become the fraction: what it reaches.
 ///
@@ -266,30 +265,6 @@ fn round_rule_on_marks(
     marks.join();
     marks.join();
     Ok(extents)
-}
-
-// A rule at the end of the top layout, if it is seen.
-fn rule_on_marks(
-    marks: &mut Marks,
-    bottom: Length,
-    height: Length,
-    width: Length,
-) -> Result<(), AllocError>
-    requires { Within (2 ^ 60) bottom.sp }
-    ensures { OnOk result (marks.new ≡ put_on (rule_places (pos 0) bottom.sp height.sp width.sp) marks.old) }
-{
-    if height.is_positive() && width.is_positive() {
-        marks.put(Ink {
-            h: 0,
-            v: -bottom.sp,
-            mark: Mark::Rule {
-                height: height.sp,
-                width: width.sp,
-            },
-        })
-    } else {
-        Ok(())
-    }
 }
 
 // By how much twice the half of a length is greater than it.

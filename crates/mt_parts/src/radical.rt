@@ -9,7 +9,7 @@ ghost use Rattle.mt_rules.specs.Calls.{PartAnswers};
 ghost use Rattle.mt_rules.specs.Radicals;
 ghost use Rattle.mt_parts.specs.RuledBodies.{ruled_body};
 
-use crate::lines::rule_width;
+use crate::marked_rule::rule_width;
 use mt_box::{Column, Entry, Extents, Packed, Piece, Row, hpack, vpack};
 use mt_delim::delimiter_box;
 use mt_family::FontSet;

@@ -3,7 +3,8 @@ use Rattle.std.proofs.lemmas.Result.{err_from_is_err_and}
 use Rattle.mt_box.specs.marks.Layers.{top, swapped_layers}
 use Rattle.mt_rules.specs.OnMarks.{layout_with}
 use Rattle.mt_parts.proofs.FractionSteps.{left_fault, right_fault, body_fault}
-use Rattle.mt_parts.proofs.MarkedFractions.{fault_on, fault_off, fraction_made}
+use Rattle.mt_parts.proofs.MarkedParts.{fault_on, fault_off}
+use Rattle.mt_parts.proofs.MarkedFractions.{fraction_made}
 use Rattle.mt_parts.proofs.marked_fraction.fraction_on_marks.Goals as goal
 
 pub returns-in_err-left-clause-is : goal.returns-in_err-left-clause-is

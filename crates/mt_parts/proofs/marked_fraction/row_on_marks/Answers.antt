@@ -4,7 +4,8 @@ use Rattle.mt_box.specs.Rows.{PieceBox}
 use Rattle.mt_box.specs.marks.Layers.{top}
 use Rattle.mt_rules.specs.Setting.{make_box}
 use Rattle.mt_rules.specs.OnMarks.{SetsOn, layout_with}
-use Rattle.mt_parts.proofs.MarkedFractions.{three_pieces, row_made, always, on_top}
+use Rattle.mt_parts.proofs.MarkedParts.{row_made, always, on_top}
+use Rattle.mt_parts.proofs.MarkedFractions.{three_pieces}
 use Rattle.mt_parts.proofs.marked_fraction.row_on_marks.Goals as goal
 
 pub returns-clause-is : goal.returns-clause-is

@@ -8,7 +8,7 @@ use Rattle.mt_rules.specs.OnMarks.{layout_with}
 use Rattle.mt_rules.specs.Setting.{test_rule}
 use Rattle.mt_rules.specs.Fractions.{layout_with_rule}
 use Rattle.mt_parts.proofs.Faults.{thin, rule_fault}
-use Rattle.mt_parts.proofs.MarkedFractions.{fault_on, after_test}
+use Rattle.mt_parts.proofs.MarkedParts.{fault_on, after_test}
 use Rattle.mt_parts.proofs.marked_fraction.with_rule_on_marks.Goals as goal
 
 pub returns-in_err-test_rule-clause-is : goal.returns-in_err-test_rule-clause-is

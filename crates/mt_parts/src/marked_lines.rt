@@ -1,0 +1,119 @@
+//! A rule over a body and under it, on marks (The TeXbook, Appendix G, rules 9 and 10; tex.web §705, §734, §735).
+ghost use Rattle.std.specs.Prelude.{◌≡◌, ◌^◌, ◌+ℤ◌, ◌*ℤ◌, ◌∷◌, neg_ℤ, pos, IfOk, List, OnOk};
+ghost use Rattle.std.specs.Int.{int_max};
+ghost use Rattle.mt_scaled.specs.Number.{Within};
+ghost use Rattle.mt_box.specs.declared.place.Place.{Place};
+ghost use Rattle.mt_box.specs.Extents.{ExtentsInRange};
+ghost use Rattle.mt_box.specs.marks.Layers.{top};
+ghost use Rattle.mt_rules.specs.Lines.{overline, underline, underline_layout};
+ghost use Rattle.mt_rules.specs.OnMarks.{SetsOn, layout_with};
+ghost use Rattle.mt_rules.specs.Setting.{make_box};
+
+use crate::marked_rule::{rule_on_marks, rule_width, test_rule_of, under_rule_on_marks};
+use mt_box::{Extents, Marks};
+use mt_family::{FontSet, Size};
+use mt_rules::parameters::default_rule_thickness;
+use mt_rules::{PartError, tested_extents};
+use mt_scaled::Length;
+
+/// The layout on top with a rule over it: what it reaches.
+///
+/// The order of refusals is that of `overline_box`.
+pub fn overline_on_marks(
+    marks: &mut Marks,
+    fonts: &FontSet,
+    size: Size,
+    body: Extents,
+) -> Result<Extents, PartError>
+    requires { ExtentsInRange body }
+    ensures is { (n : List Place) → (rest : List (List Place)) → marks.old ≡ n ∷ rest
+        → SetsOn result (top marks.new) (overline fonts.now size (layout_with body n)) }
+    ensures rest { (n : List Place) → (rest : List (List Place)) → marks.old ≡ n ∷ rest
+        → OnOk result (marks.new ≡ top marks.new ∷ rest) }
+    ensures in_range { IfOk result ExtentsInRange }
+{
+    let thickness = default_rule_thickness(fonts, size);
+    under_rule_on_marks(marks, bottom_of_overline(body, thickness), thickness, body)
+}
+
+/// The layout on top with a rule under it: what it reaches.
+///
+/// The order of refusals is that of `underline_box`.
+pub fn underline_on_marks(
+    marks: &mut Marks,
+    fonts: &FontSet,
+    size: Size,
+    body: Extents,
+) -> Result<Extents, PartError>
+    requires { ExtentsInRange body }
+    ensures is { (n : List Place) → (rest : List (List Place)) → marks.old ≡ n ∷ rest
+        → SetsOn result (top marks.new) (underline fonts.now size (layout_with body n)) }
+    ensures rest { (n : List Place) → (rest : List (List Place)) → marks.old ≡ n ∷ rest
+        → OnOk result (marks.new ≡ top marks.new ∷ rest) }
+    ensures in_range { IfOk result ExtentsInRange }
+{
+    let thickness = default_rule_thickness(fonts, size);
+    test_rule_of(body, thickness)?;
+    put_rule_under(marks, thickness, body)
+}
+
+// How high the bottom of a rule over a body is. The gap below it is three times its thickness.
+#[tactic(auto, using(std::proofs::lemmas::Int::ints))]
+fn bottom_of_overline(body: Extents, thickness: Length) -> Length
+    requires body { ExtentsInRange body }
+    requires thickness { Within (2 ^ 31) thickness.sp }
+    ensures is { result.sp ≡ body.height +ℤ (pos 3 *ℤ thickness.sp) }
+    ensures small { Within (2 ^ 38) result.sp }
+{
+    Length {
+        sp: body.height + 3 * thickness.sp,
+    }
+}
+
+// How high the bottom of a rule under a body is. The gap above it is three times its thickness.
+#[tactic(auto, using(std::proofs::lemmas::Int::ints))]
+fn bottom_of_underline(body: Extents, thickness: Length) -> Length
+    requires body { ExtentsInRange body }
+    requires thickness { Within (2 ^ 31) thickness.sp }
+    ensures is { result.sp ≡ neg_ℤ (body.depth +ℤ (pos 4 *ℤ thickness.sp)) }
+    ensures small { Within (2 ^ 38) result.sp }
+{
+    Length {
+        sp: -(body.depth + 4 * thickness.sp),
+    }
+}
+
+fn put_rule_under(marks: &mut Marks, thickness: Length, body: Extents) -> Result<Extents, PartError>
+    requires thickness { Within (2 ^ 31) thickness.sp }
+    requires body { ExtentsInRange body }
+    ensures is { (n : List Place) → (rest : List (List Place)) → marks.old ≡ n ∷ rest
+        → SetsOn result (top marks.new) (make_box (underline_layout thickness.sp (layout_with body n))) }
+    ensures rest { (n : List Place) → (rest : List (List Place)) → marks.old ≡ n ∷ rest
+        → OnOk result (marks.new ≡ top marks.new ∷ rest) }
+    ensures in_range { IfOk result ExtentsInRange }
+{
+    let extents = tested_extents(extents_over(thickness, body))?;
+    rule_on_marks(
+        marks,
+        bottom_of_underline(body, thickness),
+        thickness,
+        rule_width(body),
+    )?;
+    Ok(extents)
+}
+
+// What a body reaches with a rule under it and the space below.
+#[tactic(auto, using(std::proofs::lemmas::Int::ints, std::proofs::lemmas::Int::clamps))]
+fn extents_over(thickness: Length, body: Extents) -> Extents
+    requires thickness { Within (2 ^ 31) thickness.sp }
+    requires body { ExtentsInRange body }
+    ensures width { result.width ≡ int_max (pos 0) body.width }
+    ensures height { result.height ≡ body.height }
+    ensures depth { result.depth ≡ body.depth +ℤ (pos 5 *ℤ thickness.sp) }
+{
+    Extents {
+        width: rule_width(body).sp,
+        height: body.height,
+        depth: body.depth + 5 * thickness.sp,
+    }
+}
