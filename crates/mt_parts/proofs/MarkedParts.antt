@@ -1,15 +1,17 @@
 -- Parts on marks: the same faults as of boxes, tests before them, and rows.
-use Rattle.std.proofs.Common.{◌≡◌, List, ◌∷◌, ℤ, refl, sym, ◌∙◌, ap, subst}
+use Rattle.std.proofs.Common.{◌≡◌, List, [], ◌∷◌, ℤ, refl, sym, ◌∙◌, ap, subst}
 use Rattle.std.specs.Prelude.{Result, Ok, Err, OnOk, ⊤}
 use Rattle.mt_box.specs.declared.place.Place.{Place}
 use Rattle.mt_box.specs.declared.extents.Extents.{Extents}
 use Rattle.mt_box.specs.Layout.{BoxValue, Layout, layout_of}
 use Rattle.mt_box.specs.Rows.{PieceValue, PieceBox, pack}
+use Rattle.mt_box.specs.declared.marks.row.RowPiece.{RowPiece}
+use Rattle.mt_box.specs.declared.marks.row.RowPart.TheVariants as part
 use Rattle.mt_box.specs.marks.Layers.{top}
-use Rattle.mt_box.specs.marks.RowParts.{IsPieceOf}
+use Rattle.mt_box.specs.marks.RowParts.{IsPieceOf, AreParts}
 use Rattle.mt_rules.specs.declared.part_error.PartError.{PartError}
 use Rattle.mt_rules.specs.declared.part_error.PartError.TheVariants.{Overflow as PartOverflow, TooTall as PartTooTall, OutOfMemory as NoPartMemory}
-use Rattle.mt_rules.specs.Setting.{Setting, Overflow, TooTall, ◌>>◌, make_box, test_rule}
+use Rattle.mt_rules.specs.Setting.{Setting, Overflow, TooTall, ◌>>=◌, ◌>>◌, make_box, test_rule}
 use Rattle.mt_rules.specs.Calls.{PartAnswers, TestAnswers}
 use Rattle.mt_rules.specs.OnMarks.{SetsOn, layout_with}
 use Rattle.mt_rules.proofs.Answering.{then_err}
@@ -48,10 +50,21 @@ test_fault (PartOverflow value) ps test next h = then_err test (Overflow value) 
 test_fault (PartTooTall n) ps test next h = then_err test (TooTall n) (λ _. next) h
 test_fault NoPartMemory ps test next h = tt
 
+-- ---- a fault of a step is the answer
+
+pub step_fault : (e : PartError) (ps qs : List Place) (step : Setting Layout) (next : Layout → Setting Layout) → SetsOn (Err e) ps step → SetsOn (Err e) qs (step >>= next)
+step_fault (PartOverflow value) ps qs step next h = then_err step (Overflow value) next h
+step_fault (PartTooTall n) ps qs step next h = then_err step (TooTall n) next h
+step_fault NoPartMemory ps qs step next h = tt
+
 -- ---- rows
 
 pub one_piece : (raise : ℤ) (e : Extents) (l : List Place) → IsPieceOf (PieceBox raise (layout_with e l)) record { extents = e; raise = raise } l
 one_piece raise e l = record { width = refl; height = refl; depth = refl; places = λ x. refl }
+
+-- a row of one layout
+pub lone_piece : (p : RowPiece) (l : List Place) → AreParts (PieceBox p.raise (layout_with p.extents l) ∷ []) (part.Layout p ∷ []) (l ∷ [])
+lone_piece p l = (one_piece p.raise p.extents l, tt)
 
 pub row_made : (ms : List PieceValue) (e : Extents) (now rest : List (List Place)) → e ≡ (pack ms).extents → now ≡ (pack ms).places ∷ rest → layout_with e (top now) ≡ pack ms
 row_made ms e now rest p q =

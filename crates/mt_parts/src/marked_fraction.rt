@@ -8,18 +8,18 @@ ghost use Rattle.mt_box.specs.marks.Layers.{top};
 ghost use Rattle.mt_box.specs.marks.RowParts.{IsNear};
 ghost use Rattle.mt_rules.specs.Setting.{make_box, pack_row};
 ghost use Rattle.mt_rules.specs.OnMarks.{SetsOn, layout_with};
-ghost use Rattle.mt_rules.specs.Delimiters.{piece_on_axis};
 ghost use Rattle.mt_rules.specs.Fractions;
 
+use crate::marked_row::{on_axis, row_on_marks};
 use crate::marked_rule::rule_on_marks;
 use crate::shifts::{
     ShiftLengths, greater_width, shifts_with_rule, shifts_without_rule, top_of_rule,
 };
-use mt_box::{Extents, Marks, Move, RowPart, RowPiece, pack_parts, recentre_layer};
-use mt_delim::{delimiter_on_marks, raise_of};
-use mt_family::{FontSet, Size};
+use mt_box::{Extents, Marks, Move, RowPart, RowPiece, recentre_layer};
+use mt_delim::delimiter_on_marks;
+use mt_family::FontSet;
 use mt_rules::parameters::{delim1, delim2};
-use mt_rules::{Delim, PartError, Style, test_rule, tested_extents, tested_part};
+use mt_rules::{Delim, PartError, Style, test_rule, tested_extents};
 use mt_scaled::Length;
 
 /// The numerator and, on top, the denominator become the fraction: what it reaches.
@@ -57,20 +57,7 @@ pub fn fraction_on_marks(
     marks.swap(0);
     let before = on_axis(fonts, size, left);
     let after = on_axis(fonts, size, right);
-    row_on_marks(marks, before, body, after)
-}
-
-// A layout whose middle is to be on the axis, in a row.
-fn on_axis(fonts: &FontSet, size: Size, extents: Extents) -> RowPiece
-    requires { ExtentsInRange extents }
-    ensures is { (ps : List Place) → PieceBox result.raise (layout_with result.extents ps)
-        ≡ piece_on_axis fonts.now size (layout_with extents ps) }
-    ensures near { IsNear result }
-{
-    RowPiece {
-        extents,
-        raise: raise_of(fonts, size, extents).sp,
-    }
+    row_of_three(marks, before, body, after)
 }
 
 // The size that the delimiters are to have.
@@ -87,7 +74,7 @@ fn delimiter_size(fonts: &FontSet, style: Style) -> Length
 }
 
 // The layouts of the left delimiter, of the body and, on top, of the right delimiter become their row.
-fn row_on_marks(
+fn row_of_three(
     marks: &mut Marks,
     left: RowPiece,
     body: Extents,
@@ -112,8 +99,7 @@ fn row_on_marks(
         RowPart::Layout(body),
         RowPart::Layout(right),
     ];
-    let extents = pack_parts(marks, &row)?;
-    tested_part(extents)
+    row_on_marks(marks, &row)
 }
 
 // The fraction without its delimiters.

@@ -43,11 +43,11 @@ returns-clause-is c = λ n d rest e.
     let two = c.swap-4.ensures ∙ ap (λ s. swapped_layers 1 s) (c.swap-3.ensures ∙ ap (λ s. swapped_layers 0 s) (c.in_ok-right.ensures.rest ∙ ap (λ s. r ∷ s) one)) in
     let three = c.swap-5.ensures ∙ ap (λ s. swapped_layers 0 s) (c.in_ok-body.ensures.rest n d (r ∷ l ∷ rest) two) in
     fraction_made c.args.fonts.now c.args.style c.args.thickness.sp c.args.left c.args.right (layout_with c.args.num n) (layout_with c.args.den d)
-    (layout_with c.in_ok-left.left l) (layout_with c.in_ok-right.right r) (layout_with c.in_ok-body.body b) _ _ _ c.row_on_marks.result (top c.row_on_marks.new.marks)
+    (layout_with c.in_ok-left.left l) (layout_with c.in_ok-right.right r) (layout_with c.in_ok-body.body b) _ _ _ c.row_of_three.result (top c.row_of_three.new.marks)
     c.delimiter_size-wanted.ensures.is (rw c.size-size.ensures at c.in_ok-left.ensures.is) (rw c.size-size.ensures at c.in_ok-right.ensures.is)
     (c.in_ok-body.ensures.is n d (r ∷ l ∷ rest) two)
     (rw c.size-size.ensures at c.on_axis-before.ensures.is l) (rw c.size-size.ensures at c.on_axis-after.ensures.is r)
-    (c.row_on_marks.ensures.is l b r rest three)
+    (c.row_of_three.ensures.is l b r rest three)
 
 pub returns-clause-rest : goal.returns-clause-rest
 returns-clause-rest c = λ n d rest e.
@@ -57,4 +57,4 @@ returns-clause-rest c = λ n d rest e.
     let one = c.swap-2.ensures ∙ ap (λ s. swapped_layers 1 s) (c.swap.ensures ∙ ap (λ s. swapped_layers 0 s) (c.in_ok-left.ensures.rest ∙ ap (λ s. l ∷ s) e)) in
     let two = c.swap-4.ensures ∙ ap (λ s. swapped_layers 1 s) (c.swap-3.ensures ∙ ap (λ s. swapped_layers 0 s) (c.in_ok-right.ensures.rest ∙ ap (λ s. r ∷ s) one)) in
     let three = c.swap-5.ensures ∙ ap (λ s. swapped_layers 0 s) (c.in_ok-body.ensures.rest n d (r ∷ l ∷ rest) two) in
-    c.row_on_marks.ensures.rest l b r rest three
+    c.row_of_three.ensures.rest l b r rest three
