@@ -66,6 +66,10 @@ one_piece raise e l = record { width = refl; height = refl; depth = refl; places
 pub lone_piece : (p : RowPiece) (l : List Place) → AreParts (PieceBox p.raise (layout_with p.extents l) ∷ []) (part.Layout p ∷ []) (l ∷ [])
 lone_piece p l = (one_piece p.raise p.extents l, tt)
 
+-- a row of two
+pub two_pieces : (a b : RowPiece) (l m : List Place) → AreParts (PieceBox a.raise (layout_with a.extents l) ∷ PieceBox b.raise (layout_with b.extents m) ∷ []) (part.Layout a ∷ part.Layout b ∷ []) (l ∷ m ∷ [])
+two_pieces a b l m = (one_piece a.raise a.extents l, (one_piece b.raise b.extents m, tt))
+
 pub row_made : (ms : List PieceValue) (e : Extents) (now rest : List (List Place)) → e ≡ (pack ms).extents → now ≡ (pack ms).places ∷ rest → layout_with e (top now) ≡ pack ms
 row_made ms e now rest p q =
     let r : top now ≡ (pack ms).places = ap top q in
