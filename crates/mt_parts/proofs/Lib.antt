@@ -2,8 +2,6 @@
 pub mod Made
 -- along the next larger characters of an accent
 pub mod Widest
--- an accent over a body
-pub mod Accenting
 -- the symbol of an accent, and its character
 pub mod Finding
 -- small facts of clamps and halves

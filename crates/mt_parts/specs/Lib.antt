@@ -1,5 +1,3 @@
--- an accent over a body
-pub mod Accented
 -- lines one below another as a column
 pub mod LineColumns
 -- a body under a rule

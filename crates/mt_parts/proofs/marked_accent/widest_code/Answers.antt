@@ -1,6 +1,6 @@
 use Rattle.std.proofs.Common.{arith, sym, ◌∙◌}
 use Rattle.mt_parts.proofs.Widest.{walked-step}
-use Rattle.mt_parts.proofs.accents.widest_code.Goals as goal
+use Rattle.mt_parts.proofs.marked_accent.widest_code.Goals as goal
 
 pub loop-turn-preserved : goal.loop-turn-preserved
 loop-turn-preserved c =

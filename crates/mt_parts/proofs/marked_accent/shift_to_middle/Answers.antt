@@ -2,7 +2,7 @@ use Rattle.std.proofs.Common.{◌^◌, ◌*◌, arith, sym, subst}
 use Rattle.std.proofs.lemmas.Int.{ints}
 use Rattle.mt_scaled.specs.Number.{Within}
 use Rattle.mt_parts.proofs.Clamps.{half_small}
-use Rattle.mt_parts.proofs.accents.shift_to_middle.Goals as goal
+use Rattle.mt_parts.proofs.marked_accent.shift_to_middle.Goals as goal
 
 pub returns-clause-small : goal.returns-clause-small
 returns-clause-small c =

@@ -1,6 +1,6 @@
 use Rattle.std.proofs.Common.{arith}
 use Rattle.std.proofs.lemmas.Int.{ints, clamps}
-use Rattle.mt_parts.proofs.accents.raise_of_accent.Goals as goal
+use Rattle.mt_parts.proofs.marked_accent.raise_of_accent.Goals as goal
 
 pub minus-requires-2-clause-other_small : goal.minus-requires-2-clause-other_small
 minus-requires-2-clause-other_small c = record { low = omega (arith, ints, clamps); high = omega (arith, ints, clamps) }
@@ -10,6 +10,3 @@ plus-requires-clause-self_small c = record { low = omega (arith, ints, clamps); 
 
 pub returns-clause-small : goal.returns-clause-small
 returns-clause-small c = record { low = omega (arith, ints, clamps); high = omega (arith, ints, clamps) }
-
-pub returns-clause-low : goal.returns-clause-low
-returns-clause-low c = omega (arith, ints, clamps)
