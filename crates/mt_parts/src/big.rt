@@ -22,6 +22,6 @@ pub fn big_box(alloc: Global, fonts: &FontSet, delim: Delim, level: u8) -> Resul
     ensures in_range { IfOk result (λ b. ExtentsInRange b.extents) }
 {
     let mut marks = Marks::new(alloc);
-    let extents = big_on_marks(alloc, &mut marks, fonts, delim, level)?;
+    let extents = big_on_marks(&mut marks, fonts, delim, level)?;
     Ok(marks.top_box(alloc, extents, 1)?)
 }

@@ -18,13 +18,11 @@ use mt_delim::{Variant, choose_variant, delimiter_on_marks};
 use mt_family::{FontSet, Size};
 use mt_rules::{Delim, PartError, boundary_size, tested_part};
 use mt_scaled::Length;
-use std::alloc::Global;
 
 /// The layout of a delimiter of a fixed size on top, and what it reaches.
 ///
 /// The size and the order of refusals are those of `big_box`.
 pub fn big_on_marks(
-    alloc: Global,
     marks: &mut Marks,
     fonts: &FontSet,
     delim: Delim,
@@ -37,7 +35,7 @@ pub fn big_on_marks(
     let height = least_height(level);
     let wanted = boundary_size(fonts, Size::Text, height, Length { sp: 0 });
     let variant = choose_variant(fonts, delim, Size::Text, wanted.sp);
-    let body = delimiter_on_marks(alloc, marks, fonts, delim, Size::Text, wanted)?;
+    let body = delimiter_on_marks(marks, fonts, delim, Size::Text, wanted)?;
     let piece = on_axis(fonts, Size::Text, without_null_width(variant, body));
     high_row_on_marks(marks, piece, height)
 }

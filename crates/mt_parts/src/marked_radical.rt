@@ -17,13 +17,11 @@ use mt_family::FontSet;
 use mt_rules::parameters::{default_rule_thickness, quarter, x_height};
 use mt_rules::{Delim, PartError, Style};
 use mt_scaled::Length;
-use std::alloc::Global;
 
 /// The layout on top beside a radical sign and under its rule: what it reaches.
 ///
 /// The order of refusals is that of `radical_box`.
 pub fn radical_on_marks(
-    alloc: Global,
     marks: &mut Marks,
     fonts: &FontSet,
     style: Style,
@@ -38,7 +36,7 @@ pub fn radical_on_marks(
     ensures in_range { IfOk result ExtentsInRange }
 {
     let wanted = sign_size(fonts, style, body);
-    let sign = delimiter_on_marks(alloc, marks, fonts, sign, style.size(), wanted)?;
+    let sign = delimiter_on_marks(marks, fonts, sign, style.size(), wanted)?;
     marks.swap(0);
     let height = bottom_over_body(fonts, style, body, sign);
     let nucleus = under_rule_on_marks(marks, height, Length { sp: sign.height }, body)?;

@@ -34,6 +34,6 @@ pub fn radical_box(
 {
     let mut marks = Marks::new(alloc);
     marks.push_box(alloc, &body)?;
-    let extents = radical_on_marks(alloc, &mut marks, fonts, style, sign, body.extents())?;
+    let extents = radical_on_marks(&mut marks, fonts, style, sign, body.extents())?;
     Ok(marks.top_box(alloc, extents, body.level() + 2)?)
 }
