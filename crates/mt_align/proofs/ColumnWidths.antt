@@ -7,10 +7,12 @@ use Rattle.std.proofs.lemmas.Bool.{false≢true}
 use Rattle.std.specs.Int.{int_max}
 use Rattle.std.specs.Prelude.{All, ◌==◌}
 use Rattle.mt_scaled.specs.Number.{Within, max_dimen}
-use Rattle.mt_box.specs.Layout.{BoxValue, Layout, layout_of}
+use Rattle.mt_box.specs.declared.extents.Extents.{Extents}
+use Rattle.mt_box.specs.Layout.{Layout}
 use Rattle.mt_box.proofs.Lists.{next_item}
 use Rattle.mt_rules.specs.Tables.{Cells, widened, column_widths, with_struts, columns_width}
-use Rattle.mt_align.specs.Cells.{cells_of}
+use Rattle.mt_align.specs.CellLayers.{bare, bare_rows}
+use Rattle.mt_align.specs.CellRows.{columns_reach}
 
 -- ---- a column gets a cell more
 
@@ -72,32 +74,32 @@ longer before ws new c is =
     omega (arith, l, length-append before (s.head ∷ s.tail))
 
 -- the columns, and the cells that are left from column j on
-pub record Widening (old : List ℤ) (cells rest : List BoxValue) (j : ℕ) (ws : List ℤ) : Type 0 where
-  pub same : take j ws ++ widened (drop j ws) (map layout_of rest) ≡ widened old (map layout_of cells)
+pub record Widening (old : List ℤ) (cells rest : List Extents) (j : ℕ) (ws : List ℤ) : Type 0 where
+  pub same : take j ws ++ widened (drop j ws) (map bare rest) ≡ widened old (map bare cells)
   pub far : j ≤ length ws
   pub small : All (Within max_dimen) ws
 
-pub widening_start : (old : List ℤ) (cells rest : List BoxValue) → rest ≡ cells → All (Within max_dimen) old → Widening old cells rest 0 old
+pub widening_start : (old : List ℤ) (cells rest : List Extents) → rest ≡ cells → All (Within max_dimen) old → Widening old cells rest 0 old
 widening_start old cells rest e small = rw e (record { same = refl; far = omega arith; small = small })
 
-pub widening_more : (old : List ℤ) (cells rest rest' : List BoxValue) (b : BoxValue) (j : ℕ) (ws new : List ℤ) → Widening old cells rest j ws → rest ≡ b ∷ rest' → new ≡ take j ws ++ widened (drop j ws) (layout_of b ∷ []) → All (Within max_dimen) new → Widening old cells rest' (j + 1) new
+pub widening_more : (old : List ℤ) (cells rest rest' : List Extents) (b : Extents) (j : ℕ) (ws new : List ℤ) → Widening old cells rest j ws → rest ≡ b ∷ rest' → new ≡ take j ws ++ widened (drop j ws) (bare b ∷ []) → All (Within max_dimen) new → Widening old cells rest' (j + 1) new
 widening_more old cells rest rest' b j ws new h e is small =
     let h' : Widening old cells (b ∷ rest') j ws = subst (λ r. Widening old cells r j ws) e h in
     let len : length (take j ws) ≡ j = length-take-le j ws h'.far in
     record {
-      same = rw add-one (widening_step (take j ws) (drop j ws) new (layout_of b) (map layout_of rest') j (sym len) is ∙ h'.same);
-      far = omega (arith, longer (take j ws) (drop j ws) new (layout_of b) is, len);
+      same = rw add-one (widening_step (take j ws) (drop j ws) new (bare b) (map bare rest') j (sym len) is ∙ h'.same);
+      far = omega (arith, longer (take j ws) (drop j ws) new (bare b) is, len);
       small = small;
     }
 
-pub widening_end : (old : List ℤ) (cells rest : List BoxValue) (j : ℕ) (ws : List ℤ) → Widening old cells rest j ws → rest ≡ [] → ws ≡ widened old (map layout_of cells)
+pub widening_end : (old : List ℤ) (cells rest : List Extents) (j : ℕ) (ws : List ℤ) → Widening old cells rest j ws → rest ≡ [] → ws ≡ widened old (map bare cells)
 widening_end old cells rest j ws h e =
     let h' : Widening old cells [] j ws = subst (λ r. Widening old cells r j ws) e h in
     sym (take-append-drop j ws) ∙ h'.same
 
 -- ---- all rows
 
-pub row_before : (rows : List (List BoxValue)) (i : ℕ) (row : List BoxValue) (ws new : List ℤ) → 0 < i → i ≤ length rows → row ≡ get_or rows (i - 1) row → ws ≡ column_widths (cells_of (drop i rows)) → new ≡ widened ws (map layout_of row) → new ≡ column_widths (cells_of (drop (i - 1) rows))
+pub row_before : (rows : List (List Extents)) (i : ℕ) (row : List Extents) (ws new : List ℤ) → 0 < i → i ≤ length rows → row ≡ get_or rows (i - 1) row → ws ≡ column_widths (bare_rows (drop i rows)) → new ≡ widened ws (map bare row) → new ≡ column_widths (bare_rows (drop (i - 1) rows))
 row_before rows i row ws new low far is e f =
     let back : (i - 1) + 1 ≡ i = omega arith in
     let next : drop (i - 1) rows ≡ row ∷ drop ((i - 1) + 1) rows = next_item rows (i - 1) row (omega arith) is in
@@ -110,26 +112,44 @@ widened_length ws [] = omega arith
 widened_length [] (c ∷ cs) = omega (arith, widened_length [] cs)
 widened_length (w ∷ ws) (c ∷ cs) = omega (arith, widened_length ws cs)
 
-pub layouts_length : (bs : List BoxValue) → length (map layout_of bs) ≡ length bs
-layouts_length [] = refl
-layouts_length (b ∷ bs) = omega (arith, layouts_length bs)
+pub bare_length : (bs : List Extents) → length (map bare bs) ≡ length bs
+bare_length [] = refl
+bare_length (b ∷ bs) = omega (arith, bare_length bs)
 
-pub no_wider : (rows : List (List BoxValue)) (n : ℕ) → All (λ (cells : List BoxValue). length cells ≤ n) rows → length (column_widths (cells_of rows)) ≤ n
+no_wider : (rows : List (List Extents)) (n : ℕ) → All (λ (cells : List Extents). length cells ≤ n) rows → length (column_widths (bare_rows rows)) ≤ n
 no_wider [] n h = omega arith
 no_wider (row ∷ rows) n h =
-    let first : length row ≤ n = All-head (λ (cells : List BoxValue). length cells ≤ n) row rows h in
-    let others = no_wider rows n (All-tail (λ (cells : List BoxValue). length cells ≤ n) row rows h) in
-    omega (arith, widened_length (column_widths (cells_of rows)) (map layout_of row), layouts_length row, first, others)
+    let first : length row ≤ n = All-head (λ (cells : List Extents). length cells ≤ n) row rows h in
+    let others = no_wider rows n (All-tail (λ (cells : List Extents). length cells ≤ n) row rows h) in
+    omega (arith, widened_length (column_widths (bare_rows rows)) (map bare row), bare_length row, first, others)
 
-pub each_fits : (rows : List (List BoxValue)) (n : ℕ) → length (column_widths (cells_of rows)) ≤ n → All (λ (cells : List BoxValue). length cells ≤ n) rows
-each_fits [] n h = All-nil (λ (cells : List BoxValue). length cells ≤ n)
+each_fits : (rows : List (List Extents)) (n : ℕ) → length (column_widths (bare_rows rows)) ≤ n → All (λ (cells : List Extents). length cells ≤ n) rows
+each_fits [] n h = All-nil (λ (cells : List Extents). length cells ≤ n)
 each_fits (row ∷ rows) n h =
-    let l = widened_length (column_widths (cells_of rows)) (map layout_of row) in
-    All-cons (λ (cells : List BoxValue). length cells ≤ n) row rows (omega (arith, l, layouts_length row, h)) (each_fits rows n (omega (arith, l, h)))
+    let l = widened_length (column_widths (bare_rows rows)) (map bare row) in
+    All-cons (λ (cells : List Extents). length cells ≤ n) row rows (omega (arith, l, bare_length row, h)) (each_fits rows n (omega (arith, l, h)))
 
-pub struts_length : (ws : List ℤ) → length (with_struts ws) ≡ length ws
+struts_length : (ws : List ℤ) → length (with_struts ws) ≡ length ws
 struts_length [] = refl
 struts_length (w ∷ ws) = refl
+
+pub struts_few : (rows : List (List Extents)) (n : ℕ) (ws : List ℤ) → ws ≡ with_struts (column_widths (bare_rows rows)) → All (λ (cells : List Extents). length cells ≤ n) rows → length ws ≤ n
+struts_few rows n ws e h =
+    let same : length ws ≡ length (column_widths (bare_rows rows)) = ap (λ xs. length xs) e ∙ struts_length (column_widths (bare_rows rows)) in
+    omega (arith, same, no_wider rows n h)
+
+pub struts_fit : (rows : List (List Extents)) (ws : List ℤ) → ws ≡ with_struts (column_widths (bare_rows rows)) → All (λ (cells : List Extents). length cells ≤ length ws) rows
+struts_fit rows ws e =
+    let same : length ws ≡ length (column_widths (bare_rows rows)) = ap (λ xs. length xs) e ∙ struts_length (column_widths (bare_rows rows)) in
+    each_fits rows (length ws) (omega (arith, same))
+
+pub columns_few : (rows : List (List Extents)) (n : ℕ) (ws : List ℤ) → ws ≡ column_widths (bare_rows rows) → All (λ (cells : List Extents). length cells ≤ n) rows → length ws ≤ n
+columns_few rows n ws e h = rw e (no_wider rows n h)
+
+pub columns_fit : (rows : List (List Extents)) (ws : List ℤ) → ws ≡ column_widths (bare_rows rows) → All (λ (cells : List Extents). length cells ≤ length ws) rows
+columns_fit rows ws e =
+    let same : length ws ≡ length (column_widths (bare_rows rows)) = ap (λ xs. length xs) e in
+    each_fits rows (length ws) (omega (arith, same))
 
 -- the first width is at least that of a strut
 pub struts_set : (ws : List ℤ) (x v : ℤ) → 0 < length ws → x ≡ get_or ws 0 x → v ≡ int_max x (pos 0) → set ws 0 v ≡ with_struts ws
@@ -143,16 +163,11 @@ struts_none ws e = rw e refl
 
 -- ---- how wide they are together
 
--- columns, each with a gap behind it
-abbrev pub reach : ℤ → List ℤ → ℤ
-reach gap [] = pos 0
-reach gap (w ∷ ws) = (w +ℤ gap) +ℤ reach gap ws
-
-reach_is : (gap w : ℤ) (ws : List ℤ) → columns_width gap (w ∷ ws) ≡ reach gap (w ∷ ws) -ℤ gap
+reach_is : (gap w : ℤ) (ws : List ℤ) → columns_width gap (w ∷ ws) ≡ columns_reach gap (w ∷ ws) -ℤ gap
 reach_is gap w [] = omega (arith, ints)
 reach_is gap w (v ∷ ws) =
     let rest : ℤ = columns_width gap (v ∷ ws) in
-    let all : ℤ = reach gap (v ∷ ws) in
+    let all : ℤ = columns_reach gap (v ∷ ws) in
     let ih : rest ≡ all -ℤ gap = reach_is gap v ws in
     behind w gap rest all ih
   where
@@ -160,7 +175,7 @@ reach_is gap w (v ∷ ws) =
     behind w g c r e = omega (arith, ints, e)
 
 pub record Reaching (gap : ℤ) (all rest : List ℤ) (end : ℤ) : Type 0 where
-  pub sum : end +ℤ reach gap rest ≡ reach gap all
+  pub sum : end +ℤ columns_reach gap rest ≡ columns_reach gap all
   pub near : Within (2 ^ 32 * (2 ^ 20 - length rest)) end
   pub few : length rest ≤ 2 ^ 20
 
@@ -184,7 +199,7 @@ pub reaching_more : (gap : ℤ) (all rest rest' : List ℤ) (w end end' : ℤ) �
 reaching_more gap all rest rest' w end end' h e is small gap_small =
     let h' : Reaching gap all (w ∷ rest') end = subst (λ r. Reaching gap all r end) e h in
     record {
-      sum = reach_step end w gap (reach gap rest') (reach gap all) end' is h'.sum;
+      sum = reach_step end w gap (columns_reach gap rest') (columns_reach gap all) end' is h'.sum;
       near = nearer (length rest') (length (w ∷ rest')) end w gap end' (omega arith) h'.few is h'.near small gap_small;
       few = omega (arith, h'.few);
     }
@@ -192,18 +207,18 @@ reaching_more gap all rest rest' w end end' h e is small gap_small =
 pub reaching_small : (gap : ℤ) (all rest : List ℤ) (end : ℤ) → Reaching gap all rest end → Within (2 ^ 52) end
 reaching_small gap all rest end h = record { low = omega (arith, ints, h.near.low, h.few); high = omega (arith, ints, h.near.high, h.few) }
 
-reaching_end : (gap : ℤ) (all rest : List ℤ) (end : ℤ) → Reaching gap all rest end → rest ≡ [] → end ≡ reach gap all
+pub reaching_end : (gap : ℤ) (all rest : List ℤ) (end : ℤ) → Reaching gap all rest end → rest ≡ [] → end ≡ columns_reach gap all
 reaching_end gap all rest end h e =
     let h' : Reaching gap all [] end = subst (λ r. Reaching gap all r end) e h in
-    let s : end +ℤ pos 0 ≡ reach gap all = h'.sum in
+    let s : end +ℤ pos 0 ≡ columns_reach gap all = h'.sum in
     omega (arith, ints, s)
 
-pub reached_none : (gap : ℤ) (all rest : List ℤ) (end : ℤ) → Reaching gap all rest end → rest ≡ [] → all ≡ [] → end ≡ columns_width gap all
-reached_none gap all rest end h e f = reaching_end gap all rest end h e ∙ rw f refl
+pub width_none : (gap : ℤ) (ws : List ℤ) (end : ℤ) → end ≡ columns_reach gap ws → ws ≡ [] → end ≡ columns_width gap ws
+width_none gap ws end e f = e ∙ rw f refl
 
-pub reached_some : (gap : ℤ) (all rest : List ℤ) (end : ℤ) → Reaching gap all rest end → rest ≡ [] → (all ≡ [] → ⊥) → end -ℤ gap ≡ columns_width gap all
-reached_some gap [] rest end h e f = absurd (f refl)
-reached_some gap (w ∷ ws) rest end h e f = ap (λ z. z -ℤ gap) (reaching_end gap (w ∷ ws) rest end h e) ∙ sym (reach_is gap w ws)
+pub width_some : (gap : ℤ) (ws : List ℤ) (end : ℤ) → end ≡ columns_reach gap ws → (ws ≡ [] → ⊥) → end -ℤ gap ≡ columns_width gap ws
+width_some gap [] end e f = absurd (f refl)
+width_some gap (w ∷ ws) end e f = ap (λ z. z -ℤ gap) e ∙ sym (reach_is gap w ws)
 
 pub reaching_item : (gap : ℤ) (ws : List ℤ) (i : ℕ) (d end end' : ℤ) → Reaching gap ws (drop i ws) end → i < length ws → All (Within max_dimen) ws → Within (2 ^ 31) gap → end' ≡ (end +ℤ to_z w64 (of_z w64 (get_or ws i d))) +ℤ gap → Reaching gap ws (drop (i + 1) ws) end'
 reaching_item gap ws i d end end' h lt small gap_small is =

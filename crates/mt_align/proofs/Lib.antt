@@ -1,12 +1,16 @@
+-- lists gone through by items, and layouts of cells one on another
+pub mod Layers
 -- the widths of columns
 pub mod ColumnWidths
--- a row of cells from its pieces
-pub mod Pieces
--- cells pushed one by one
-pub mod Placing
--- rows packed one by one
-pub mod Packing
--- rows one below another, pushed one by one
-pub mod Stacking
+-- rows one below another, gone through downward
+pub mod Rows
+-- the levels of boxes of cells
+pub mod BoxLevels
+-- the marks of boxes, pushed one by one
+pub mod Pushed
+-- cells that become one layout, from the last one on
+pub mod Joining
+-- where the cells of that layout stand
+pub mod Placed
 -- the layouts of both looks
-pub mod Layouts
+pub mod Tables

@@ -1,11 +1,8 @@
--- A row of cells, each in its column (`cells_row`), and the pieces that it is made of (`cell_pieces`, `back_kerns`).
-use Rattle.std.specs.Prelude.{ℕ, ◌+◌, ℤ, pos, neg_ℤ, ◌+ℤ◌, ◌-ℤ◌, List, [], ◌∷◌, ◌++◌}
+-- A row of cells, each in its column (`cells_row`).
+use Rattle.std.specs.Prelude.{ℕ, ◌+◌, ℤ, pos, ◌+ℤ◌, ◌-ℤ◌, List, [], ◌∷◌, ◌++◌}
 use Rattle.std.specs.Int.{int_max}
 use Rattle.mt_box.specs.declared.place.Place.{Place}
-use Rattle.mt_box.specs.declared.piece.Piece.{Piece}
-use Rattle.mt_box.specs.declared.piece.Piece.TheVariants.{Kern}
 use Rattle.mt_box.specs.Layout.{Layout, all_moved}
-use Rattle.mt_box.specs.Rows.{PieceValue, PieceKern, PieceBox}
 use Rattle.mt_rules.specs.Tables.{Cells, cells_height, cells_depth}
 use Rattle.mt_align.specs.declared.look.Look.{Look}
 use Rattle.mt_align.specs.Looks.{inset_of, least_height, least_depth}
@@ -32,21 +29,7 @@ abbrev pub cells_rows : Look → ℤ → ℤ → List ℤ → List Cells → Lis
 cells_rows look gap width widths [] = []
 cells_rows look gap width widths (cells ∷ rows) = cells_row look gap width widths cells ∷ cells_rows look gap width widths rows
 
--- ---- the pieces
-
--- a cell of column j between two kerns: behind them the next column begins
-abbrev pub one_cell : Look → ℤ → ℕ → ℤ → Layout → List PieceValue
-one_cell look gap j w c =
-    let slack = w -ℤ c.extents.width in
-    PieceKern (inset_of look j slack) ∷ PieceBox (pos 0) c ∷ PieceKern ((slack -ℤ inset_of look j slack) +ℤ gap) ∷ []
-
--- the cells from column j on
-abbrev pub cell_pieces : Look → ℤ → ℕ → List ℤ → Cells → List PieceValue
-cell_pieces look gap j widths [] = []
-cell_pieces look gap j [] (c ∷ cs) = []
-cell_pieces look gap j (w ∷ ws) (c ∷ cs) = one_cell look gap j w c ++ cell_pieces look gap (j + 1) ws cs
-
--- back over some columns
-abbrev pub back_kerns : ℤ → List ℤ → List Piece
-back_kerns gap [] = []
-back_kerns gap (w ∷ ws) = Kern (neg_ℤ (w +ℤ gap)) ∷ back_kerns gap ws
+-- how wide columns are, with a gap behind each
+abbrev pub columns_reach : ℤ → List ℤ → ℤ
+columns_reach gap [] = pos 0
+columns_reach gap (w ∷ ws) = (w +ℤ gap) +ℤ columns_reach gap ws

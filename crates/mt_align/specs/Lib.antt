@@ -1,8 +1,12 @@
 -- the layouts of cells, and the level of their table
 pub mod Cells
+-- the cells of a table on marks
+pub mod CellLayers
 -- what differs between a matrix and equations
 pub mod Looks
--- a row of cells, and the pieces that it is made of
+-- a row of cells
 pub mod CellRows
--- rows one below another, and the entries that they are made of
-pub mod TableColumns
+-- rows one below another
+pub mod RowLines
+-- cells that are moved to where they stand and become one layout
+pub mod CellsJoined

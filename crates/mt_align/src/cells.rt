@@ -1,5 +1,6 @@
-//! The cells of a table.
+//! The cells of a table, as boxes and by what they reach.
 
+use mt_box::Extents;
 use mt_rules::PackedList;
 use mt_scaled::Items;
 
@@ -8,3 +9,9 @@ pub type CellRow = PackedList;
 
 /// The rows of a table, from the top downward. Rows may have different numbers of cells.
 pub type CellRows = Items<CellRow>;
+
+/// What the cells of a row of a table reach, from left to right.
+pub type CellExtents = Items<Extents>;
+
+/// What the cells of each row of a table reach, from the top row downward.
+pub type TableExtents = Items<CellExtents>;

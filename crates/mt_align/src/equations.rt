@@ -1,24 +1,16 @@
-//! Equations one below another (plain TeX's \eqalign).
-ghost use Rattle.std.specs.Prelude.{◌≡◌, ◌≤◌, ◌<◌, ◌^◌, ◌+◌, All, length, map, IfOk};
-ghost use Rattle.mt_box.specs.Layout.{layout_of};
+//! Equations one below another as boxes (plain TeX's \eqalign).
+ghost use Rattle.std.specs.Prelude.{◌≡◌, ◌≤◌, ◌^◌, ◌+◌, All, length, IfOk};
 ghost use Rattle.mt_box.specs.Extents.{ExtentsInRange};
-ghost use Rattle.mt_box.specs.Columns.{column_level, entry_values, AllModestEntries};
 ghost use Rattle.mt_rules.specs.Calls.{BoxAnswers};
 ghost use Rattle.mt_rules.specs.Tables.{equations_table};
-ghost use Rattle.mt_align.specs.Cells.{boxes_level, cells_of, table_level};
-ghost use Rattle.mt_align.specs.TableColumns.{equations_entries};
+ghost use Rattle.mt_align.specs.Cells.{cells_of, table_level};
 
-use crate::CellRows;
-use crate::column::{RowColumn, RowsSoFar, stack_rows};
-use crate::look::Look;
-use crate::row::{RowShape, pack_rows};
-use crate::table::centre_column;
-use crate::widths::{column_widths, columns_width};
-use mt_box::{Column, PackError, Packed};
+use crate::levels::level_of_table;
+use crate::pushing::push_rows;
+use crate::{CellRows, equations_on_marks};
+use mt_box::{Marks, PackError, Packed};
 use mt_family::{FontSet, Size};
-use mt_rules::PackedList;
-use mt_scaled::{Length, in_range};
-use std::alloc::{AllocError, Global};
+use std::alloc::Global;
 
 /// Equations one below another, centred on the axis (plain TeX's `\eqalign`; The TeXbook, chapter 19
 /// and Appendix B). The first cell of a row is its left side, the second its right side.
@@ -47,38 +39,8 @@ pub fn align_equations(
     ensures level { IfOk result (λ b. b.level ≡ table_level rows) }
     ensures in_range { IfOk result (λ b. ExtentsInRange b.extents) }
 {
-    let widths = column_widths(alloc, &rows)?;
-    let gap = Length { sp: 0 };
-    let width = columns_width(gap, &widths);
-    if !in_range(width.sp) {
-        return Err(PackError::Overflow(width.sp));
-    }
-    let shape = RowShape {
-        look: Look::Equations,
-        widths,
-        gap,
-        width,
-    };
-    let rows = pack_rows(alloc, &shape, rows)?;
-    let column = equations_column(alloc, rows)?;
-    centre_column(alloc, fonts, size, column)
-}
-
-// The rows alone.
-fn equations_column(alloc: Global, rows: PackedList) -> Result<RowColumn, AllocError>
-    requires few { length rows ≤ 2 ^ 19 }
-    requires levels { All (λ b. b.level < 2 ^ 20) rows }
-    ensures is { IfOk result (λ c. entry_values c.column ≡ equations_entries (map layout_of rows)) }
-    ensures modest { IfOk result (λ c. AllModestEntries c.column) }
-    ensures level { IfOk result (λ c. column_level c.column ≡ boxes_level rows) }
-{
-    let start = RowsSoFar {
-        total: Length { sp: 0 },
-        depth: None,
-    };
-    let stack = stack_rows(alloc, Look::Equations, start, rows)?;
-    Ok(RowColumn {
-        column: Column::from_vec(stack.entries),
-        total: stack.so_far.total,
-    })
+    let mut marks = Marks::new(alloc);
+    let cells = push_rows(alloc, &mut marks, &rows)?;
+    let extents = equations_on_marks(alloc, &mut marks, fonts, size, &cells)?;
+    Ok(marks.top_box(alloc, extents, level_of_table(&rows))?)
 }

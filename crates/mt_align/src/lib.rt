@@ -1,17 +1,22 @@
-//! Matrices and aligned equations as boxes: cells in rows and columns, centred on the axis. The
-//! rules follow plain TeX's `\matrix` and `\eqalign` (The TeXbook, chapters 18 and 19 and Appendix
-//! B).
+//! Matrices and aligned equations: cells in rows and columns, centred on the axis, on marks and as
+//! boxes. The rules follow plain TeX's `\matrix` and `\eqalign` (The TeXbook, chapters 18 and 19
+//! and Appendix B).
 #![tactic(auto)]
 
 mod cells;
-mod column;
 mod equations;
+mod levels;
+mod lines;
 mod look;
+mod marked_equations;
+mod marked_matrix;
 mod matrix;
-mod row;
-mod table;
+mod placing;
+mod pushing;
 mod widths;
 
-pub use cells::{CellRow, CellRows};
+pub use cells::{CellExtents, CellRow, CellRows, TableExtents};
 pub use equations::align_equations;
+pub use marked_equations::equations_on_marks;
+pub use marked_matrix::matrix_on_marks;
 pub use matrix::align_matrix;
