@@ -92,7 +92,7 @@ fn candidate_on_marks(
     }
 }
 
-// The glyph is tested, then its box, whose width has the italic correction.
+// The extents of the glyph are tested, then those of the whole, whose width has the italic correction.
 fn character_on_marks(
     marks: &mut Marks,
     font: &Font,

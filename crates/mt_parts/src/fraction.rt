@@ -18,7 +18,7 @@ use std::alloc::Global;
 /// says how far both are shifted; under a rule of odd thickness the denominator stands 1sp higher. The thickness is at
 /// most 2^40 in size, and the levels of both are at most 2^20 - 4.
 ///
-/// Refused as by [`delimiter_box`] of the left delimiter, then of the right one; then with `Overflow` of the first
+/// Refused as by `delimiter_box` of mt_delim of the left delimiter, then of the right one; then with `Overflow` of the first
 /// number out of range: the rule's thickness, an extent of numerator and denominator together, an extent of the whole;
 /// and with `OutOfMemory`. The rule's width is in range, since the widths of both are.
 pub fn fraction_box(

@@ -6,6 +6,7 @@ ghost use Rattle.std.specs.Ordering.{int_eq};
 ghost use Rattle.mt_scaled.specs.Number.{Within, half_of, max_dimen};
 ghost use Rattle.mt_rules.specs.Styles.{size_of, is_display};
 ghost use Rattle.mt_rules.specs.Parameters;
+ghost use Rattle.mt_box.specs.marks.Recentred.{recentred_extents};
 ghost use Rattle.mt_rules.specs.Fractions;
 
 use mt_box::Extents;
@@ -96,7 +97,7 @@ fn is_as_wide(extents: Extents, width: Length) -> bool
 // What a box reaches that was set in the middle of a width.
 #[tactic(auto, using(std::proofs::lemmas::Int::ints, std::proofs::lemmas::Int::clamps))]
 fn reboxed(extents: Extents, width: Length) -> Extents
-    ensures is { result ≡ Fractions.rebox_extents extents width.sp }
+    ensures is { result ≡ recentred_extents extents width.sp }
     ensures height { Within (2 ^ 40) extents.height → Within (2 ^ 40) result.height }
     ensures depth { Within (2 ^ 40) extents.depth → Within (2 ^ 40) result.depth }
 {

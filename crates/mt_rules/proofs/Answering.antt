@@ -16,7 +16,7 @@ use Rattle.mt_box.proofs.Equalities.{extents_eq, layout_eq}
 use Rattle.mt_rules.specs.declared.part_error.PartError.{PartError}
 use Rattle.mt_rules.specs.Setting.{Setting, SettingFault, Overflow, ◌>>=◌, ◌>>◌, pass_unless, test_rule, make_box}
 use Rattle.mt_rules.specs.Calls.{BoxAnswers, PartAnswers}
-use Rattle.mt_rules.specs.Fractions.{rebox_extents}
+use Rattle.mt_box.specs.marks.Recentred.{recentred_extents}
 
 -- a step that answers leads on
 pub then_ok : {A B : Type 0} (step : Setting A) (a : A) (next : A → Setting B) → step ≡ Ok a → (step >>= next) ≡ next a
@@ -47,10 +47,10 @@ after_rule w w' t t' l l' r e f g h k =
     subst (λ a. PartAnswers r a) (sym same) (subst (λ m. PartAnswers r (make_box m)) g k)
 
 -- reboxing a layout reboxes its extents
-pub rebox-extents : (l : Layout) (width : ℤ) → (rebox l width).extents ≡ rebox_extents l.extents width
+pub rebox-extents : (l : Layout) (width : ℤ) → (rebox l width).extents ≡ recentred_extents l.extents width
 rebox-extents l width = by_width (int_eq l.extents.width width) refl
   where
-    by_width : (same : Bool) → int_eq l.extents.width width ≡ same → (rebox l width).extents ≡ rebox_extents l.extents width
+    by_width : (same : Bool) → int_eq l.extents.width width ≡ same → (rebox l width).extents ≡ recentred_extents l.extents width
     by_width true e = rw e refl
     by_width false e = rw e refl
 

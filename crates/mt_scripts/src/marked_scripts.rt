@@ -1,6 +1,6 @@
 //! Scripts beside a nucleus, on marks (The TeXbook, Appendix G, rule 18; tex.web §756 to §759).
 ghost use Rattle.std.specs.Int.{int_max};
-ghost use Rattle.std.specs.Prelude.{◌≡◌, ◌^◌, ◌+ℤ◌, ◌∷◌, pos, Some, None, neg_ℤ, IfOk, OnOk, List};
+ghost use Rattle.std.specs.Prelude.{◌≡◌, ◌^◌, ◌+ℤ◌, ◌∷◌, pos, Some, None, neg_ℤ, IfOk, IsErrOf, OnOk, List};
 ghost use Rattle.mt_scaled.specs.Number.{Within};
 ghost use Rattle.mt_box.specs.declared.place.Place.{Place};
 ghost use Rattle.mt_box.specs.Extents.{ExtentsInRange};
@@ -26,7 +26,9 @@ const SCRIPT_SPACE: i64 = 32768;
 /// What a nucleus reaches that has scripts, and whether it begins with a glyph.
 #[derive(Clone, Copy)]
 pub struct Nucleus {
+    /// What its row reaches.
     pub extents: Extents,
+    /// Whether its row begins with a glyph.
     pub glyph: bool,
 }
 
@@ -59,11 +61,14 @@ fn widened(script: Extents) -> Result<Extents, PackError>
     ensures is { (ps : List Place)
         → BoxSetsOn result ps (make_box (Scripts.widened_script (layout_with script ps))) }
     ensures in_range { IfOk result ExtentsInRange }
+    ensures known { IsErrOf result PackError.OutOfMemory → ⊥ }
 {
     tested_extents(wider(script))
 }
 
-/// The superscript on top, made wider: what it reaches beside the nucleus, and its raise.
+/// A superscript alone, made wider: what it reaches beside the nucleus, and its raise. Its marks are where they are.
+///
+/// Refused with `Overflow` of its new width, and never with `OutOfMemory`.
 #[tactic(auto, unfolding(mt_rules::specs::Scripts::row_with_scripts))]
 pub fn sup_on_marks(
     fonts: &FontSet,
@@ -77,6 +82,7 @@ pub fn sup_on_marks(
         → RowSetsOn row result ps (Scripts.row_with_scripts fonts.now style row (pos 0)
         (Some (layout_with sup ps)) None) }
     ensures near { IfOk result IsNear }
+    ensures known { IsErrOf result PackError.OutOfMemory → ⊥ }
     ensures in_range { IfOk result (λ p. ExtentsInRange p.extents) }
     ensures low { ReachesWithin (2 ^ 33) nucleus.extents → IfOk result (λ p. Within (2 ^ 38) p.raise) }
 {
@@ -88,7 +94,9 @@ pub fn sup_on_marks(
     })
 }
 
-/// The subscript on top, made wider: what it reaches beside the nucleus, and its raise.
+/// A subscript alone, made wider: what it reaches beside the nucleus, and its raise. Its marks are where they are.
+///
+/// Refused with `Overflow` of its new width, and never with `OutOfMemory`.
 #[tactic(auto, unfolding(mt_rules::specs::Scripts::row_with_scripts))]
 pub fn sub_on_marks(
     fonts: &FontSet,
@@ -102,6 +110,7 @@ pub fn sub_on_marks(
         → RowSetsOn row result ps (Scripts.row_with_scripts fonts.now style row (pos 0)
         None (Some (layout_with sub ps))) }
     ensures near { IfOk result IsNear }
+    ensures known { IsErrOf result PackError.OutOfMemory → ⊥ }
     ensures in_range { IfOk result (λ p. ExtentsInRange p.extents) }
     ensures low { ReachesWithin (2 ^ 33) nucleus.extents → IfOk result (λ p. Within (2 ^ 38) p.raise) }
 {

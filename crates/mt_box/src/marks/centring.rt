@@ -7,6 +7,7 @@ ghost use Rattle.mt_box.specs.Extents.{ExtentsInRange};
 ghost use Rattle.mt_box.specs.marks.Recentred.{recentred_extents, recentred_layer};
 
 use crate::Extents;
+use crate::boxes::{extents_of_width, inset, is_as_wide};
 use crate::marks::inks::Move;
 use crate::marks::stack::Marks;
 use mt_scaled::Length;
@@ -26,45 +27,23 @@ pub fn recentre_layer(
     ensures marks { OnOk result (marks.new ≡ recentred_layer under extents width.sp marks.old) }
     ensures in_range { IfOk result ExtentsInRange }
 {
-    if is_as_wide(extents, width) {
+    if is_as_wide(extents, width.sp) {
         return Ok(extents);
     }
-    marks.shift(under, inset(extents, width))?;
-    Ok(of_width(extents, width))
-}
-
-#[tactic(auto, using(std::proofs::lemmas::Int::ints))]
-fn is_as_wide(extents: Extents, width: Length) -> bool
-    ensures { result ≡ int_eq extents.width width.sp }
-{
-    extents.width == width.sp
+    marks.shift(under, way_to_the_middle(extents, width))?;
+    Ok(extents_of_width(extents, width.sp))
 }
 
 // How far right a layout is moved to stand in the middle of a width.
 #[tactic(auto, using(std::proofs::lemmas::Int::ints))]
-fn inset(extents: Extents, width: Length) -> Move
+fn way_to_the_middle(extents: Extents, width: Length) -> Move
     requires extents { ExtentsInRange extents }
     requires width { Within max_dimen width.sp }
     ensures right { result.right ≡ half_of (width.sp -ℤ extents.width) }
     ensures up { result.up ≡ pos 0 }
 {
     Move {
-        right: width.minus(Length { sp: extents.width }).half().sp,
+        right: inset(extents, width.sp).x,
         up: 0,
-    }
-}
-
-#[tactic(auto, using(std::proofs::lemmas::Int::ints, std::proofs::lemmas::Int::clamps))]
-fn of_width(extents: Extents, width: Length) -> Extents
-    requires extents { ExtentsInRange extents }
-    requires width { Within max_dimen width.sp }
-    ensures width { result.width ≡ width.sp }
-    ensures height { result.height ≡ int_max (pos 0) extents.height }
-    ensures depth { result.depth ≡ int_max (pos 0) extents.depth }
-{
-    Extents {
-        width: width.sp,
-        height: extents.height.max(0),
-        depth: extents.depth.max(0),
     }
 }

@@ -15,7 +15,7 @@ use crate::point::Point;
 use crate::{Extents, Mark, Node, Packed};
 use std::alloc::{AllocError, Global};
 
-// Puts the marks of a box after others, where they stand from its reference point. Want of memory is also answered where
+// Puts the marks of a box after others, at their offsets from its reference point. Want of memory is also answered where
 // a mark stands 2^63 scaled points or more from there; some of them are put then.
 pub(crate) fn put_inks(alloc: Global, inks: &mut Vec<Ink>, body: &Packed) -> Result<(), AllocError>
     ensures front { take (length inks.old.items) inks.new.items ≡ inks.old.items }

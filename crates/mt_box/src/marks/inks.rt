@@ -8,7 +8,9 @@ use std::alloc::AllocError;
 /// How far a layout is moved to the right and up, in scaled points.
 #[derive(Clone, Copy, Debug, PartialEq, Eq)]
 pub struct Move {
+    /// To the right, in scaled points.
     pub right: i64,
+    /// Up, in scaled points.
     pub up: i64,
 }
 
@@ -37,7 +39,7 @@ fn moved(ink: Ink, by: Move) -> Result<Ink, AllocError>
     Ok(Ink { h, v, ..ink })
 }
 
-// The marks from `middle` on before the others.
+// Puts the marks from `middle` on before the others.
 pub(crate) fn turn(inks: &mut [Ink], middle: usize)
     requires { middle ≤ length inks.old }
     ensures is { inks.new ≡ drop middle inks.old ++ take middle inks.old }

@@ -14,13 +14,16 @@ use std::alloc::AllocError;
 /// What a layout in a row reaches from its reference point, and how far it is raised above the row's baseline.
 #[derive(Clone, Copy, Debug, PartialEq, Eq)]
 pub struct RowPiece {
+    /// From its reference point, in scaled points.
     pub extents: Extents,
+    /// Above the baseline of the row, in scaled points.
     pub raise: i64,
 }
 
 /// A part of a row: a layout, or a gap between others.
 #[derive(Clone, Copy, Debug, PartialEq, Eq)]
 pub enum RowPart {
+    /// A layout, whose marks are those of a layer.
     Layout(RowPiece),
     /// So many scaled points to the right.
     Gap(i64),
@@ -120,7 +123,8 @@ fn gap_reach(width: i64) -> Extents
     }
 }
 
-// The layout on top becomes the row of the layouts under it and of itself, which begins behind their widths.
+// The empty layout on top takes the layouts under it, from the last part of the row to the first: each is moved to where
+// its part begins, and joined with what is on top.
 fn join_parts(marks: &mut Marks, parts: &[RowPart], row: Extents) -> Result<(), AllocError>
     requires few { length parts.now ≤ 2 ^ 21 }
     requires near { AllNearParts parts.now }

@@ -13,7 +13,7 @@ use crate::{Extents, Packed};
 use std::alloc::{AllocError, Global};
 use std::marker::Model;
 
-/// The marks of layouts one on another. Contracts see the places of each, from the top one's.
+/// The marks of layouts one on another. Contracts see the places of each layout, those of the top one first.
 ///
 /// Want of memory is also answered where a mark would stand 2^63 scaled points or more from its reference point.
 #[derive(Drop)]
@@ -109,7 +109,7 @@ impl Marks {
         put_inks(alloc, &mut self.inks, body)
     }
 
-    /// The box of the top layout with these extents, which are in range. The layouts stay.
+    /// The box of the top layout with these extents, which are in range, and this level, from 1 to 2^20. The layouts stay.
     pub fn top_box(&self, alloc: Global, extents: Extents, level: u32) -> Result<Packed, AllocError>
         requires extents { ExtentsInRange extents }
         requires level { level ≤ 2 ^ 20 }
