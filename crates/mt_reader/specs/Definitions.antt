@@ -2,7 +2,7 @@
 use Rattle.std.specs.Prelude.{ℕ, ◌+◌, ◌-◌, ◌==◌, nat_lt, Bool, true, false, ◌&&◌, List, [], ◌∷◌, length, Option, Some, None, if◌then◌else◌}
 use Rattle.mt_token.specs.declared.token.Token.{Token}
 use Rattle.mt_token.specs.declared.token.TokenKind.{TokenKind}
-use Rattle.mt_token.specs.declared.token.TokenKind.TheVariants.{Control, Char, Space}
+use Rattle.mt_token.specs.declared.token.TokenKind.TheVariants.{Control}
 use Rattle.mt_token.specs.Character.{character_code}
 use Rattle.mt_macro.specs.Braces.{Taken, group, is_open}
 use Rattle.mt_macro.specs.Parameters.{is_hash, first_bad_parameter}
@@ -59,8 +59,7 @@ definition_of_name name rest = then_read (parameters 0 rest) (definition_body na
 
 abbrev pub definition_by_kind : TokenKind → List Token → ReadOr OutsideCause MacroDefinition
 definition_by_kind (Control name) rest = definition_of_name name rest
-definition_by_kind (Char c) rest = Fault BadDefinition (length rest + 1)
-definition_by_kind Space rest = Fault BadDefinition (length rest + 1)
+definition_by_kind _ rest = Fault BadDefinition (length rest + 1)
 
 -- what follows \def: a control token, parameters, and a body between braces
 abbrev pub macro_definition : List Token → ReadOr OutsideCause MacroDefinition

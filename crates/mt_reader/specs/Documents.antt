@@ -9,7 +9,7 @@ use Rattle.mt_macro.specs.declared.definition.MacroError.{MacroError}
 use Rattle.mt_macro.specs.Braces.{Taken}
 use Rattle.mt_macro.specs.Table.{Table}
 use Rattle.mt_macro.specs.Definition.{define}
-use Rattle.mt_macro.specs.Expansion.{Expansion, Expanded, OverBudget, NoArgument, NoPartner, ListTooLong, expansion}
+use Rattle.mt_macro.specs.Expansion.{Expansion, Expanded, expansion}
 use Rattle.mt_scaled.specs.declared.unit.Units.{Units}
 use Rattle.mt_plain.specs.CodeTables.{CodeTables}
 use Rattle.mt_scan.specs.declared.fault.ReadCause.{ReadCause}
@@ -137,10 +137,7 @@ module _ (units : Units) where
         | true ↦ Stops (TooManyTokens (s.count + 1) total)
         | false ↦ after_reading s display total rest (reading s.tables units display list)
       ]
-  after_expansion s display rest (OverBudget steps n) = Stops (NotExpanded (s.count + 1) (OverBudget steps n))
-  after_expansion s display rest (NoArgument place) = Stops (NotExpanded (s.count + 1) (NoArgument place))
-  after_expansion s display rest (NoPartner place) = Stops (NotExpanded (s.count + 1) (NoPartner place))
-  after_expansion s display rest ListTooLong = Stops (NotExpanded (s.count + 1) ListTooLong)
+  after_expansion s display rest outcome = Stops (NotExpanded (s.count + 1) outcome)
 
   abbrev pub formula_in : DocumentState → Bool → ℕ → Option Taken → DocumentTurn
   formula_in s display left None = outside_fault s causes.OpenFormula left
