@@ -8,6 +8,8 @@ pub mod Finding
 pub mod Clamps
 -- lines one below another
 pub mod Lining
+-- lines that are given as boxes
+mod LineBoxes
 -- faults of the steps of a part
 pub mod Faults
 -- a body under a radical sign

@@ -1,5 +1,7 @@
--- lines one below another as a column
+-- lines one below another
 pub mod LineColumns
+-- lines one below another on marks
+pub mod LineLayers
 -- a body under a rule
 pub mod RuledBodies
 -- a layout with another width

@@ -1,21 +1,13 @@
--- Lines one below another as entries of a column (`line_entries`), and their level (`boxes_level`).
+-- Lines one below another: the gaps before them (`gap_before`), and their level (`boxes_level`).
 use Rattle.std.specs.Prelude.{ℕ, ◌+◌, max, ℤ, pos, List, [], ◌∷◌, Option, Some, None}
 use Rattle.mt_scaled.specs.declared.length.Length.{Length}
-use Rattle.mt_box.specs.Layout.{BoxValue, Layout}
-use Rattle.mt_box.specs.Columns.{EntryValue, EntryBox, EntryKern}
+use Rattle.mt_box.specs.Layout.{BoxValue}
 use Rattle.mt_rules.specs.Vcenter.{line_gap}
 
 -- the gap before a line of this height, after one of this depth; the first line has none
 abbrev pub gap_before : Option ℤ → ℤ → ℤ
 gap_before None height = pos 0
 gap_before (Some depth) height = line_gap depth height
-
--- the lines after one of this depth, each after its gap
-abbrev pub line_entries : Option ℤ → List Layout → List EntryValue
-line_entries depth [] = []
-line_entries depth (l ∷ ls) =
-    EntryKern (gap_before depth l.extents.height) ∷ EntryBox (pos 0) l
-    ∷ line_entries (Some l.extents.depth) ls
 
 abbrev pub depth_value : Option Length → Option ℤ
 depth_value None = None
