@@ -6,5 +6,7 @@ pub mod LineLayers
 pub mod RuledBodies
 -- a layout with another width
 pub mod Widths
+-- a radical with its degree, packed
+pub mod PackedRoots
 -- kerns that are tested
 pub mod KernTests

@@ -1,23 +1,17 @@
 //! A radical with its degree (plain TeX's \root; The TeXbook, chapter 16 and Appendix B).
-ghost use Rattle.std.specs.Prelude.{◌≡◌, ◌<◌, ◌^◌, ◌+◌, ◌-ℤ◌, ◌∷◌, [], length, max, pos, IfOk};
+ghost use Rattle.std.specs.Prelude.{◌≡◌, ◌<◌, ◌^◌, ◌+◌, ◌∷◌, [], length, max, pos, IfOk};
 ghost use Rattle.mt_scaled.specs.Number.{Within, max_dimen};
 ghost use Rattle.mt_box.specs.Layout.{layout_of};
-ghost use Rattle.mt_box.specs.Extents.{ExtentsInRange};
 ghost use Rattle.mt_box.specs.Rows.{PieceBox, PieceKern, piece_values, row_level, AllModest};
 ghost use Rattle.mt_rules.specs.Calls.{RowAnswers};
-ghost use Rattle.mt_rules.specs.Roots.{degree_raise, root_row as row_of_root};
-ghost use Rattle.mt_parts.specs.KernTests.{TestsKern};
+ghost use Rattle.mt_rules.specs.Roots.{root_row as row_of_root};
 
-use mt_box::{Extents, PackError, Packed, Piece, Row};
+use crate::marked_root::{RootKerns, raise_of_degree, root_kerns};
+use mt_box::{PackError, Packed, Piece, Row};
 use mt_family::FontSet;
-use mt_rules::{Style, in_points};
-use mt_scaled::{Length, in_range, xn_over_d};
+use mt_rules::Style;
+use mt_scaled::Length;
 use std::alloc::{AllocError, Global};
-
-// The kern before the degree, 5mu, in 65536ths of a math unit.
-const BEFORE_DEGREE: Length = Length { sp: 327680 };
-// The kern behind it, -10mu.
-const BEHIND_DEGREE: Length = Length { sp: -655360 };
 
 /// A radical with its degree: a kern of 5mu, the degree, raised by 0.6 of the radical's height less its depth, a kern
 /// of -10mu, the radical. The math units are those of the style. The level of each box is below 2^20.
@@ -37,58 +31,14 @@ pub fn root_row(
     ensures modest { IfOk result AllModest }
     ensures level { IfOk result (λ row. row_level row ≡ max degree.level radical.level + 1) }
 {
-    let before = tested_kern(in_points(fonts, style, BEFORE_DEGREE))?;
-    let behind = tested_kern(in_points(fonts, style, BEHIND_DEGREE))?;
+    let kerns = root_kerns(fonts, style)?;
     let raise = raise_of_degree(radical.extents());
-    let kerns = Kerns { before, behind };
     Ok(row_with_degree(alloc, kerns, raise, degree, radical)?)
-}
-
-// A kern that is in range.
-fn tested_kern(amount: Length) -> Result<Length, PackError>
-    ensures is { TestsKern result amount.sp }
-    ensures in_range { IfOk result (λ kern. Within max_dimen kern.sp) }
-{
-    if !in_range(amount.sp) {
-        return Err(PackError::Overflow(amount.sp));
-    }
-    Ok(amount)
-}
-
-// The kerns round a degree.
-#[derive(Clone, Copy)]
-struct Kerns {
-    before: Length,
-    behind: Length,
-}
-
-// How much more height than depth it has.
-#[tactic(auto, using(std::proofs::lemmas::Int::ints))]
-fn height_less_depth(radical: Extents) -> Length
-    requires { ExtentsInRange radical }
-    ensures is { result.sp ≡ radical.height -ℤ radical.depth }
-    ensures small { Within (2 ^ 31) result.sp }
-{
-    Length {
-        sp: radical.height - radical.depth,
-    }
-}
-
-// How far a degree is raised: 0.6 of what the radical has more height than depth.
-#[tactic(auto, using(std::proofs::lemmas::Int::ints))]
-fn raise_of_degree(radical: Extents) -> Length
-    requires { ExtentsInRange radical }
-    ensures is { result.sp ≡ degree_raise radical }
-    ensures small { Within (2 ^ 31) result.sp }
-{
-    Length {
-        sp: xn_over_d(height_less_depth(radical).sp, 39322, 65536),
-    }
 }
 
 fn row_with_degree(
     alloc: Global,
-    kerns: Kerns,
+    kerns: RootKerns,
     raise: Length,
     degree: Packed,
     radical: Packed,
