@@ -1,5 +1,5 @@
 -- The layouts of cells that are moved to where they stand and become one, from the last one on.
-use Rattle.std.proofs.Common.{◌≡◌, ℕ, zero, suc, ◌≤◌, ◌<◌, ◌+◌, ◌-◌, ◌*◌, ◌^◌, List, [], ◌∷◌, length, take, drop, get_or, ℤ, pos, ◌+ℤ◌, ◌-ℤ◌, refl, arith, sym, ◌∙◌, ap, subst, w64, to_z, of_z}
+use Rattle.std.proofs.Common.{◌≡◌, ℕ, zero, suc, ◌≤◌, ◌<◌, ◌+◌, ◌-◌, ◌*◌, ◌^◌, List, [], ◌∷◌, length, take, drop, get_or, ℤ, pos, ◌+ℤ◌, ◌-ℤ◌, arith, sym, ◌∙◌, ap, subst, w64, to_z, of_z}
 use Rattle.std.proofs.lemmas.Int.{ints}
 use Rattle.std.proofs.lemmas.List.{length-take-le}
 use Rattle.std.proofs.lemmas.List.Elements.{All-head, All-tail, All-take, All-get_or}
@@ -13,7 +13,8 @@ use Rattle.mt_align.specs.Looks.{inset_of}
 use Rattle.mt_align.specs.CellRows.{columns_reach}
 use Rattle.mt_align.specs.CellsJoined.{cells_joined, rows_joined}
 use Rattle.mt_align.proofs.ColumnWidths.{kept}
-use Rattle.mt_align.proofs.Layers.{item_next}
+use Rattle.mt_align.proofs.Items.{item_next, same_item}
+use Rattle.mt_align.proofs.Rows.{kept_drop}
 
 -- ---- the cells of a row
 
@@ -50,11 +51,6 @@ back_edge a b w g e p q = omega (arith, ints, p, q)
 
 edge_forth : (e e' w g : ℤ) → e' ≡ e -ℤ (w +ℤ g) → e' +ℤ (w +ℤ g) ≡ e
 edge_forth e e' w g p = omega (arith, ints, p)
-
-same_item : {A : Type 0} (xs : List A) (i : ℕ) (d : A) → i < length xs → get_or xs i d ≡ get_or xs i (get_or xs i d)
-same_item [] i d lt = absurd (omega (arith, lt))
-same_item (x ∷ xs) zero d lt = refl
-same_item (x ∷ xs) (suc i) d lt = same_item xs i d (omega (arith, lt))
 
 joining_more : (look : Look) (gap y : ℤ) (ws : List ℤ) (cells : List Extents) (j : ℕ) (w : ℤ) (c : Extents) (edge edge' x : ℤ) (old now now' : List (List Place)) → JoiningCells look gap y ws cells j edge old now → 0 < j → length cells ≤ length ws
     → w ≡ get_or ws (j - 1) w → c ≡ get_or cells (j - 1) c → edge' ≡ edge -ℤ (w +ℤ gap) → x ≡ edge' +ℤ inset_of look (j - 1) (w -ℤ c.width) → now' ≡ joined (moved_layer 1 x y now) → JoiningCells look gap y ws cells (j - 1) edge' old now'
@@ -102,9 +98,6 @@ rows_more look gap y ws ds rows i d v cells old now now' h low far same is_d is_
     ∙ (ap (λ z. cells_joined look gap z 0 (pos 0) ws cells now) is_v
     ∙ (ap (λ ls. cells_joined look gap (y -ℤ d) 0 (pos 0) ws cells ls) h
     ∙ (ap (λ rs. rows_joined look gap y ws (d ∷ drop i ds) rs old) (sym next_c) ∙ ap (λ xs. rows_joined look gap y ws xs (drop (i - 1) rows) old) (sym next_d))))
-
-kept_drop : (y : ℤ) → Within (2 ^ 54) y → to_z w64 (of_z w64 y) ≡ y
-kept_drop y h = omega (arith, ints, h.low, h.high)
 
 -- one more of them
 pub rows_item : (look : Look) (gap y : ℤ) (ws ds : List ℤ) (rows : List (List Extents)) (i : ℕ) (d v : ℤ) (cells : List Extents) (old now now' : List (List Place)) → now ≡ rows_joined look gap y ws (drop i ds) (drop i rows) old → 0 < i → i ≤ length rows → length ds ≡ length rows → All (Within (2 ^ 54)) ds

@@ -175,9 +175,6 @@ cells_deep (c ∷ cs) h =
     let others = cells_deep cs (All-tail ExtentsInRange c.extents (cell_extents cs) h) in
     record { low = omega (arith, ints, clamps, first.low, others.low); high = omega (arith, ints, clamps, first.high, others.high) }
 
-greater_in_range : (x y : ℤ) → Within max_dimen x → Within max_dimen y → Within max_dimen (int_max x y)
-greater_in_range x y h k = record { low = omega (arith, ints, clamps, h.low, k.low); high = omega (arith, ints, clamps, h.high, k.high) }
-
 pub row_in_range : (look : Look) (gap width : ℤ) (ws : List ℤ) (cs : Cells) → Within max_dimen width → Within max_dimen (line_height look []) → Within max_dimen (line_depth look []) → All ExtentsInRange (cell_extents cs) → ExtentsInRange (cells_row look gap width ws cs).extents
 row_in_range look gap width ws cs h k l range = record {
   width = h;

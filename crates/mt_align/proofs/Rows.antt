@@ -120,7 +120,7 @@ drop_near m t g h y few is a b c = record {
   high = omega (arith, ints, a.high, b.high, c.high, is, few);
 }
 
-kept_drop : (y : ℤ) → Within (2 ^ 54) y → to_z w64 (of_z w64 y) ≡ y
+pub kept_drop : (y : ℤ) → Within (2 ^ 54) y → to_z w64 (of_z w64 y) ≡ y
 kept_drop y h = omega (arith, ints, h.low, h.high)
 
 pub down_more : (look : Look) (above : ℤ) (before : Option ℤ) (rows rest rest' : List (List Extents)) (cells : List Extents) (drops drops' : List ℤ) (total y g h d : ℤ) (depth : Option Length) → GoingDown look above before rows rest drops total depth → rest ≡ cells ∷ rest'

@@ -2,7 +2,7 @@ use Rattle.std.proofs.Common.{sym}
 use Rattle.std.proofs.lemmas.List.Elements.{All-get_or}
 use Rattle.std.proofs.lemmas.List.{drop_all}
 use Rattle.mt_box.specs.Extents.{ExtentsInRange}
-use Rattle.mt_align.proofs.Layers.{item_next}
+use Rattle.mt_align.proofs.Items.{item_next}
 use Rattle.mt_align.proofs.Rows.{lining_start, lining_more, lining_end}
 use Rattle.mt_align.proofs.lines.line_of.Goals as goal
 

@@ -1,5 +1,5 @@
 use Rattle.std.proofs.Common.{◌+◌, ap}
-use Rattle.mt_align.proofs.Layers.{item_next}
+use Rattle.mt_align.proofs.Items.{item_next}
 use Rattle.mt_align.proofs.ColumnWidths.{widening_more}
 use Rattle.mt_align.proofs.widths.widen.Goals as goal
 
