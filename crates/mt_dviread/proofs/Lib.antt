@@ -18,3 +18,5 @@ pub mod Sizes
 pub mod Decoded
 -- one definition of a font more
 pub mod DefinedLemmas
+-- the opcodes of runs
+pub mod Runs

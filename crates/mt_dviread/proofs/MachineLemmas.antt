@@ -1,21 +1,23 @@
 -- What the reader's machine keeps, and what operations do to it.
 use Rattle.std.proofs.Common.{◌≡◌, ℕ, ◌+◌, ◌-◌, ◌≤◌, List, [], ◌∷◌, ◌++◌, length, map, reverse, refl, ◌∙◌, ap, arith}
-use Rattle.std.specs.Prelude.{ℤ, None, Ok, Err, Bool, true, false, nat_le}
+use Rattle.std.specs.Prelude.{ℤ, None, Some, Ok, Err, Bool, true, false, nat_le}
 use Rattle.std.specs.List.{slice_get}
 use Rattle.std.proofs.lemmas.Bool.Decides.{nat_tests}
 use Rattle.std.proofs.lemmas.Option.{slice_get_past}
-use Rattle.mt_tfm.specs.Font.{Metrics, exists}
+use Rattle.mt_tfm.specs.Font.{Metrics, exists, width_of}
 use Rattle.mt_dviread.specs.declared.operation.Operation.{Operation}
 use Rattle.mt_dviread.specs.declared.operation.Operation.TheVariants as operations
 use Rattle.mt_dviread.specs.declared.operation.Register.{Register}
 use Rattle.std.proofs.lemmas.List.{length-map, reverse-append, length-reverse}
 use Rattle.mt_family.specs.SetValue.{SetValue}
 use Rattle.mt_dvi.specs.Codes as codes
+use Rattle.mt_dvi.specs.Fonts.{metrics_at}
 use Rattle.mt_dvi.specs.Machine as machine
 use Rattle.mt_dvi.specs.Machine.{Machine, Effects, is_outside, is_far, without_place}
+use Rattle.mt_dviread.specs.declared.cause.Cause.{Cause}
 use Rattle.mt_dviread.specs.declared.machine.Registers.{Registers}
 use Rattle.mt_dviread.specs.inner.Operations.{IsOperation}
-use Rattle.mt_dviread.specs.inner.Performs.{registers_of, registers_with, registers_moved, are_outside, with_registers, seen}
+use Rattle.mt_dviread.specs.inner.Performs.{MovesMachine, Performs, registers_of, registers_with, registers_moved, are_outside, with_registers, seen}
 
 -- the registers that are kept are in range
 pub near : (r : Registers) → are_outside (registers_of r) ≡ false
@@ -87,3 +89,11 @@ no_char m c few large =
     let past : slice_get m.chars (c - m.first) ≡ None = slice_get_past m.chars (c - m.first) (omega arith) in
     let after : nat_le m.first c ≡ true = grind (arith, nat_tests) in
     rw (after, past) refl
+
+-- a character whose right end is out of range
+pub mark_far : (fonts : SetValue) (m new : Machine) (put : Bool) (code n : ℕ) (metrics : Metrics) (width : ℤ) (cause : Cause) → m.font ≡ Some n → metrics_at fonts n ≡ Some metrics → exists metrics code ≡ true → width ≡ width_of metrics code
+    → MovesMachine (Err cause) new (machine.after_place put m width) → Performs (Err cause) new (machine.glyph_effect fonts m put code m.font)
+mark_far fonts m new put code n metrics width cause font known there wide moves =
+    let far : is_outside (machine.after_place put m (width_of metrics code)) ≡ true = rw wide at moves.1 in
+    let one : machine.glyph_effect fonts m put code m.font ≡ machine.glyph_of_font m put code n (Some metrics) = ap (machine.glyph_effect fonts m put code) font ∙ ap (machine.glyph_of_font m put code n) known in
+    rw (moves.0, one, there, far) refl

@@ -1,11 +1,12 @@
 -- What an operation does to the pages of a file (`Changes`), and which deed that is (`deed_of`).
-use Rattle.std.specs.Prelude.{◌≡◌, ℕ, ◌+◌, List, [], ◌∷◌, ◌++◌, map, Option, Some, None, ◌⊎◌, ◌≤◌, ◌^◌, nat_abs, false, IfSome}
+use Rattle.std.specs.Prelude.{◌≡◌, ℕ, ◌+◌, List, [], ◌∷◌, ◌++◌, map, Option, Some, None, ◌⊎◌, ◌≤◌, ◌<◌, ◌^◌, nat_abs, false, IfSome}
 use Rattle.mt_box.specs.declared.place.Place.{Place}
 use Rattle.mt_box.specs.declared.place.Place.TheVariants.{Glyph, Rule}
 use Rattle.mt_dvi.specs.Codes.{Operation, Bop, Eop, Define, Select}
 use Rattle.mt_dvi.specs.File.{File, Page, Phase, InPage, BetweenPages, AfterPost}
 use Rattle.mt_dvi.specs.Machine.{WrittenPlace, is_far}
 use Rattle.mt_dviread.specs.declared.deed.Deed.{Deed}
+use Rattle.mt_dviread.specs.declared.deed.Mark.{Mark}
 use Rattle.mt_dviread.specs.declared.deed.Deed.TheVariants.{Passes, BeginsPage, EndsPage, Selects, Performs}
 
 abbrev pub deed_in_page : Operation → Option Place → Deed
@@ -47,6 +48,10 @@ count_with count (Some place) = count + 1
 abbrev pub IsNear : Place → Type 0
 IsNear (Glyph n code h v) = (is_far h ≡ false) × (is_far v ≡ false)
 IsNear (Rule h v height width) = (is_far h ≡ false) × (is_far v ≡ false) × (nat_abs width ≤ 2 ^ 31)
+
+-- the edges of a place are small
+abbrev pub IsSmallMark : Mark → Type 0
+IsSmallMark mark = (nat_abs mark.right < 2 ^ 32) × (nat_abs mark.lower < 2 ^ 32)
 
 abbrev pub IsNearDeed : Deed → Type 0
 IsNearDeed deed = IfSome (place_filled deed) IsNear

@@ -25,6 +25,7 @@ impl Coordinate {
     }
 
     /// The coordinate so much further to the right or below, if it is in range.
+    #[inline(always)]
     pub fn plus(self, by: i64) -> Option<Coordinate>
         requires { nat_abs by < 4294967296 }
         ensures { option_map (λ (c : Coordinate). c.sp) result ≡ in_reach (self.sp +ℤ by) }

@@ -16,3 +16,14 @@ pub enum Deed {
     /// Any other operation of the page, with the place that it fills, if any.
     Performs(Option<Place>),
 }
+
+/// A place that a character fills, and how far it reaches, in scaled points.
+#[derive(Clone, Copy, Debug, PartialEq, Eq)]
+pub struct Mark {
+    /// The place.
+    pub place: Place,
+    /// Where it ends to the right of the page's origin.
+    pub right: i64,
+    /// Where it ends below the page's origin.
+    pub lower: i64,
+}

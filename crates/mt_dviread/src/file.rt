@@ -27,6 +27,7 @@ use crate::machine::Machine;
 use crate::number::{front, past};
 use crate::operands::operand_size;
 use crate::operation::{Definition, Operation, Postamble, Preamble, decode};
+use crate::run::RunOpcode;
 use mt_box::Place;
 use mt_dvi::MAX_PLACES;
 use mt_dvi::opcode::{IDENTIFIER, PADDING};
@@ -56,19 +57,19 @@ pub enum Phase {
 #[derive(Drop)]
 pub struct OpenFile<'a> {
     // The offset of the next opcode, and the bytes from there on.
-    at: usize,
-    rest: &'a [u8],
-    phase: Phase,
+    pub(crate) at: usize,
+    pub(crate) rest: &'a [u8],
+    pub(crate) phase: Phase,
     // The magnification of pre.
     mag: i32,
     definitions: Definitions<'a>,
     // The number of pages that have ended.
     page_count: usize,
-    machine: Machine,
+    pub(crate) machine: Machine,
     // The offset of the last bop, -1 where there is none.
     last: i64,
     // The greatest depth of the stack so far.
-    deepest: usize,
+    pub(crate) deepest: usize,
     // The number of places so far.
     pub(crate) place_count: u64,
     // The offset of post.
@@ -152,8 +153,40 @@ impl<'a> OpenFile<'a> {
     /// # Errors
     ///
     /// The fault of this opcode, with its offset. `OutOfMemory` where memory ran out.
-    #[inline(always)]
+    #[inline(never)]
     pub fn next(&mut self, alloc: Global, fonts: &FontSet) -> Result<Option<Deed>, DviError>
+        requires within { IsWithin self.old }
+        ensures turns { (file : files.File) → Sees fonts.now self.old file
+            → Turns fonts.now file self.old.rest.now result self.new }
+        ensures cut { are_cut self.old.rest.now ≡ true → result ≡ Err (Truncated self.old.at) }
+        ensures first { self.old.phase ≡ BeforePre → IfErr result (λ error. IsSome (fault_of error)) }
+        ensures near { IfOk result (λ deed. IfSome deed IsNearDeed) }
+        ensures within { IfOk result (λ deed. IsWithin self.new) }
+        ensures shorter { (deed : Deed) → result ≡ Ok (Some deed)
+            → length self.new.rest.now < length self.old.rest.now }
+        ensures same { IfOk result (λ deed. self.new.at + length self.new.rest.now
+            ≡ self.old.at + length self.old.rest.now) }
+    {
+        match self.coming() {
+            Some(RunOpcode::Mark) => {
+                let mark = self.perform_mark(fonts)?;
+                Ok(Some(Deed::Performs(Some(mark.place))))
+            }
+            Some(RunOpcode::Move) => {
+                self.perform_move(fonts)?;
+                Ok(Some(Deed::Performs(None)))
+            }
+            Some(RunOpcode::Select) => {
+                self.perform_move(fonts)?;
+                Ok(Some(Deed::Selects))
+            }
+            None => self.next_operation(alloc, fonts),
+        }
+    }
+
+    // The same, by the operation of the opcode.
+    #[inline(always)]
+    fn next_operation(&mut self, alloc: Global, fonts: &FontSet) -> Result<Option<Deed>, DviError>
         requires within { IsWithin self.old }
         ensures turns { (file : files.File) → Sees fonts.now self.old file
             → Turns fonts.now file self.old.rest.now result self.new }
@@ -428,8 +461,12 @@ impl<'a> OpenFile<'a> {
     }
 
     // Performs an operation of the page.
-    #[inline(never)]
-    fn perform(&mut self, fonts: &FontSet, operation: Operation<'a>) -> Result<Option<Place>, Cause>
+    #[inline(always)]
+    pub(crate) fn perform(
+        &mut self,
+        fonts: &FontSet,
+        operation: Operation<'a>,
+    ) -> Result<Option<Place>, Cause>
         ensures fills { (file : files.File) (meant : codes.Operation)
             → Sees fonts.now self.old file → file.again ≡ [] → IsOperation operation.entry meant
             → Fills fonts.now file result self.new (files.effect_step file

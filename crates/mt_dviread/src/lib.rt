@@ -14,11 +14,13 @@ mod opcode;
 mod operands;
 mod operation;
 mod read;
+mod run;
 #[cfg(test)]
 mod tests;
 
-pub use deed::Deed;
+pub use deed::{Deed, Mark};
 pub use error::DviError;
 pub use file::OpenFile;
 pub use opcode::{Opcode, opcode_at};
 pub use read::{MAX_DVI, read_dvi};
+pub use run::RunOpcode;

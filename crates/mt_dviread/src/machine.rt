@@ -2,24 +2,27 @@
 ghost use Rattle.std.specs.Prelude.{◌≡◌, ◌<◌, ◌≤◌, ◌+◌, ◌+ℤ◌, List, length, nat_abs, IfOk, IfErr, IfSome, true, false};
 ghost use Rattle.mt_dviread.specs.declared.cause.Cause.TheVariants.{MissingChar};
 ghost use Rattle.mt_family.specs.SetValue.{SetValue};
-ghost use Rattle.mt_tfm.specs.Font.{exists};
+ghost use Rattle.mt_tfm.specs.Font.{exists, width_of, depth_of};
+ghost use Rattle.mt_box.specs.declared.place.Place.TheVariants.{Glyph};
+ghost use Rattle.mt_dvi.specs.Edges.{right_edge, lower_edge};
 ghost use Rattle.mt_dvi.specs.Limits.{max_pushes};
 ghost use Rattle.mt_dvi.specs.Codes as codes;
 ghost use Rattle.mt_dvi.specs.Fonts.{first_definition};
 ghost use Rattle.mt_dvi.specs.Machine as machine;
-ghost use Rattle.mt_dviread.specs.Deeds.{IsNear};
+ghost use Rattle.mt_dviread.specs.Deeds.{IsNear, IsSmallMark};
 ghost use Rattle.mt_dviread.specs.inner.Operations.{IsOperation, register_of};
 ghost use Rattle.mt_dviread.specs.inner.Defined.{Knows};
-ghost use Rattle.mt_dviread.specs.inner.Performs.{Performs, MovesTo, MovesMachine, registers_of};
+ghost use Rattle.mt_dviread.specs.inner.Performs.{Performs, marked, MovesTo, MovesMachine, registers_of};
 ghost use Rattle.mt_dviread.specs.inner.Performs.{registers_with, registers_moved, with_registers};
 
 use crate::cause::Cause;
 use crate::coordinate::Coordinate;
+use crate::deed::Mark;
 use crate::definitions::Definitions;
 use crate::operation::{Operation, Register};
 use mt_box::Place;
 use mt_family::FontSet;
-use mt_tfm::Font;
+use mt_tfm::{Font, Measured};
 use std::alloc::{AllocError, Global};
 use std::marker::Model;
 
@@ -57,6 +60,7 @@ impl Registers {
         }
     }
 
+    #[inline(always)]
     fn right(self, by: i64) -> Result<Registers, Cause>
         requires { nat_abs by < 4294967296 }
         ensures { MovesTo result (record (registers_of self) { h = self.h.sp +ℤ by }) }
@@ -67,6 +71,7 @@ impl Registers {
         }
     }
 
+    #[inline(always)]
     fn down(self, by: i64) -> Result<Registers, Cause>
         requires { nat_abs by < 4294967296 }
         ensures { MovesTo result (record (registers_of self) { v = self.v.sp +ℤ by }) }
@@ -77,6 +82,7 @@ impl Registers {
         }
     }
 
+    #[inline(always)]
     fn set(self, register: Register, by: i32) -> Registers
         ensures { registers_of result ≡ registers_with (registers_of self) (register_of register) by }
     {
@@ -89,6 +95,7 @@ impl Registers {
     }
 
     // w and x move to the right, y and z down.
+    #[inline(always)]
     fn add(self, register: Register) -> Result<Registers, Cause>
         ensures { MovesTo result (registers_moved (registers_of self) (register_of register)) }
     {
@@ -127,21 +134,43 @@ impl Model for Machine {
     ghost invariant = { λ m. length m.saved.items ≤ max_pushes };
 }
 
-// The character of a code, if the font has it.
-fn char_of(font: &Font, code: u32) -> Result<u8, Cause>
+// The character of a code and its dimensions, if the font has it.
+#[inline(always)]
+fn char_of(font: &Font, code: u32) -> Result<(u8, Measured), Cause>
     requires { font.now.first + length font.now.chars ≤ 256 }
-    ensures ok { IfOk result (λ c. (c ≡ code) × (exists font.now code ≡ true)) }
+    ensures is { IfOk result (λ c. (c.0 ≡ code) × (exists font.now code ≡ true)) }
+    ensures width { IfOk result (λ c. c.1.width ≡ width_of font.now code) }
+    ensures depth { IfOk result (λ c. c.1.depth ≡ depth_of font.now code) }
+    ensures wide { IfOk result (λ c. nat_abs c.1.width ≤ 2147483648) }
+    ensures deep { IfOk result (λ c. nat_abs c.1.depth ≤ 2147483648) }
     ensures err { IfErr result (λ cause. (cause ≡ MissingChar) × (exists font.now code ≡ false)) }
 {
-    match u8::try_from(code) {
-        Ok(code) => {
-            if font.exists(code) {
-                Ok(code)
-            } else {
-                Err(Cause::MissingChar)
-            }
-        }
-        Err(_) => Err(Cause::MissingChar),
+    let Ok(code) = u8::try_from(code) else {
+        return Err(Cause::MissingChar);
+    };
+    match font.measured(code) {
+        Some(measured) => Ok((code, measured)),
+        None => Err(Cause::MissingChar),
+    }
+}
+
+// The place of a character, and how far it reaches.
+#[inline(always)]
+fn mark_at(font: u16, code: u8, at: Registers, measured: Measured) -> Mark
+    requires wide { nat_abs measured.width ≤ 2147483648 }
+    requires deep { nat_abs measured.depth ≤ 2147483648 }
+    ensures place { result.place ≡ Glyph font code at.h.sp at.v.sp }
+    ensures near { IsNear result.place }
+    ensures right { result.right ≡ at.h.sp +ℤ measured.width }
+    ensures lower { result.lower ≡ at.v.sp +ℤ measured.depth }
+    ensures small { IsSmallMark result }
+{
+    let h = i64::from(at.h.sp);
+    let v = i64::from(at.v.sp);
+    Mark {
+        place: Place::Glyph { font, code, h, v },
+        right: h + measured.width,
+        lower: v + measured.depth,
     }
 }
 
@@ -173,6 +202,7 @@ impl Machine {
     }
 
     // Takes the registers after a move, and fills no place.
+    #[inline(always)]
     fn moved(&mut self, now: Result<Registers, Cause>) -> Result<Option<Place>, Cause>
         ensures performs { (meant : machine.Registers) → MovesTo now meant
             → Performs result self.new (machine.without_place (with_registers self.old meant)) }
@@ -183,6 +213,7 @@ impl Machine {
     }
 
     // Passes over a place that set fills; put does not.
+    #[inline(always)]
     fn pass(&mut self, put: bool, width: i64) -> Result<(), Cause>
         requires { nat_abs width < 4294967296 }
         ensures { MovesMachine result self.new (machine.after_place put self.old width) }
@@ -193,10 +224,15 @@ impl Machine {
         Ok(())
     }
 
-    fn glyph(&mut self, fonts: &FontSet, put: bool, code: u32) -> Result<Option<Place>, Cause>
-        ensures performs { Performs result self.new
+    /// Performs set or put of a character, which fills a place.
+    #[inline(always)]
+    pub fn mark(&mut self, fonts: &FontSet, put: bool, code: u32) -> Result<Mark, Cause>
+        ensures performs { Performs (marked result) self.new
             (machine.glyph_effect fonts.now self.old put code self.old.font) }
-        ensures near { IfOk result (λ place. IfSome place IsNear) }
+        ensures near { IfOk result (λ mark. IsNear mark.place) }
+        ensures right { IfOk result (λ mark. mark.right ≡ right_edge fonts.now mark.place) }
+        ensures lower { IfOk result (λ mark. mark.lower ≡ lower_edge fonts.now mark.place) }
+        ensures small { IfOk result IsSmallMark }
     {
         let Some(number) = self.font else {
             return Err(Cause::UnknownFont);
@@ -204,15 +240,20 @@ impl Machine {
         let Some(font) = fonts.font(number) else {
             return Err(Cause::UnknownFont);
         };
-        let code = char_of(font, code)?;
-        let place = Place::Glyph {
-            font: number,
-            code,
-            h: i64::from(self.registers.h.sp),
-            v: i64::from(self.registers.v.sp),
-        };
-        self.pass(put, font.width(code))?;
-        Ok(Some(place))
+        let (code, measured) = char_of(font, code)?;
+        let mark = mark_at(number, code, self.registers, measured);
+        self.pass(put, measured.width)?;
+        Ok(mark)
+    }
+
+    #[inline(always)]
+    fn glyph(&mut self, fonts: &FontSet, put: bool, code: u32) -> Result<Option<Place>, Cause>
+        ensures performs { Performs result self.new
+            (machine.glyph_effect fonts.now self.old put code self.old.font) }
+        ensures near { IfOk result (λ place. IfSome place IsNear) }
+    {
+        let mark = self.mark(fonts, put, code)?;
+        Ok(Some(mark.place))
     }
 
     // A rule fills a place where both sides are positive.
@@ -241,6 +282,7 @@ impl Machine {
         self.moved(Ok(self.registers))
     }
 
+    #[inline(always)]
     fn push(&mut self) -> Result<Option<Place>, Cause>
         ensures performs { Performs result self.new (machine.push_effect self.old) }
         ensures near { IfOk result (λ place. IfSome place IsNear) }
@@ -252,6 +294,7 @@ impl Machine {
         Ok(None)
     }
 
+    #[inline(always)]
     fn pop(&mut self) -> Result<Option<Place>, Cause>
         ensures performs { Performs result self.new (machine.pop_effect self.old self.old.saved) }
         ensures near { IfOk result (λ place. IfSome place IsNear) }
@@ -265,6 +308,7 @@ impl Machine {
         }
     }
 
+    #[inline(always)]
     fn select(&mut self, definitions: &Definitions<'_>, number: u32) -> Result<Option<Place>, Cause>
         ensures performs { (fonts : SetValue) (known : List codes.Definition)
             → Knows fonts definitions.now known
@@ -281,6 +325,7 @@ impl Machine {
         }
     }
 
+    #[inline(always)]
     fn right(&mut self, by: i32) -> Result<Option<Place>, Cause>
         ensures performs { Performs result self.new
             (machine.without_place (machine.move_right self.old by)) }
@@ -289,6 +334,7 @@ impl Machine {
         self.moved(self.registers.right(i64::from(by)))
     }
 
+    #[inline(always)]
     fn down(&mut self, by: i32) -> Result<Option<Place>, Cause>
         ensures performs { Performs result self.new
             (machine.without_place (machine.move_down self.old by)) }
@@ -297,6 +343,7 @@ impl Machine {
         self.moved(self.registers.down(i64::from(by)))
     }
 
+    #[inline(always)]
     fn set(&mut self, register: Register, by: i32) -> Result<Option<Place>, Cause>
         ensures performs { Performs result self.new
             (machine.without_place (machine.add_register
@@ -307,6 +354,7 @@ impl Machine {
         self.moved(self.registers.set(register, by).add(register))
     }
 
+    #[inline(always)]
     fn add(&mut self, register: Register) -> Result<Option<Place>, Cause>
         ensures performs { Performs result self.new
             (machine.without_place (machine.add_register self.old (register_of register))) }

@@ -6,6 +6,7 @@ ghost use Rattle.mt_dvi.specs.Codes.{unsigned, signed, bytes_from};
 use byteorder::{BigEndian, ByteOrder};
 
 /// The bytes from the front, so many or as many as there are.
+#[inline(always)]
 pub fn front(bytes: &[u8], count: usize) -> &[u8]
     ensures is { result.now ≡ take count bytes.now }
     ensures long { length result.now ≤ count }
@@ -19,6 +20,7 @@ pub fn front(bytes: &[u8], count: usize) -> &[u8]
 }
 
 /// The bytes from a place on.
+#[inline(always)]
 pub fn past(bytes: &[u8], from: usize) -> &[u8]
     requires { from ≤ length bytes.now }
     ensures is { result.now ≡ drop from bytes.now }
@@ -52,6 +54,7 @@ pub fn unsigned(bytes: &[u8]) -> u32
 }
 
 /// The signed number in one to four bytes, in two's complement.
+#[inline(always)]
 #[tactic(auto, using(crate::proofs::Numbers::signed_1, crate::proofs::Numbers::signed_2, crate::proofs::Numbers::signed_3, crate::proofs::Numbers::signed_4))]
 pub fn signed(bytes: &[u8]) -> i32
     requires least { 1 ≤ length bytes.now }
@@ -67,6 +70,7 @@ pub fn signed(bytes: &[u8]) -> i32
 }
 
 // The number less the modulus where it is at least half of it.
+#[inline(always)]
 fn wrapped(x: u32, modulus: i64) -> i32
     requires below { pos x <ℤ modulus }
     requires small { modulus ≤ℤ pos 4294967296 }

@@ -3,7 +3,7 @@ ghost use Rattle.std.specs.Prelude.{◌≡◌, ◌≤◌, ◌<◌, length, take,
 ghost use Rattle.mt_dvi.specs.Codes.{Rule, operand_size, operation, signed, definition, definition_size};
 ghost use Rattle.mt_dvi.specs.Codes.{preamble, postamble};
 ghost use Rattle.mt_dvi.specs.Opcodes.{right1, fnt_num_0};
-ghost use Rattle.mt_dviread.specs.inner.Operations.{IsDefinition, IsPreamble, IsPostamble, IsOperation};
+ghost use Rattle.mt_dviread.specs.inner.Operations.{IsDefinition, IsPreamble, IsPostamble, IsOperation, by_register, register_of};
 
 use crate::number::{byte, bytes_from, front, past, signed, unsigned};
 use mt_dvi::opcode::*;
@@ -173,26 +173,33 @@ fn moves(opcode: u8, operands: &[u8]) -> Operation<'_>
     requires whole { length operands.now ≡ operand_size opcode operands.now }
     ensures { IsOperation result (operation opcode operands.now) }
 {
-    if opcode < W_0 {
-        Operation::Right(signed(operands))
-    } else if opcode == W_0 {
-        Operation::Add(Register::W)
-    } else if opcode < X_0 {
-        Operation::Set(Register::W, signed(operands))
-    } else if opcode == X_0 {
-        Operation::Add(Register::X)
-    } else if opcode < DOWN1 {
-        Operation::Set(Register::X, signed(operands))
+    if opcode < DOWN1 {
+        if opcode < W_0 {
+            Operation::Right(signed(operands))
+        } else if opcode < X_0 {
+            by_register(Register::W, operands)
+        } else {
+            by_register(Register::X, operands)
+        }
     } else if opcode < Y_0 {
         Operation::Down(signed(operands))
-    } else if opcode == Y_0 {
-        Operation::Add(Register::Y)
     } else if opcode < Z_0 {
-        Operation::Set(Register::Y, signed(operands))
-    } else if opcode == Z_0 {
-        Operation::Add(Register::Z)
+        by_register(Register::Y, operands)
     } else {
-        Operation::Set(Register::Z, signed(operands))
+        by_register(Register::Z, operands)
+    }
+}
+
+// A move by the amount of a register, which is set before where there are operands.
+#[inline(always)]
+fn by_register(register: Register, operands: &[u8]) -> Operation<'_>
+    requires { length operands.now ≤ 4 }
+    ensures { IsOperation result (by_register (register_of register) operands.now) }
+{
+    if operands.is_empty() {
+        Operation::Add(register)
+    } else {
+        Operation::Set(register, signed(operands))
     }
 }
 

@@ -1,5 +1,5 @@
 -- What the reader keeps of an operation (`IsOperation`), and the cause that ends the reading (`cause_of`).
-use Rattle.std.specs.Prelude.{◌≡◌, ℕ, List, Option, Some, None}
+use Rattle.std.specs.Prelude.{◌≡◌, ℕ, List, [], ◌∷◌, Option, Some, None}
 use Rattle.mt_dvi.specs.Codes as codes
 use Rattle.mt_dvi.specs.Machine as machine
 use Rattle.mt_dviread.specs.declared.cause.Cause.{Cause}
@@ -32,6 +32,11 @@ register_of registers.W = codes.W
 register_of registers.X = codes.X
 register_of registers.Y = codes.Y
 register_of registers.Z = codes.Z
+
+-- a move by a register, which operands set before
+abbrev pub by_register : codes.Register → List ℕ → codes.Operation
+by_register register [] = codes.Add register
+by_register register (b ∷ operands) = codes.Set register (codes.signed (b ∷ operands))
 
 pub record IsDefinition (d : Definition) (meant : codes.Definition) : Type 0 where
   pub number : meant.number ≡ d.number

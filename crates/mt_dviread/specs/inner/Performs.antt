@@ -1,5 +1,5 @@
 -- What the reader's machine does (`Performs`).
-use Rattle.std.specs.Prelude.{◌≡◌, ℤ, ◌+ℤ◌, false, Option, Result, Ok, Err, IfSome, Bool, true, if◌then◌else◌, ◌||◌}
+use Rattle.std.specs.Prelude.{◌≡◌, ℤ, ◌+ℤ◌, false, Option, Some, Result, Ok, Err, IfSome, Bool, true, if◌then◌else◌, ◌||◌}
 use Rattle.std.specs.Option.{option_map}
 use Rattle.mt_box.specs.declared.place.Place.{Place}
 use Rattle.mt_dvi.specs.Codes as codes
@@ -7,6 +7,7 @@ use Rattle.mt_dvi.specs.Machine as machine
 use Rattle.mt_dvi.specs.Machine.{Machine, Effects, WrittenPlace, is_far, is_outside}
 use Rattle.mt_dviread.specs.declared.cause.Cause.{Cause}
 use Rattle.mt_dviread.specs.declared.cause.Cause.TheVariants as causes
+use Rattle.mt_dviread.specs.declared.deed.Mark.{Mark}
 use Rattle.mt_dviread.specs.declared.machine.Registers.{Registers}
 use Rattle.mt_dviread.specs.inner.Operations.{cause_of}
 
@@ -61,3 +62,8 @@ seen (Ok effect) =
 abbrev pub Performs : Result (Option Place) Cause → Machine → Effects → Type 0
 Performs (Ok place) new effects = seen effects ≡ Ok (record { machine = new; place = place })
 Performs (Err cause) new effects = IfSome (cause_of cause) (λ c. seen effects ≡ Err c)
+
+-- the place of a character
+abbrev pub marked : Result Mark Cause → Result (Option Place) Cause
+marked (Ok mark) = Ok (Some mark.place)
+marked (Err cause) = Err cause
