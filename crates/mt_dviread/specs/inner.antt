@@ -2,6 +2,8 @@
 pub mod Reach
 -- what the reader keeps of an operation
 pub mod Operations
+-- the fonts of a file by their numbers
+pub mod Numbered
 -- what it keeps of the fonts that a file defines
 pub mod Defined
 -- what its machine does

@@ -10,6 +10,7 @@ mod error;
 mod file;
 mod machine;
 mod number;
+mod numbered;
 mod opcode;
 mod operands;
 mod operation;

@@ -8,7 +8,7 @@ use Rattle.mt_dvi.specs.File.{agrees}
 use Rattle.mt_dvi.specs.Machine.{UnknownFont}
 use Rattle.std.specs.Ordering.{nat_cmp}
 use Rattle.std.specs.BTreeMap.{get}
-use Rattle.mt_dviread.specs.declared.definitions.DefinedFont.{DefinedFont}
+use Rattle.mt_dviread.specs.declared.numbered.DefinedFont.{DefinedFont}
 use Rattle.mt_dviread.specs.declared.definitions.Definitions.{Definitions}
 use Rattle.mt_dviread.specs.declared.cause.Cause.{Cause}
 use Rattle.mt_dviread.specs.inner.Operations.{cause_of}
@@ -32,7 +32,7 @@ known_font defined = record { name = defined.name.now; size = defined.size; font
 
 -- what the reader keeps of a number
 abbrev pub known_at : Definitions → ℕ → Option Known
-known_at definitions n = option_map known_font (get nat_cmp definitions.by_number n)
+known_at definitions n = option_map known_font (get nat_cmp definitions.fonts.by_number n)
 
 -- each number stands for what its first definition says
 abbrev pub Knows : SetValue → Definitions → List Definition → Type 0

@@ -6,7 +6,7 @@ use Rattle.std.specs.Option.{option_map}
 use Rattle.std.specs.Str.{bytes_eq}
 use Rattle.std.proofs.lemmas.Bool.Decides.{nat_tests}
 use Rattle.mt_dvi.specs.File.{agrees}
-use Rattle.mt_dviread.specs.declared.definitions.DefinedFont.{DefinedFont}
+use Rattle.mt_dviread.specs.declared.numbered.DefinedFont.{DefinedFont}
 use Rattle.mt_dviread.specs.inner.Defined.{known_font, known_at}
 use Rattle.mt_dviread.proofs.DefinedLemmas.{agrees_kept, knows_again, knows_more, first_is_none, same_known}
 use Rattle.mt_dviread.proofs.definitions.Definitions.define.Goals as goal
@@ -28,7 +28,7 @@ returns-in_ok-insert-in-None c = λ known meant k is.
     let old = c.args.self.now in
     let none = ap (known_at old) is.number ∙ ap (option_map known_font) (sym c.in-None.ensures.value) in
     let entry : DefinedFont = record { name = c.args.definition.name; size = c.args.definition.size; font = c.font_named.result } in
-    let put = subst (λ (x : ℕ). (n : ℕ) → get nat_cmp c.insert.new.self.by_number n ≡ cond (is_at (nat_cmp x) n) (Some entry) (get nat_cmp old.by_number n)) (sym is.number) c.in_ok-insert-in-None.ensures in (
+    let put = subst (λ (x : ℕ). (n : ℕ) → get nat_cmp c.insert.new.self.by_number n ≡ cond (is_at (nat_cmp x) n) (Some entry) (get nat_cmp old.fonts.by_number n)) (sym is.number) c.in_ok-insert-in-None.ensures in (
       ap (agrees meant) (first_is_none c.args.fonts.now old known meant.number k none),
-      knows_more c.args.fonts.now old c.insert.new.self entry known meant k none put (same_known _ _ _ _ _ _ is.name is.size (c.font_named.ensures meant is)),
+      knows_more c.args.fonts.now old (record old { fonts = c.insert.new.self }) entry known meant k none put (same_known _ _ _ _ _ _ is.name is.size (c.font_named.ensures meant is)),
     )
