@@ -12,7 +12,7 @@ use Rattle.mt_dvi.specs.WrittenPlaces.{all_places}
 use Rattle.mt_dvi.proofs.WholeFile.{reads_back}
 use Rattle.mt_dviread.specs.Faults.{ReadsBack, fault_of}
 use Rattle.mt_dviread.specs.Deeds.{Changes, places_after, places_of_page}
-use Rattle.mt_dviread.specs.inner.Kept.{IsKeeping, Keeps, lists_after}
+use Rattle.mt_dviread.specs.inner.Kept.{IsKeeping, Keeps, lists_after, RunKeeps}
 use Rattle.mt_dvi.specs.Codes.{operand_size}
 use Rattle.mt_dvi.specs.Limits.{max_places}
 use Rattle.mt_dviread.specs.declared.deed.Deed.{Deed}
@@ -21,6 +21,9 @@ use Rattle.mt_dviread.specs.declared.error.DviError.{DviError}
 use Rattle.mt_dviread.specs.declared.error.DviError.TheVariants as errors
 use Rattle.mt_dviread.specs.declared.file.OpenFile.{OpenFile}
 use Rattle.mt_dviread.specs.declared.file.Phase.{Phase}
+use Rattle.mt_dviread.specs.declared.run.RunOpcode.{RunOpcode}
+use Rattle.mt_dviread.specs.declared.run.RunOpcode.TheVariants.{Mark, Move, Select}
+use Rattle.mt_dviread.specs.Runs.{deed_of_kind}
 use Rattle.mt_dviread.specs.declared.file.Phase.TheVariants.{BeforePre, BetweenPages, InPage, AfterPost}
 use Rattle.mt_dviread.specs.Sees.{Finishes, GoesOn, IsReading, IsWithin, Sees, Turns, phase_of}
 use Rattle.mt_dviread.proofs.Offsets.{fault_not_before, read_fault}
@@ -185,3 +188,25 @@ pub back : (fonts : SetValue) (bytes : List ℕ) (result : Result (List (List Pl
 back fonts bytes (Ok read_pages) ok err pages written =
     let w = reads_back fonts bytes pages written in let o : pages_of fonts bytes ≡ Ok read_pages = ok in cc
 back fonts bytes (Err error) ok err pages written = no_fault fonts bytes error err pages (reads_back fonts bytes pages written)
+
+-- an opcode of a run
+later : (o : OpenFile) → (o.phase ≡ BeforePre) ⊎ (1 ≤ o.at) → o.phase ≡ InPage → 1 ≤ o.at
+later o (inl before) page = absurd (let e = sym before ∙ page in cc)
+later o (inr further) page = further
+
+pub run_refused : (fonts : SetValue) (bytes : List ℕ) (o new : OpenFile) (pages : List (List Place)) (page : List Place) (error : DviError) → IsKeeping fonts bytes o pages page
+    → ((file : File) → Sees fonts o file → Turns fonts file o.rest.now (Err error) new) → o.phase ≡ InPage → RunKeeps fonts bytes (Err error) new pages page
+run_refused fonts bytes o new pages page error k turns in_page = (
+  keeping_fault fonts bytes o new pages page error k turns,
+  λ fault is zero. not_first fonts bytes o k.file k.reading (later o k.first in_page) fault is zero,
+)
+
+pub same_lists : (kind : RunOpcode) (pages : List (List Place)) (page : List Place) → pages ≡ lists_after (deed_of_kind kind) pages page
+same_lists Mark pages page = refl
+same_lists Move pages page = refl
+same_lists Select pages page = refl
+
+pub same_places : (kind : RunOpcode) (page : List Place) → page ≡ places_after (deed_of_kind kind) page
+same_places Mark page = refl
+same_places Move page = refl
+same_places Select page = refl

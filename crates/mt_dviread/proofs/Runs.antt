@@ -232,3 +232,11 @@ not_again fonts o file s page = early s.again (λ e. let q = sym page ∙ e in a
 
 pub moved_is : (phase : Phase) (rest : List ℕ) (kind : RunOpcode) → coming_in phase rest ≡ Some kind → IsMoved (coming_in phase rest) → IsMoved (Some kind)
 moved_is phase rest kind e moved = subst IsMoved e moved
+
+-- a selection has no operands
+select_size_of : (code : ℕ) (later : List ℕ) → run_opcode code ≡ Some Select → operand_size code later ≡ 0
+unfolding operand_size
+select_size_of code later e = grind (arith, nat_tests)
+
+pub select_size : (phase : Phase) (rest later : List ℕ) → coming_in phase rest ≡ Some Select → 1 ≤ length rest → operand_size (get_or rest 0 0) later ≡ 0
+select_size phase rest later e there = select_size_of (get_or rest 0 0) later (head_is phase rest Select e there)

@@ -1,5 +1,5 @@
 //! The reader.
-ghost use Rattle.std.specs.Prelude.{◌≡◌, ◌≤◌, List, length, [], IfOk, IfErr, IfSome, IsErrAnd, OnOk, Some};
+ghost use Rattle.std.specs.Prelude.{◌≡◌, ◌≤◌, ◌++◌, ◌∷◌, ℕ, List, length, [], IfOk, IfErr, IfSome, IsErrAnd, OnOk, Some};
 ghost use Rattle.mt_box.specs.declared.place.Place.{Place};
 ghost use Rattle.mt_dvi.specs.File.{Dvi, DviFault, Fault};
 ghost use Rattle.mt_dvi.specs.Limits.{max_places};
@@ -7,11 +7,13 @@ ghost use Rattle.mt_dvi.specs.Written.{Written};
 ghost use Rattle.mt_dvi.specs.WrittenPlaces.{all_places};
 ghost use Rattle.mt_dviread.specs.Deeds.{places_after};
 ghost use Rattle.mt_dviread.specs.Faults.{fault_of, ReadsBack};
-ghost use Rattle.mt_dviread.specs.inner.Kept.{lists_after};
+ghost use Rattle.mt_dviread.specs.Sees.{IsWithin};
+ghost use Rattle.mt_dviread.specs.inner.Kept.{lists_after, IsKeeping, RunKeeps};
 
 use crate::deed::Deed;
 use crate::error::DviError;
 use crate::file::OpenFile;
+use crate::run::RunOpcode;
 use mt_box::{PageList, Place, PlaceList};
 use mt_family::FontSet;
 use std::alloc::{AllocError, Global};
@@ -38,6 +40,38 @@ impl PagePlaces {
         }
     }
 
+    // Takes a place of the page.
+    #[inline(always)]
+    fn put(&mut self, place: Place) -> Result<(), AllocError>
+        ensures pages { OnOk result (self.new.pages.items ≡ self.old.pages.items) }
+        ensures page { OnOk result (self.new.page.items ≡ self.old.page.items ++ place ∷ []) }
+    {
+        self.page.push(place)?;
+        Ok(())
+    }
+
+    // Takes what the opcodes of a run do, as long as they come.
+    #[inline(always)]
+    fn run(&mut self, fonts: &FontSet, file: &mut OpenFile<'_>) -> Result<(), DviError>
+        requires within { IsWithin file.old }
+        ensures keeps { (bytes : List ℕ)
+            → IsKeeping fonts.now bytes file.old self.old.pages.items self.old.page.items
+            → RunKeeps fonts.now bytes result file.new self.new.pages.items self.new.page.items }
+        ensures within { IfOk result (λ done. IsWithin file.new) }
+        ensures left { IfOk result (λ done. length file.new.rest.now ≤ length file.old.rest.now) }
+    {
+        while let Some(kind) = file.coming() {
+            match kind {
+                RunOpcode::Mark => {
+                    let mark = file.perform_mark(fonts)?;
+                    self.put(mark.place)?;
+                }
+                RunOpcode::Move | RunOpcode::Select => file.perform_move(fonts)?,
+            }
+        }
+        Ok(())
+    }
+
     // Takes what an operation does.
     fn take(&mut self, alloc: Global, deed: Deed) -> Result<(), AllocError>
         ensures pages { OnOk result (self.new.pages.items
@@ -50,7 +84,7 @@ impl PagePlaces {
                 let page = mem::replace(&mut self.page, Vec::new(alloc));
                 self.pages.push(PlaceList::from_vec(page))?;
             }
-            Deed::Performs(Some(place)) => self.page.push(place)?,
+            Deed::Performs(Some(place)) => self.put(place)?,
             _ => {}
         }
         Ok(())
@@ -78,7 +112,11 @@ pub fn read_dvi(alloc: Global, fonts: &FontSet, bytes: &[u8]) -> Result<PageList
 {
     let mut file = OpenFile::at_start(alloc, bytes);
     let mut places = PagePlaces::none(alloc);
-    while let Some(deed) = file.next(alloc, fonts)? {
+    loop {
+        places.run(fonts, &mut file)?;
+        let Some(deed) = file.next(alloc, fonts)? else {
+            break;
+        };
         places.take(alloc, deed)?;
     }
     Ok(PageList::from_vec(places.pages))

@@ -9,7 +9,7 @@ ghost use Rattle.mt_dviread.specs.Sees.{IsWithin, Sees, Turns, are_cut};
 ghost use Rattle.mt_dviread.specs.declared.error.DviError.TheVariants.{Truncated};
 ghost use Rattle.mt_dviread.specs.declared.file.Phase.TheVariants.{InPage};
 ghost use Rattle.mt_dviread.specs.declared.run.RunOpcode.{RunOpcode};
-ghost use Rattle.mt_dviread.specs.declared.run.RunOpcode.TheVariants.{Mark as TheMark};
+ghost use Rattle.mt_dviread.specs.declared.run.RunOpcode.TheVariants.{Mark as TheMark, Select as TheSelect};
 ghost use Rattle.mt_dviread.specs.inner.Follows.{Fills};
 ghost use Rattle.mt_dviread.specs.inner.Performs.{marked};
 
@@ -141,6 +141,7 @@ impl<'a> OpenFile<'a> {
         ensures shorter { IfOk result (λ done. length self.new.rest.now < length self.old.rest.now) }
         ensures same { IfOk result (λ done. self.new.at + length self.new.rest.now
             ≡ self.old.at + length self.old.rest.now) }
+        ensures one { coming self.old ≡ Some TheSelect → IfOk result (λ done. self.new.at ≡ self.old.at + 1) }
     {
         let [code, ..] = self.rest else {
             return Err(DviError::Truncated(self.at as u64));

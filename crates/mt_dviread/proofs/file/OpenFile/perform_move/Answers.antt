@@ -5,7 +5,7 @@ use Rattle.mt_dvi.specs.Codes.{operand_size}
 use Rattle.mt_dvi.specs.File.{Fault}
 use Rattle.mt_dvi.specs.Machine as machine
 use Rattle.mt_dviread.specs.inner.Operations.{cause_of}
-use Rattle.mt_dviread.proofs.Runs.{head_is, in_page, move_goes, moved_is, not_again}
+use Rattle.mt_dviread.proofs.Runs.{head_is, in_page, move_goes, moved_is, not_again, select_size}
 use Rattle.mt_dviread.proofs.Turns.{front, not_cut, turn_cut, turn_fails, turn_goes, whole}
 use Rattle.mt_dviread.proofs.file.OpenFile.perform_move.Goals as goal
 
@@ -46,3 +46,8 @@ returns-in-Ok-clause-turns c = λ file kind s is.
 
 pub returns-in-Ok-clause-cut : goal.returns-in-Ok-clause-cut
 returns-in-Ok-clause-cut c = λ e. absurd (not_cut c.args.self.now.rest.now _ _ _ _ (front c.args.self.now.rest.now _ _ _ _ _ c.in-len1-up.len_at_least refl c.past-later.ensures.is c.operand_size-size.ensures c.if-later-size.false c.front.ensures.is c.past-self.ensures.is) e)
+
+pub returns-in-Ok-clause-one : goal.returns-in-Ok-clause-one
+returns-in-Ok-clause-one c = λ is.
+    let size = c.operand_size-size.ensures ∙ select_size c.args.self.now.phase c.args.self.now.rest.now _ is c.in-len1-up.len_at_least in
+    omega (arith, size)
