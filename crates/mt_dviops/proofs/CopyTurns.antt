@@ -18,11 +18,10 @@ use Rattle.mt_dviread.specs.Sees.{Finishes, GoesOn, IsWithin, Sees, Turns}
 use Rattle.mt_dviread.proofs.Turns.{if_some, reads_fault, reads_on, reads_out, starts}
 use Rattle.mt_dviops.specs.declared.copies.CopiedPage.{CopiedPage}
 use Rattle.mt_dviops.specs.declared.copies.Copies.{Copies}
-use Rattle.mt_dviops.specs.declared.open.OpenCopies.{OpenCopies}
 use Rattle.mt_dviops.specs.Source.{Source, SourceFile, SourcePage, copy_selection, copy_step, empty_source, no_source, source_by, source_file_of, walked_pages}
 use Rattle.mt_dviops.specs.Walk.{Step, walked, walking}
 use Rattle.mt_dviops.specs.inner.Copies.{Holds}
-use Rattle.mt_dviops.specs.inner.Copying.{AreCopied, HoldsOpen, IsCopying, SelectsAny, TakesDeed, noted_by, begun_page, including_places}
+use Rattle.mt_dviops.specs.inner.Copying.{AreCopied, KeptCopies, HoldsOpen, IsCopying, SelectsAny, TakesDeed, noted_by, begun_page, including_places}
 use Rattle.mt_dviops.specs.inner.Placed.{IsPlaced}
 use Rattle.mt_dviops.proofs.Copying.{all_grow, all_held, noted_is, one_ends, open_begins, open_ends, open_performs, open_selects}
 use Rattle.mt_dviops.proofs.InPageDeeds.{Did, Where, eop_between, in_page_did, in_page_does, selected_low, selects_did, where_is}
@@ -39,80 +38,80 @@ Known bytes counts operands file next deeds.Selects = (file.phase ≡ InPage) ×
 Known bytes counts operands file next (deeds.Performs place) = (file.phase ≡ InPage) × (next.phase ≡ InPage)
 
 -- what has been copied after a deed
-copied_on : (fonts : SetValue) (bytes : List ℕ) (file next : File) (n : ℕ) (noted : Source) (code : ℕ) (operands : List ℕ) (old new : OpenCopies) (deed : Deed) (counts : ℕ)
+copied_on : (fonts : SetValue) (bytes : List ℕ) (file next : File) (n : ℕ) (noted : Source) (code : ℕ) (operands : List ℕ) (old new : KeptCopies) (deed : Deed) (counts : ℕ)
     → AreCopied fonts bytes old noted file → Changes deed file next → length (places_of_page file.page) < 2 ^ 32 - 1 → Known bytes counts operands file next deed
     → TakesDeed fonts (Ok tt) old new deed counts (code ∷ operands) next.machine
     → AreCopied fonts bytes new (noted_by deed noted (record { code = code; operands = operands; before = file; after = next })) (advance next n)
 copied_on fonts bytes file next n noted code operands old new deeds.Passes counts k c few known takes =
-    subst (λ (o : OpenCopies). AreCopied fonts bytes o noted (advance next n)) (sym takes) (record { ended = k.ended; begun = λ p. from (c.begun p) }) where
-      from : (deeds.Passes ≡ deeds.BeginsPage) ⊎ (file.phase ≡ InPage) → HoldsOpen fonts bytes old.bodies.items old.page noted.page (places_of_page next.page)
+    subst (λ (o : KeptCopies). AreCopied fonts bytes o noted (advance next n)) (sym takes) (record { ended = k.ended; begun = λ p. from (c.begun p) }) where
+      from : (deeds.Passes ≡ deeds.BeginsPage) ⊎ (file.phase ≡ InPage) → HoldsOpen fonts bytes old.bodies old.page noted.page (places_of_page next.page)
       from (inl e) = absurd (cc)
-      from (inr q) = subst (λ (l : List Place). HoldsOpen fonts bytes old.bodies.items old.page noted.page l) (sym c.places) (k.begun q)
+      from (inr q) = subst (λ (l : List Place). HoldsOpen fonts bytes old.bodies old.page noted.page l) (sym c.places) (k.begun q)
 copied_on fonts bytes file next n noted code operands old new deeds.BeginsPage counts k c few known takes =
-    subst (λ (o : OpenCopies). AreCopied fonts bytes o (record noted { page = empty_source (take 40 operands) }) (advance next n)) (sym takes) (record {
+    subst (λ (o : KeptCopies). AreCopied fonts bytes o (record noted { page = empty_source (take 40 operands) }) (advance next n)) (sym takes) (record {
       ended = k.ended;
-      begun = λ p. subst (λ (l : List Place). HoldsOpen fonts bytes old.bodies.items (begun_page counts (length old.bodies.items)) (empty_source (take 40 operands)) l) (sym c.places) (open_begins fonts bytes old.bodies.items counts operands known.0 known.1);
+      begun = λ p. subst (λ (l : List Place). HoldsOpen fonts bytes old.bodies (begun_page counts (length old.bodies)) (empty_source (take 40 operands)) l) (sym c.places) (open_begins fonts bytes old.bodies counts operands known.0 known.1);
     })
 copied_on fonts bytes file next n noted code operands old new deeds.EndsPage counts k c few known takes =
-    let bodies : new.bodies.items ≡ old.bodies.items = ap (λ (o : OpenCopies). o.bodies.items) takes.0 in
+    let bodies : new.bodies ≡ old.bodies = ap (λ (o : KeptCopies). o.bodies) takes.0 in
     record {
-      ended = rw (bodies, takes.1) (one_ends fonts bytes old.bodies.items old.pages.items noted.pages (record (old.page) { end = length old.bodies.items }) (record (noted.page) { page = file.page }) k.ended
-          (open_ends fonts bytes old.bodies.items old.page noted.page file.page (k.begun known.0)));
+      ended = rw (bodies, takes.1) (one_ends fonts bytes old.bodies old.pages noted.pages (record (old.page) { end = length old.bodies }) (record (noted.page) { page = file.page }) k.ended
+          (open_ends fonts bytes old.bodies old.page noted.page file.page (k.begun known.0)));
       begun = λ p. absurd (let q = known.1 in cc);
     }
 copied_on fonts bytes file next n noted code operands old new deeds.Selects counts k c few known takes = by_font next.machine.font takes where
   by_font : (font : Option ℕ) → SelectsAny (Ok tt) old new font → AreCopied fonts bytes new (record noted { page = copy_selection noted.page font }) (advance next n)
-  by_font None is = subst (λ (o : OpenCopies). AreCopied fonts bytes o noted (advance next n)) (sym is) (record {
+  by_font None is = subst (λ (o : KeptCopies). AreCopied fonts bytes o noted (advance next n)) (sym is) (record {
     ended = k.ended;
-    begun = λ p. subst (λ (l : List Place). HoldsOpen fonts bytes old.bodies.items old.page noted.page l) (sym c.places) (k.begun known.0);
+    begun = λ p. subst (λ (l : List Place). HoldsOpen fonts bytes old.bodies old.page noted.page l) (sym c.places) (k.begun known.0);
   })
   by_font (Some font) is =
-      let pages : new.pages.items ≡ old.pages.items = ap (λ (o : OpenCopies). o.pages.items) is.0 in
-      let page : new.page ≡ record (old.page) { fonts = new.page.fonts } = ap (λ (o : OpenCopies). o.page) is.0 in
+      let pages : new.pages ≡ old.pages = ap (λ (o : KeptCopies). o.pages) is.0 in
+      let page : new.page ≡ record (old.page) { fonts = new.page.fonts } = ap (λ (o : KeptCopies). o.page) is.0 in
       record {
-        ended = rw (is.1, pages) (all_grow fonts bytes old.bodies.items ((fnt_num_0 + font) ∷ []) old.pages.items noted.pages k.ended);
-        begun = λ p. subst (λ (q : CopiedPage). HoldsOpen fonts bytes new.bodies.items q (copy_selection noted.page (Some font)) (places_of_page next.page)) (sym page)
-            (subst (λ (l : List Place). HoldsOpen fonts bytes new.bodies.items (record (old.page) { fonts = new.page.fonts }) (copy_selection noted.page (Some font)) l) (sym c.places)
+        ended = rw (is.1, pages) (all_grow fonts bytes old.bodies ((fnt_num_0 + font) ∷ []) old.pages noted.pages k.ended);
+        begun = λ p. subst (λ (q : CopiedPage). HoldsOpen fonts bytes new.bodies q (copy_selection noted.page (Some font)) (places_of_page next.page)) (sym page)
+            (subst (λ (l : List Place). HoldsOpen fonts bytes new.bodies (record (old.page) { fonts = new.page.fonts }) (copy_selection noted.page (Some font)) l) (sym c.places)
             (subst (λ (b : List ℕ). HoldsOpen fonts bytes b (record (old.page) { fonts = new.page.fonts }) (copy_selection noted.page (Some font)) (places_of_page file.page)) (sym is.1)
-            (open_selects fonts bytes old.bodies.items old.page noted.page (places_of_page file.page) font new.page.fonts (k.begun known.0) is.2)));
+            (open_selects fonts bytes old.bodies old.page noted.page (places_of_page file.page) font new.page.fonts (k.begun known.0) is.2)));
       }
 copied_on fonts bytes file next n noted code operands old new (deeds.Performs place) counts k c few known takes =
-    let pages : new.pages.items ≡ old.pages.items = ap (λ (o : OpenCopies). o.pages.items) takes.0 in
+    let pages : new.pages ≡ old.pages = ap (λ (o : KeptCopies). o.pages) takes.0 in
     let depth = length next.machine.saved in
     let kept : CopiedPage = including_places fonts (record (old.page) { depth = max old.page.depth depth }) place in
-    let page : new.page ≡ kept = ap (λ (o : OpenCopies). o.page) takes.0 in
+    let page : new.page ≡ kept = ap (λ (o : KeptCopies). o.page) takes.0 in
     let noted_page : SourcePage = record (noted.page) { body = noted.page.body ++ code ∷ operands; depth = max noted.page.depth depth } in
     record {
-      ended = rw (takes.1, pages) (all_grow fonts bytes old.bodies.items (code ∷ operands) old.pages.items noted.pages k.ended);
-      begun = λ p. subst (λ (q : CopiedPage). HoldsOpen fonts bytes new.bodies.items q noted_page (places_of_page next.page)) (sym page)
-          (subst (λ (l : List Place). HoldsOpen fonts bytes new.bodies.items kept noted_page l) (sym c.places)
+      ended = rw (takes.1, pages) (all_grow fonts bytes old.bodies (code ∷ operands) old.pages noted.pages k.ended);
+      begun = λ p. subst (λ (q : CopiedPage). HoldsOpen fonts bytes new.bodies q noted_page (places_of_page next.page)) (sym page)
+          (subst (λ (l : List Place). HoldsOpen fonts bytes new.bodies kept noted_page l) (sym c.places)
           (subst (λ (b : List ℕ). HoldsOpen fonts bytes b kept noted_page (places_with (places_of_page file.page) place)) (sym takes.1)
-          (open_performs fonts bytes old.bodies.items old.page noted.page (places_of_page file.page) (code ∷ operands) place depth few (k.begun known.0))));
+          (open_performs fonts bytes old.bodies old.page noted.page (places_of_page file.page) (code ∷ operands) place depth few (k.begun known.0))));
     }
 
 -- the bodies grow by no more than the opcode
-grows : (fonts : SetValue) (old new : OpenCopies) (deed : Deed) (counts : ℕ) (opcode : List ℕ) (m : Machine) → TakesDeed fonts (Ok tt) old new deed counts opcode m → 1 ≤ length opcode → length new.bodies.items ≤ length old.bodies.items + length opcode
-grows fonts old new deeds.Passes counts opcode m takes long = let l = ap (λ (o : OpenCopies). length o.bodies.items) takes in omega (arith, l)
-grows fonts old new deeds.BeginsPage counts opcode m takes long = let l = ap (λ (o : OpenCopies). length o.bodies.items) takes in omega (arith, l)
-grows fonts old new deeds.EndsPage counts opcode m takes long = let l = ap (λ (o : OpenCopies). length o.bodies.items) takes.0 in omega (arith, l)
+grows : (fonts : SetValue) (old new : KeptCopies) (deed : Deed) (counts : ℕ) (opcode : List ℕ) (m : Machine) → TakesDeed fonts (Ok tt) old new deed counts opcode m → 1 ≤ length opcode → length new.bodies ≤ length old.bodies + length opcode
+grows fonts old new deeds.Passes counts opcode m takes long = let l = ap (λ (o : KeptCopies). length o.bodies) takes in omega (arith, l)
+grows fonts old new deeds.BeginsPage counts opcode m takes long = let l = ap (λ (o : KeptCopies). length o.bodies) takes in omega (arith, l)
+grows fonts old new deeds.EndsPage counts opcode m takes long = let l = ap (λ (o : KeptCopies). length o.bodies) takes.0 in omega (arith, l)
 grows fonts old new deeds.Selects counts opcode m takes long = by_font m.font takes where
-  by_font : (font : Option ℕ) → SelectsAny (Ok tt) old new font → length new.bodies.items ≤ length old.bodies.items + length opcode
-  by_font None is = let l = ap (λ (o : OpenCopies). length o.bodies.items) is in omega (arith, l)
-  by_font (Some font) is = let l = ap length is.1 in let a = length-append old.bodies.items ((fnt_num_0 + font) ∷ []) in omega (arith, l, a, long)
-grows fonts old new (deeds.Performs place) counts opcode m takes long = let l = ap length takes.1 in let a = length-append old.bodies.items opcode in omega (arith, l, a)
+  by_font : (font : Option ℕ) → SelectsAny (Ok tt) old new font → length new.bodies ≤ length old.bodies + length opcode
+  by_font None is = let l = ap (λ (o : KeptCopies). length o.bodies) is in omega (arith, l)
+  by_font (Some font) is = let l = ap length is.1 in let a = length-append old.bodies ((fnt_num_0 + font) ∷ []) in omega (arith, l, a, long)
+grows fonts old new (deeds.Performs place) counts opcode m takes long = let l = ap length takes.1 in let a = length-append old.bodies opcode in omega (arith, l, a)
 
 -- after post no body grows
-posted_on : (fonts : SetValue) (bytes operands opcode : List ℕ) (file next : File) (old new : OpenCopies) (deed : Deed) (counts : ℕ) (m : Machine) → TakesDeed fonts (Ok tt) old new deed counts opcode m → Changes deed file next → Known bytes counts operands file next deed
-    → length old.bodies.items ≤ file.at → (file.phase ≡ AfterPost → length old.bodies.items ≤ file.post_at) → next.phase ≡ AfterPost → length new.bodies.items ≤ next.post_at
+posted_on : (fonts : SetValue) (bytes operands opcode : List ℕ) (file next : File) (old new : KeptCopies) (deed : Deed) (counts : ℕ) (m : Machine) → TakesDeed fonts (Ok tt) old new deed counts opcode m → Changes deed file next → Known bytes counts operands file next deed
+    → length old.bodies ≤ file.at → (file.phase ≡ AfterPost → length old.bodies ≤ file.post_at) → next.phase ≡ AfterPost → length new.bodies ≤ next.post_at
 posted_on fonts bytes operands opcode file next old new deed counts m takes c known short posted p = at_post (c.posted p) where
-  same : (d : Deed) → TakesDeed fonts (Ok tt) old new d counts opcode m → Known bytes counts operands file next d → length new.bodies.items ≡ length old.bodies.items
-  same deeds.Passes t w = ap (λ (o : OpenCopies). length o.bodies.items) t
-  same deeds.BeginsPage t w = ap (λ (o : OpenCopies). length o.bodies.items) t
-  same deeds.EndsPage t w = ap (λ (o : OpenCopies). length o.bodies.items) t.0
+  same : (d : Deed) → TakesDeed fonts (Ok tt) old new d counts opcode m → Known bytes counts operands file next d → length new.bodies ≡ length old.bodies
+  same deeds.Passes t w = ap (λ (o : KeptCopies). length o.bodies) t
+  same deeds.BeginsPage t w = ap (λ (o : KeptCopies). length o.bodies) t
+  same deeds.EndsPage t w = ap (λ (o : KeptCopies). length o.bodies) t.0
   same deeds.Selects t w = absurd (let q = w.1 in cc)
   same (deeds.Performs place) t w = absurd (let q = w.1 in cc)
 
-  at_post : (next.post_at ≡ file.at) ⊎ ((file.phase ≡ AfterPost) × (next.post_at ≡ file.post_at)) → length new.bodies.items ≤ next.post_at
+  at_post : (next.post_at ≡ file.at) ⊎ ((file.phase ≡ AfterPost) × (next.post_at ≡ file.post_at)) → length new.bodies ≤ next.post_at
   at_post (inl e) = let s = same deed takes known in omega (arith, e, s, short)
   at_post (inr (q, e)) = let s = same deed takes known in let l = posted q in omega (arith, e, s, l)
 
@@ -160,7 +159,7 @@ known_by fonts bytes at code later rest after file next op (deeds.Performs place
     (phase, (performs_did fonts file next file.phase op after place phase d e).phase ∙ phase)
 
 -- one turn of the pass
-turn_on : (fonts : SetValue) (bytes opcode : List ℕ) (o new : OpenFile) (old newer : OpenCopies) (deed : Deed) (counts : ℕ) (k : IsCopying fonts bytes o old) → GoesOn fonts k.file o.rest.now deed new → IsWithin new
+turn_on : (fonts : SetValue) (bytes opcode : List ℕ) (o new : OpenFile) (old newer : KeptCopies) (deed : Deed) (counts : ℕ) (k : IsCopying fonts bytes o old) → GoesOn fonts k.file o.rest.now deed new → IsWithin new
     → new.at + length new.rest.now ≡ o.at + length o.rest.now → counts ≡ o.at + 1 → opcode ≡ take (new.at - o.at) o.rest.now → TakesDeed fonts (Ok tt) old newer deed counts opcode new.machine → IsCopying fonts bytes new newer
 turn_on fonts bytes opcode o new old newer deed counts k t within same at is takes =
     let size = operand_size t.code t.later in
@@ -210,7 +209,7 @@ turn_on fonts bytes opcode o new old newer deed counts k t within same at is tak
       length_operands n l le = length_take n l le
 
 -- one turn of the pass
-pub copying_on : (fonts : SetValue) (bytes opcode : List ℕ) (o new : OpenFile) (old newer : OpenCopies) (deed : Deed) (counts : ℕ) → IsCopying fonts bytes o old
+pub copying_on : (fonts : SetValue) (bytes opcode : List ℕ) (o new : OpenFile) (old newer : KeptCopies) (deed : Deed) (counts : ℕ) → IsCopying fonts bytes o old
     → ((file : File) → Sees fonts o file → GoesOn fonts file o.rest.now deed new) → IsWithin new → new.at + length new.rest.now ≡ o.at + length o.rest.now
     → TakesDeed fonts (Ok tt) old newer deed counts opcode new.machine → counts ≡ o.at + 1 → opcode ≡ take (new.at - o.at) o.rest.now → IsCopying fonts bytes new newer
 copying_on fonts bytes opcode o new old newer deed counts k turns within same takes at bytes_are =
@@ -218,7 +217,7 @@ copying_on fonts bytes opcode o new old newer deed counts k turns within same ta
     turn_on fonts bytes opcode o new old newer deed counts k t within same at bytes_are takes
 
 -- what taking a deed asks for
-pub deed_placed : (fonts : SetValue) (bytes : List ℕ) (o new : OpenFile) (old : OpenCopies) (deed : Deed) → IsCopying fonts bytes o old → ((file : File) → Sees fonts o file → GoesOn fonts file o.rest.now deed new) → IfSome (place_filled deed) (IsPlaced fonts)
+pub deed_placed : (fonts : SetValue) (bytes : List ℕ) (o new : OpenFile) (old : KeptCopies) (deed : Deed) → IsCopying fonts bytes o old → ((file : File) → Sees fonts o file → GoesOn fonts file o.rest.now deed new) → IfSome (place_filled deed) (IsPlaced fonts)
 deed_placed fonts bytes o new old deed k turns = let t = turns k.file k.reading.sees in by_deed deed t where
   by_deed : (d : Deed) → GoesOn fonts k.file o.rest.now d new → IfSome (place_filled d) (IsPlaced fonts)
   by_deed deeds.Passes t = tt
@@ -229,7 +228,7 @@ deed_placed fonts bytes o new old deed k turns = let t = turns k.file k.reading.
   by_deed (deeds.Performs (Some place)) t =
       (performs_did fonts k.file t.next k.file.phase (operation t.code (take (operand_size t.code t.later) t.later)) (drop (operand_size t.code t.later) t.later) (Some place) (where_is (deeds.Performs (Some place)) k.file.phase (operation t.code (take (operand_size t.code t.later) t.later)) t.is_deed) t.is_deed t.continues).placed place t.changes.places
 
-pub deed_font : (fonts : SetValue) (bytes : List ℕ) (o new : OpenFile) (old : OpenCopies) (deed : Deed) → IsSet fonts → IsCopying fonts bytes o old → ((file : File) → Sees fonts o file → GoesOn fonts file o.rest.now deed new)
+pub deed_font : (fonts : SetValue) (bytes : List ℕ) (o new : OpenFile) (old : KeptCopies) (deed : Deed) → IsSet fonts → IsCopying fonts bytes o old → ((file : File) → Sees fonts o file → GoesOn fonts file o.rest.now deed new)
     → deed ≡ deeds.Selects → (n : ℕ) → new.machine.font ≡ Some n → n < 48
 deed_font fonts bytes o new old deed set k turns e n is = by_deed deed e (turns k.file k.reading.sees) where
   by_where : (t : GoesOn fonts k.file o.rest.now deeds.Selects new) → Where deeds.Selects k.file.phase (operation t.code (take (operand_size t.code t.later) t.later)) → n < 48
@@ -244,7 +243,7 @@ deed_font fonts bytes o new old deed set k turns e n is = by_deed deed e (turns 
   by_deed (deeds.Performs place) i t = absurd (cc)
 
 -- the pass begins
-pub copying_starts : (fonts : SetValue) (bytes : List ℕ) (o : OpenFile) (copied : OpenCopies) → Sees fonts o at_start → IsWithin o → o.rest.now ≡ bytes → copied.bodies.items ≡ [] → copied.pages.items ≡ [] → IsCopying fonts bytes o copied
+pub copying_starts : (fonts : SetValue) (bytes : List ℕ) (o : OpenFile) (copied : KeptCopies) → Sees fonts o at_start → IsWithin o → o.rest.now ≡ bytes → copied.bodies ≡ [] → copied.pages ≡ [] → IsCopying fonts bytes o copied
 unfolding walked
 copying_starts fonts bytes o copied s within is bodies pages =
     let l = ap length bodies in
@@ -265,8 +264,8 @@ source_is : (fonts : SetValue) (bytes : List ℕ) (last : File) (noted : Source)
 unfolding source_file_of
 source_is fonts bytes last noted e w = ap (λ (r : Reading). source_by r (walked_pages fonts bytes)) e ∙ ap (λ (s : Source). source_by (Ok last) s.pages) w
 
-pub copying_done : (fonts : SetValue) (bytes : List ℕ) (o new : OpenFile) (copied : OpenCopies) (copies : Copies) → IsCopying fonts bytes o copied → ((file : File) → Sees fonts o file → Finishes fonts file o.rest.now new)
-    → copies.bytes.now ≡ bytes → copies.mag ≡ new.mag → copies.bodies.items ≡ copied.bodies.items → copies.pages.items ≡ copied.pages.items
+pub copying_done : (fonts : SetValue) (bytes : List ℕ) (o new : OpenFile) (copied : KeptCopies) (copies : Copies) → IsCopying fonts bytes o copied → ((file : File) → Sees fonts o file → Finishes fonts file o.rest.now new)
+    → copies.bytes.now ≡ bytes → copies.mag ≡ new.mag → copies.bodies.items ≡ copied.bodies → copies.pages.items ≡ copied.pages
     → (source : SourceFile) × (source_file_of fonts bytes ≡ Ok source) × Holds fonts copies source
 copying_done fonts bytes o new copied copies k turns file mag bodies pages =
     let t = turns k.file k.reading.sees in
@@ -278,7 +277,7 @@ copying_done fonts bytes o new copied copies k turns file mag bodies pages =
       source_is fonts bytes t.last k.noted (reads_out fonts bytes o new k.file t k.reading) noted,
       record {
         mag = t.mag ∙ sym mag;
-        pages = rw (file, bodies, pages) (all_held fonts bytes copied.bodies.items copied.pages.items k.noted.pages (omega (arith, short, small)) k.copies.ended);
+        pages = rw (file, bodies, pages) (all_held fonts bytes copied.bodies copied.pages k.noted.pages (omega (arith, short, small)) k.copies.ended);
       },
     )
 
@@ -287,7 +286,7 @@ source_fault : (fonts : SetValue) (bytes : List ℕ) (fault : Fault) → read fo
 unfolding source_file_of
 source_fault fonts bytes fault e = rw e refl
 
-pub copying_fault : (fonts : SetValue) (bytes : List ℕ) (o new : OpenFile) (copied : OpenCopies) (error : DviError) → IsCopying fonts bytes o copied → ((file : File) → Sees fonts o file → Turns fonts file o.rest.now (Err error) new)
+pub copying_fault : (fonts : SetValue) (bytes : List ℕ) (o new : OpenFile) (copied : KeptCopies) (error : DviError) → IsCopying fonts bytes o copied → ((file : File) → Sees fonts o file → Turns fonts file o.rest.now (Err error) new)
     → IfSome (fault_of error) (λ (fault : Fault). source_file_of fonts bytes ≡ Err fault)
 copying_fault fonts bytes o new copied error k turns =
     if_some (fault_of error) (λ fault e. source_fault fonts bytes fault e) (reads_fault fonts bytes o new k.file error k.reading (turns k.file k.reading.sees))

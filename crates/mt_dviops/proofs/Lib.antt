@@ -29,3 +29,4 @@ pub mod Joined
 pub mod Copying
 pub mod InPageDeeds
 pub mod CopyTurns
+pub mod CopyRuns

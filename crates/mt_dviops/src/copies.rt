@@ -1,7 +1,7 @@
 //! The pages of a file as they are copied.
 ghost use Rattle.std.specs.Prelude.{◌≡◌, ◌≤◌, ◌+◌, All, length};
 ghost use Rattle.mt_dvi.specs.Codes.{bytes_from};
-ghost use Rattle.mt_dviops.specs.inner.Inside.{IsInside};
+ghost use Rattle.mt_dviops.specs.inner.Inside.{IsInside, bytes_between};
 
 use crate::page::PageCopy;
 use crate::selected::SelectedFonts;
@@ -14,6 +14,15 @@ fn bytes_from(bytes: &[u8], from: usize, count: usize) -> &[u8]
 {
     let rest = &bytes[from..];
     &rest[..count]
+}
+
+/// The bytes from one offset to another.
+pub fn bytes_between(bytes: &[u8], from: usize, to: usize) -> &[u8]
+    requires order { from ≤ to }
+    requires inside { to ≤ length bytes.now }
+    ensures { result.now ≡ bytes_between from to bytes.now }
+{
+    bytes_from(bytes, from, to - from)
 }
 
 /// What is kept of a page.

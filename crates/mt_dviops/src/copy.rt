@@ -31,6 +31,7 @@ pub fn copy_file<'a>(
     let mut file = OpenFile::at_start(alloc, bytes);
     let mut copied = OpenCopies::none(alloc, bytes.len())?;
     loop {
+        copied.run(fonts, bytes, &mut file)?;
         let at = file.at();
         let rest = file.rest();
         let Some(deed) = file.next(alloc, fonts)? else {

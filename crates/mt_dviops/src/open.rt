@@ -4,17 +4,19 @@ ghost use Rattle.mt_dvi.specs.Edges.{or_zero};
 ghost use Rattle.mt_dvi.specs.Limits.{max_pushes};
 ghost use Rattle.mt_dvi.specs.Opcodes.{fnt_num_0};
 ghost use Rattle.mt_family.specs.Limits.{max_fonts};
-ghost use Rattle.mt_dviread.specs.Deeds.{IsNear, IsNearDeed, place_filled};
+ghost use Rattle.mt_family.specs.SetValue.{IsSet};
+ghost use Rattle.mt_dviread.specs.Deeds.{IsNear, IsNearDeed, IsSmallMark, place_filled};
 ghost use Rattle.mt_dviread.specs.declared.deed.Deed.TheVariants.{Selects as TheSelects};
 ghost use Rattle.mt_dviops.specs.inner.Placed.{IsPlaced};
-ghost use Rattle.mt_dviops.specs.inner.Copying.{begun_page, IncludesPlace, CopiesOpcode, CopiesSelection, Ends, TakesDeed};
+ghost use Rattle.mt_dviops.specs.inner.Copying.{begun_page, including_edges, kept_of, kept_with};
+ghost use Rattle.mt_dviops.specs.inner.Copying.{CopiesOpcode, CopiesRun, CopiesSelection, Ends, IsCopying, TakesDeed, TakesSelection};
 
-use crate::copies::CopiedPage;
+use crate::copies::{CopiedPage, bytes_between};
 use crate::edges::{lower_edge, right_edge};
 use crate::selected::NO_FONTS;
 use mt_box::Place;
 use mt_dvi::opcode::FNT_NUM_0;
-use mt_dviread::{Deed, OpenFile};
+use mt_dviread::{Deed, DviError, Mark, OpenFile, RunOpcode};
 use mt_family::FontSet;
 use std::alloc::{AllocError, Global};
 
@@ -57,15 +59,16 @@ fn greater(most: u32, edge: i64) -> u32
     }
 }
 
-// Takes one place more into account.
-fn include(page: &mut CopiedPage, fonts: &FontSet, place: Place)
-    requires near { IsNear place }
-    requires placed { IsPlaced fonts.now place }
-    ensures { IncludesPlace fonts.now page.old page.new place }
+// Takes one place more into account, by its edges.
+#[inline(always)]
+fn include(page: &mut CopiedPage, right: i64, lower: i64)
+    requires right { nat_abs right < 2 ^ 32 }
+    requires lower { nat_abs lower < 2 ^ 32 }
+    ensures { page.new ≡ including_edges page.old right lower }
 {
     page.places = page.places.saturating_add(1);
-    page.tallest = greater(page.tallest, lower_edge(fonts, place));
-    page.widest = greater(page.widest, right_edge(fonts, place));
+    page.tallest = greater(page.tallest, lower);
+    page.widest = greater(page.widest, right);
 }
 
 impl OpenCopies {
@@ -94,7 +97,8 @@ impl OpenCopies {
         requires near { IsNearDeed deed }
         requires placed { IfSome (place_filled deed) (IsPlaced fonts.now) }
         requires font { deed ≡ TheSelects → (n : ℕ) → file.now.machine.font ≡ Some n → n < max_fonts }
-        ensures { TakesDeed fonts.now result self.old self.new deed counts opcode.now file.now.machine }
+        ensures { TakesDeed fonts.now result (kept_of self.old) (kept_of self.new) deed counts opcode.now
+            file.now.machine }
     {
         match deed {
             Deed::Passes => Ok(()),
@@ -111,6 +115,109 @@ impl OpenCopies {
         }
     }
 
+    /// Copies the opcodes of a run of a file of these bytes, as long as they come. Bytes that stay as they
+    /// are are copied together.
+    ///
+    /// # Errors
+    ///
+    /// The fault of an opcode, with its offset. `OutOfMemory` where memory ran out.
+    #[inline(always)]
+    pub fn run(
+        &mut self,
+        fonts: &FontSet,
+        bytes: &[u8],
+        file: &mut OpenFile<'_>,
+    ) -> Result<(), DviError>
+        requires set { IsSet fonts.now }
+        requires copying { IsCopying fonts.now bytes.now file.old (kept_of self.old) }
+        ensures copies { CopiesRun fonts.now bytes.now result file.new self.new }
+        ensures left { IfOk result (λ done. length file.new.rest.now ≤ length file.old.rest.now) }
+    {
+        // The bytes from here on are not copied yet.
+        let mut from = file.at();
+        while let Some(kind) = file.coming() {
+            match kind {
+                RunOpcode::Mark => {
+                    let mark = file.perform_mark(fonts)?;
+                    self.put(mark, file.depth());
+                }
+                RunOpcode::Move => {
+                    file.perform_move(fonts)?;
+                    self.deepen(file.depth());
+                }
+                RunOpcode::Select => {
+                    let at = file.at();
+                    file.perform_move(fonts)?;
+                    from = self.reselect(file.font(), bytes, from, at)?;
+                }
+            }
+        }
+        self.copy(bytes_between(bytes, from, file.at()))?;
+        Ok(())
+    }
+
+    // Takes these bytes as they are.
+    fn copy(&mut self, bytes: &[u8]) -> Result<(), AllocError>
+        ensures { OnOk result (kept_of self.new ≡ kept_with self.old bytes.now) }
+    {
+        self.bodies.extend_from_slice(bytes)?;
+        Ok(())
+    }
+
+    // Takes the depth of the stack into account.
+    #[inline(always)]
+    fn deepen(&mut self, depth: usize)
+        requires { depth ≤ max_pushes }
+        ensures { self.new ≡ record (self.old) {
+          page = record (self.old.page) { depth = max self.old.page.depth depth };
+        } }
+    {
+        self.page.depth = self.page.depth.max(depth as u16);
+    }
+
+    // Takes a mark at this depth of the stack into account.
+    #[inline(always)]
+    fn put(&mut self, mark: Mark, depth: usize)
+        requires deep { depth ≤ max_pushes }
+        requires small { IsSmallMark mark }
+        ensures { self.new ≡ record (self.old) {
+          page = including_edges (record (self.old.page) { depth = max self.old.page.depth depth }) mark.right mark.lower;
+        } }
+    {
+        self.deepen(depth);
+        include(&mut self.page, mark.right, mark.lower);
+    }
+
+    // Takes the selection of a font by the opcode at an offset, and gives the offset from which bytes are not
+    // copied after it; they were not copied from `from` on. An opcode that has the font's number in the set stays.
+    #[inline(always)]
+    fn reselect(
+        &mut self,
+        font: Option<u16>,
+        bytes: &[u8],
+        from: usize,
+        at: usize,
+    ) -> Result<usize, AllocError>
+        requires font { IfSome font (λ n. n < max_fonts) }
+        requires order { from ≤ at }
+        requires there { at < length bytes.now }
+        ensures { TakesSelection result self.old self.new font bytes.now from at }
+    {
+        match font {
+            Some(font) if bytes[at] == FNT_NUM_0 + font as u8 => {
+                self.page.fonts = self.page.fonts.with(font);
+                Ok(from)
+            }
+            _ => {
+                self.copy(bytes_between(bytes, from, at))?;
+                if let Some(font) = font {
+                    self.select(font)?;
+                }
+                Ok(at + 1)
+            }
+        }
+    }
+
     fn begin(&mut self, counts: usize)
         ensures { self.new ≡ record (self.old) { page = begun_page counts (length self.old.bodies.items) } }
     {
@@ -118,7 +225,7 @@ impl OpenCopies {
     }
 
     fn end(&mut self) -> Result<(), AllocError>
-        ensures { Ends result self.old self.new }
+        ensures { Ends result (kept_of self.old) (kept_of self.new) }
     {
         self.page.end = self.bodies.len();
         self.pages.push(self.page)?;
@@ -128,7 +235,7 @@ impl OpenCopies {
     // A font is selected by its number in the set.
     fn select(&mut self, font: u16) -> Result<(), AllocError>
         requires { font < max_fonts }
-        ensures { CopiesSelection result self.old self.new font }
+        ensures { CopiesSelection result (kept_of self.old) (kept_of self.new) font }
     {
         self.bodies.push(FNT_NUM_0 + font as u8)?;
         self.page.fonts = self.page.fonts.with(font);
@@ -146,12 +253,14 @@ impl OpenCopies {
         requires near { IfSome place IsNear }
         requires placed { IfSome place (IsPlaced fonts.now) }
         requires deep { depth ≤ max_pushes }
-        ensures { CopiesOpcode fonts.now result self.old self.new opcode.now place depth }
+        ensures { CopiesOpcode fonts.now result (kept_of self.old) (kept_of self.new) opcode.now place depth }
     {
         self.bodies.extend_from_slice(opcode)?;
-        self.page.depth = self.page.depth.max(depth as u16);
+        self.deepen(depth);
         if let Some(place) = place {
-            include(&mut self.page, fonts, place);
+            let right = right_edge(fonts, place);
+            let lower = lower_edge(fonts, place);
+            include(&mut self.page, right, lower);
         }
         Ok(())
     }
