@@ -34,6 +34,7 @@ pub enum RunOpcode {
     Select,
 }
 
+// The kind of an opcode, if it is one of a run.
 #[inline(always)]
 fn run_opcode(code: u8) -> Option<RunOpcode>
     ensures { result ≡ run_opcode code }
