@@ -1,11 +1,7 @@
--- Small facts of clamps and halves.
-use Rattle.std.proofs.Common.{◌≡◌, ℕ, ◌*◌, ℤ, pos, negsuc, arith}
-use Rattle.std.proofs.lemmas.Int.{ints, clamps}
-use Rattle.std.specs.Int.{int_max}
+-- A small fact of halves.
+use Rattle.std.proofs.Common.{ℕ, ◌*◌, ℤ, pos, negsuc, arith}
+use Rattle.std.proofs.lemmas.Int.{ints}
 use Rattle.mt_scaled.specs.Number.{Within, half_of}
-
-pub two_clamps : (x : ℤ) → int_max (pos 0) (int_max (pos 0) x) ≡ int_max (pos 0) x
-two_clamps x = omega (arith, ints, clamps)
 
 pub half_small : (n : ℕ) (x : ℤ) → Within (2 * n) x → Within n (half_of x)
 half_small n (pos m) h = record { low = omega (arith, ints, h.high); high = omega (arith, ints, h.high) }

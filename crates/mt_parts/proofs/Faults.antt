@@ -1,13 +1,12 @@
 -- Faults of the steps of a part, and rules that passed their test.
-use Rattle.std.proofs.Common.{◌≡◌, ℕ, ◌≤◌, ℤ, Bool, true, false, if◌then◌else◌, refl, sym, ◌∙◌, ap}
-use Rattle.std.specs.Prelude.{Result, Err, Ok, IfOk, ⊤}
+use Rattle.std.proofs.Common.{◌≡◌, ℤ, Bool, true, false, if◌then◌else◌, refl, sym, ◌∙◌, ap}
+use Rattle.std.specs.Prelude.{Err, Ok, ⊤}
 use Rattle.mt_scaled.specs.Number.{Within, is_in_range, max_dimen}
-use Rattle.mt_box.specs.Layout.{BoxValue, Layout}
+use Rattle.mt_box.specs.Layout.{Layout}
 use Rattle.mt_rules.specs.declared.part_error.PartError.{PartError}
 use Rattle.mt_rules.specs.declared.part_error.PartError.TheVariants.{Overflow as PartOverflow, TooTall as PartTooTall, OutOfMemory as NoPartMemory}
 use Rattle.mt_rules.specs.Setting.{Setting, Overflow, TooTall, ◌>>=◌, ◌>>◌, test_rule, make_box}
 use Rattle.mt_rules.specs.Calls.{PartAnswers, TestAnswers}
-use Rattle.mt_delim.specs.RaisedBoxes.{RaisedAnswers}
 use Rattle.mt_rules.proofs.Answering.{then_err, in_range}
 
 -- a fault of a step is the answer
@@ -33,13 +32,3 @@ pub rule_fault : (w w' t t' : ℤ) (l : Layout) (e : PartError) → w ≡ w' →
 rule_fault w w' t t' l (PartOverflow value) p q h = then_err (test_rule w' t') (Overflow value) (λ _. make_box l) (sym (ap (λ z. test_rule z t) p ∙ ap (λ z. test_rule w' z) q) ∙ h)
 rule_fault w w' t t' l (PartTooTall n) p q h = then_err (test_rule w' t') (TooTall n) (λ _. make_box l) (sym (ap (λ z. test_rule z t) p ∙ ap (λ z. test_rule w' z) q) ∙ h)
 rule_fault w w' t t' l NoPartMemory p q h = tt
-
--- a delimiter that was not made
-pub delimiter_fault : (e : PartError) (step : Setting Layout) → RaisedAnswers (Err e) step → PartAnswers (Err e) step
-delimiter_fault (PartOverflow value) step h = h
-delimiter_fault (PartTooTall n) step h = h
-delimiter_fault NoPartMemory step h = tt
-
-pub level_below : (r : Result BoxValue PartError) (n m : ℕ) → n ≤ m → IfOk r (λ b. b.level ≡ n) → IfOk r (λ b. b.level ≤ m)
-level_below (Ok b) n m l h = rw h l
-level_below (Err e) n m l h = tt

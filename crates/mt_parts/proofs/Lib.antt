@@ -1,10 +1,8 @@
--- what was made is in range
-pub mod Made
 -- along the next larger characters of an accent
 pub mod Widest
 -- the symbol of an accent, and its character
 pub mod Finding
--- small facts of clamps and halves
+-- a small fact of halves
 pub mod Clamps
 -- lines one below another
 pub mod Lining

@@ -4,8 +4,6 @@ pub mod LineColumns
 pub mod LineLayers
 -- a body under a rule
 pub mod RuledBodies
--- a layout with another width
-pub mod Widths
 -- a radical with its degree, packed
 pub mod PackedRoots
 -- kerns that are tested

@@ -19,6 +19,7 @@ mod marked_row;
 mod marked_rule;
 mod marked_vcenter;
 mod marked_veil;
+mod moves;
 mod radical;
 mod root;
 mod shifts;

@@ -12,10 +12,11 @@ ghost use Rattle.mt_rules.specs.Fractions;
 
 use crate::marked_row::{on_axis, row_on_marks};
 use crate::marked_rule::rule_on_marks;
+use crate::moves::{down_by, up_by};
 use crate::shifts::{
     ShiftLengths, greater_width, shifts_with_rule, shifts_without_rule, top_of_rule,
 };
-use mt_box::{Extents, Marks, Move, RowPart, RowPiece, recentre_layer};
+use mt_box::{Extents, Marks, RowPart, RowPiece, recentre_layer};
 use mt_delim::delimiter_on_marks;
 use mt_family::FontSet;
 use mt_rules::parameters::{delim1, delim2};
@@ -146,29 +147,6 @@ fn extents_of_both(shifts: ShiftLengths, num: Extents, den: Extents) -> Extents
         width: num.width,
         height: shifts.up.plus(Length { sp: num.height }).sp,
         depth: shifts.down.plus(Length { sp: den.depth }).sp,
-    }
-}
-
-fn up_by(length: Length) -> Move
-    requires { Within (2 ^ 48) length.sp }
-    ensures right { result.right ≡ pos 0 }
-    ensures up { result.up ≡ length.sp }
-{
-    Move {
-        right: 0,
-        up: length.sp,
-    }
-}
-
-#[tactic(auto, using(std::proofs::lemmas::Int::ints))]
-fn down_by(length: Length) -> Move
-    requires { Within (2 ^ 49) length.sp }
-    ensures right { result.right ≡ pos 0 }
-    ensures up { result.up ≡ neg_ℤ length.sp }
-{
-    Move {
-        right: 0,
-        up: -length.sp,
     }
 }
 

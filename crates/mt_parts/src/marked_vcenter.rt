@@ -16,7 +16,8 @@ ghost use Rattle.mt_rules.specs.Vcenter.{lines_places, vcenter};
 ghost use Rattle.mt_parts.specs.LineColumns.{depth_value, gap_before};
 ghost use Rattle.mt_parts.specs.LineLayers.{all_extents, all_joined, all_places, lines_moved, reach_after, widest};
 
-use mt_box::{Extents, Marks, Move};
+use crate::moves::up_by;
+use mt_box::{Extents, Marks};
 use mt_family::{FontSet, Size};
 use mt_rules::parameters::axis_height;
 use mt_rules::{PartError, line_gap, tested_extents};
@@ -175,21 +176,11 @@ fn move_lines(marks: &mut Marks, rows: &[Extents], whole: Extents) -> Result<(),
     let mut above = rows.len();
     for row in rows {
         let baseline = lines.next_baseline(whole, *row);
-        marks.shift(above, up_to(baseline))?;
+        marks.shift(above, up_by(baseline))?;
         lines = lines.with(*row);
         above -= 1;
     }
     Ok(())
-}
-
-fn up_to(baseline: Length) -> Move
-    ensures right { result.right ≡ pos 0 }
-    ensures up { result.up ≡ baseline.sp }
-{
-    Move {
-        right: 0,
-        up: baseline.sp,
-    }
 }
 
 // Joins so many times.
