@@ -8,8 +8,8 @@ pub mod Clamps
 pub mod Lining
 -- lines that are given as boxes
 mod LineBoxes
--- faults of the steps of a part
-pub mod Faults
+-- rules that passed their test
+pub mod RuleTests
 -- a body under a radical sign
 pub mod UnderSign
 -- a fraction step by step

@@ -23,13 +23,9 @@ always (Err e) p = tt
 pub on_top : {l : List Place} {now rest : List (List Place)} → now ≡ l ∷ rest → now ≡ top now ∷ rest
 on_top {l} {now} {rest} e = e ∙ ap (λ t. t ∷ rest) (sym (ap top e))
 
--- ---- a fault is the same of a box and of marks
+-- ---- of marks and of a box
 
-pub fault_on : (e : PartError) (ps : List Place) (s : Setting Layout) → PartAnswers (Err e) s → SetsOn (Err e) ps s
-fault_on (PartOverflow value) ps s h = h
-fault_on (PartTooTall n) ps s h = h
-fault_on NoPartMemory ps s h = tt
-
+-- a fault is the same
 pub fault_off : (e : PartError) (ps : List Place) (s : Setting Layout) → SetsOn (Err e) ps s → PartAnswers (Err e) s
 fault_off (PartOverflow value) ps s h = h
 fault_off (PartTooTall n) ps s h = h

@@ -5,18 +5,18 @@ use Rattle.mt_scaled.specs.Number.{max_dimen}
 use Rattle.mt_scaled.proofs.Products.{kept}
 use Rattle.mt_box.specs.marks.Layers.{top}
 use Rattle.mt_rules.specs.OnMarks.{layout_with}
-use Rattle.mt_rules.specs.Setting.{test_rule}
+use Rattle.mt_rules.specs.Setting.{make_box, test_rule}
 use Rattle.mt_rules.specs.Fractions.{layout_with_rule}
-use Rattle.mt_parts.proofs.Faults.{thin, rule_fault}
-use Rattle.mt_parts.proofs.MarkedParts.{fault_on, after_test}
+use Rattle.mt_parts.proofs.RuleTests.{thin}
+use Rattle.mt_parts.proofs.MarkedParts.{after_test, test_fault}
 use Rattle.mt_parts.proofs.marked_fraction.with_rule_on_marks.Goals as goal
 
 pub returns-in_err-test_rule-clause-is : goal.returns-in_err-test_rule-clause-is
 returns-in_err-test_rule-clause-is c = λ n d rest e.
     let p = err_from_is_err_and c.from_residual.result c.from_residual.ensures.1 in
     rw (p.1, p.2)
-    (fault_on c.in_err-test_rule.field-0.0 _ _ (rule_fault _ c.args.num.width _ c.args.thickness.sp (layout_with_rule c.args.fonts.now c.args.style c.args.thickness.sp (layout_with c.args.num n) (layout_with c.args.den d)) c.in_err-test_rule.field-0.0
-    (kept max_dimen c.args.num.width c.requires.num.width (lit< tt)) (kept (2 ^ 40) c.args.thickness.sp c.requires.thickness (lit< tt)) c.in_err-test_rule.ensures))
+    (test_fault c.in_err-test_rule.field-0.0 _ (test_rule c.args.num.width c.args.thickness.sp) (make_box (layout_with_rule c.args.fonts.now c.args.style c.args.thickness.sp (layout_with c.args.num n) (layout_with c.args.den d)))
+    (rw (kept max_dimen c.args.num.width c.requires.num.width (lit< tt), kept (2 ^ 40) c.args.thickness.sp c.requires.thickness (lit< tt)) at c.in_err-test_rule.ensures))
 
 pub round_rule_on_marks-requires-clause-thickness : goal.round_rule_on_marks-requires-clause-thickness
 round_rule_on_marks-requires-clause-thickness c =
