@@ -4,11 +4,11 @@ ghost use Rattle.mt_scaled.specs.Number.{Within};
 ghost use Rattle.mt_rules.specs.Symbols.{find_symbol};
 
 use crate::pieces::{LETTER, NO_DELIMITER, SMALL, glyph, in_range_or_zero, rule};
-use mt_box::{Extents, Packed, Place, glyph_box, places};
+use mt_box::{Extents, Marks, Packed, Place, glyph_box, places};
 use mt_family::{FontSet, Size};
 use mt_parts::{
-    Shifts, accent_box, fraction_box, fraction_shifts, overline_box, radical_box, underline_box,
-    vcenter_box,
+    Shifts, accent_box, fraction_box, fraction_shifts, overline_box, radical_box, root_on_marks,
+    underline_box, vcenter_box, veil_on_marks,
 };
 use mt_rules::{Delim, PackedList, Style, Symbol};
 use mt_samples::toy_fonts;
@@ -231,5 +231,48 @@ fn a_rule_of_odd_thickness(rt: HostRuntime) -> Result<(), Fail> {
         glyph(4, 98, 78643, 720895),
     ];
     assert_eq!(rt; page.as_slice(), want.as_slice());
+    Ok(())
+}
+
+#[test]
+fn a_letter_with_a_degree_on_marks(rt: HostRuntime) -> Result<(), Fail> {
+    let alloc = rt.alloc();
+    let fonts = toy_fonts(alloc)?;
+    let mut marks = Marks::new(alloc);
+    marks.push_box(alloc, &letter(&rt, alloc))?;
+    marks.push_box(alloc, &letter(&rt, alloc))?;
+    let row = root_on_marks(&mut marks, &fonts, Style::T, LETTER, LETTER).expect(&rt, "a row");
+    // a math unit is 36408, and the degree is raised by 196610
+    let want = Extents {
+        width: 473320,
+        height: 524290,
+        depth: 0,
+    };
+    assert!(rt; row == want);
+    let body = marks.top_box(alloc, row, 1)?;
+    let page = places(alloc, &body, 0, 524290, 2).expect(&rt, "two places");
+    let degree = glyph(3, 97, 182040, 327680);
+    assert_eq!(rt;
+        page.as_slice(),
+        [degree, glyph(3, 97, 145640, 524290)].as_slice()
+    );
+    Ok(())
+}
+
+#[test]
+fn what_is_left_of_a_letter_on_marks(rt: HostRuntime) -> Result<(), Fail> {
+    let alloc = rt.alloc();
+    let mut marks = Marks::new(alloc);
+    marks.push_box(alloc, &letter(&rt, alloc))?;
+    let left = veil_on_marks(&mut marks, LETTER, true, false, false)?;
+    let want = Extents {
+        width: 327680,
+        height: 0,
+        depth: 0,
+    };
+    assert!(rt; left == want);
+    let body = marks.top_box(alloc, left, 1)?;
+    let page = places(alloc, &body, 0, 0, 1).expect(&rt, "no place");
+    assert_eq!(rt; page.len(), 0);
     Ok(())
 }
