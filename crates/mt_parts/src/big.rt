@@ -14,8 +14,8 @@ use std::alloc::Global;
 /// 11.5pt, 14.5pt or 17.5pt, by the level. The box is at least so high. Where no character is taken its width is 0.
 /// Levels from 3 on count as 3. The level of the box is at most 3.
 ///
-/// Refused as by [`mt_delim::delimiter_box`]; then with `Overflow` of the first extent of the box that is out of range; and with
-/// `OutOfMemory`.
+/// Refused as by [`mt_delim::delimiter_box`]; then with `Overflow` of the first extent of the box that is out of range;
+/// and with `OutOfMemory`.
 pub fn big_box(alloc: Global, fonts: &FontSet, delim: Delim, level: u8) -> Result<Packed, PartError>
     ensures is { PartAnswers result (big_delimiter fonts.now delim level) }
     ensures level { IfOk result (λ b. b.level ≤ 3) }

@@ -18,8 +18,9 @@ use std::alloc::Global;
 /// of the font reach together. Where the sign is deeper than body and least gap reach, half of the
 /// difference is added to the gap. The body's level is at most 2^20 - 4.
 ///
-/// Refused as by [`mt_delim::delimiter_box`] of the sign; then with `Overflow` of the first extent out of range, of body and rule
-/// together, then of the whole; and with `OutOfMemory`. The rule's width and thickness are those of boxes in range.
+/// Refused as by [`mt_delim::delimiter_box`] of the sign; then with `Overflow` of the first extent out of range, of body
+/// and rule together, then of the whole; and with `OutOfMemory`. The rule's width and thickness are those of boxes in
+/// range.
 pub fn radical_box(
     alloc: Global,
     fonts: &FontSet,
