@@ -6,11 +6,14 @@ from checking.source import Place
 FONTS = {
     "\\rm": "rm", "\\it": "it", "\\sl": "it", "\\bf": "bf", "\\tt": "rm", "\\cal": "cal", "\\mit": "it",
     "\\mathrm": "rm", "\\text": "rm", "\\textrm": "rm", "\\mbox": "rm", "\\operatorname": "rm", "\\mathsf": "rm",
+    "\\operatornamewithlimits": "rm", "\\tag": "rm", "\\textsl": "it",
     "\\textnormal": "rm", "\\textup": "rm", "\\textit": "it", "\\textbf": "bf", "\\textsf": "rm", "\\texttt": "rm",
     "\\mathit": "it", "\\mathtt": "rm", "\\mathbf": "bf", "\\boldsymbol": "bf", "\\bm": "bf",
     "\\mathcal": "cal", "\\mathbb": "cal", "\\Bbb": "cal", "\\mathscr": "cal", "\\mathfrak": "fraktur",
     "\\frak": "fraktur",
 }
+# What to write in place of a command of LaTeX's with a star.
+STARRED = {"\\operatorname": "\\operatornamewithlimits{..}", "\\tag": "\\eqno"}
 SWITCHES = ("\\rm", "\\it", "\\sl", "\\bf", "\\tt", "\\cal", "\\mit")
 FUNCTIONS = (
     "sin cos tan cot sec csc sinh cosh tanh coth arcsin arccos arctan log ln exp lim max min sup inf det dim ker deg "
@@ -113,7 +116,8 @@ class Warnings:
             elif name == "\\smash" and following == "[":
                 self.warn(at, "\\smash takes no [..]")
             elif self.parameters.get(name) and following in ("[", "*"):
-                self.warn(at, "%s takes the %s as its argument" % (name, following))
+                advice = ": write " + STARRED[name] if following == "*" and name in STARRED else ""
+                self.warn(at, "%s takes the %s as its argument%s" % (name, following, advice))
 
     def check_scripts(self):
         for index, at in enumerate(self.visible):
@@ -202,6 +206,9 @@ class Warnings:
                 self.check_switch(at, end)
             elif text in FONTS:
                 start = self.next_visible(at + 1)
+                if text in STARRED and self.text(start) == "*":
+                    # What follows is meant to be the argument, and the star has its own warning.
+                    start = self.next_visible(start + 1)
                 stop = self.group(start)
                 self.walk(start, stop, FONTS[text])
                 at = stop
