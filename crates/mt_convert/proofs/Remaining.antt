@@ -4,6 +4,7 @@ use Rattle.std.specs.Prelude.{ℤ, Bool, true, false, Ok, Err}
 use Rattle.mt_family.specs.SetValue.{SetValue}
 use Rattle.mt_rules.specs.declared.style.Style.{Style}
 use Rattle.mt_rules.specs.declared.style.Style.TheVariants.{D, Dc, T, Tc, S, Sc, Ss, Ssc}
+use Rattle.mt_rules.specs.declared.symbol.Symbol.{Symbol}
 use Rattle.mt_rules.specs.declared.symbol.Delim.{Delim}
 use Rattle.mt_rules.specs.declared.symbol.Glue.{Glue}
 use Rattle.mt_rules.specs.Facts.{NoBoundary, Inside, EndsWithRight, IsMathList}
@@ -18,7 +19,9 @@ use Rattle.mt_convert.specs.Halves.{HalfValue, HalfAtom, HalfLeft, HalfMiddle, H
 use Rattle.mt_convert.specs.Halfway.{half_value, half_values, MayEnd, MustEnd, EndsAfterLeft, BoundariesOutside}
 use Rattle.mt_convert.specs.inner.Boundaries.{Remains, Begins, GoesOn, IsOver, RestOfList, NoBoundaries, IsOpen}
 use Rattle.mt_convert.specs.inner.Lengths.{kern_halves}
-use Rattle.mt_convert.specs.inner.Turns.{PassedElement, PassedAtom, PassedFraction, PassedLeft, PassedMiddle, PassedRight, PassedStyle, PassedMuSpace, PassedSpace, PassedMuKern, PassedKern, PassesOne, RewritesTo, element_of_passed, flat_item, kern_of, append_list, turn_of}
+use Rattle.mt_arena.specs.Keeping.{ElementLists}
+use Rattle.mt_arena.specs.Rest.{append_list}
+use Rattle.mt_convert.specs.inner.Turns.{PassedElement, PassedAtom, PassedFraction, PassedLeft, PassedMiddle, PassedRight, PassedStyle, PassedMuSpace, PassedSpace, PassedMuKern, PassedKern, PassesOne, RewritesTo, element_of_passed, first_element_as, flat_item, kern_of, turn_of}
 
 -- ---- what is left of a list
 
@@ -114,6 +117,33 @@ no_boundary_chosen enclosed Ssc a b c d s h = h.3
 pub choice_rest : (enclosed : Bool) (style : Style) (a b c d taken s new : Sequence) → taken ≡ list_for style a b c d → IsMathList taken → new ≡ More (StyleElement style) (append_list taken s) → RestOfList enclosed (More (ChoiceElement a b c d) s) → RestOfList enclosed new
 choice_rest enclosed style a b c d taken s new e h f k =
     subst (RestOfList enclosed) (sym f) (inside_append enclosed taken s (no_boundary_inside taken h (subst NoBoundary (sym e) (no_boundary_chosen enclosed style a b c d s k))) k.4)
+
+-- the list of a choice in an arena
+pub chosen_list : (style : Style) (a b c d : Sequence) → ElementLists (ChoiceElement a b c d) → IsMathList (list_for style a b c d)
+chosen_list D a b c d h = h.0.0
+chosen_list Dc a b c d h = h.0.0
+chosen_list T a b c d h = h.1.0
+chosen_list Tc a b c d h = h.1.0
+chosen_list S a b c d h = h.2.0
+chosen_list Sc a b c d h = h.2.0
+chosen_list Ss a b c d h = h.3.0
+chosen_list Ssc a b c d h = h.3.0
+
+-- joining leaves boundaries and middles where they are
+pub joined_rest : (enclosed : Bool) (symbol : Symbol) (s : Sequence) → RestOfList enclosed s → RestOfList enclosed (first_element_as symbol s)
+joined_rest enclosed symbol End h = h
+joined_rest enclosed symbol (More (AtomElement kind limits nucleus sup sub) s) h = h
+joined_rest enclosed symbol (More (FractionElement thickness left right num den) s) h = h
+joined_rest enclosed symbol (More (LeftElement delim) s) h = h
+joined_rest enclosed symbol (More (MiddleElement delim) s) h = h
+joined_rest enclosed symbol (More (RightElement delim) s) h = h
+joined_rest enclosed symbol (More (StyleElement style) s) h = h
+joined_rest enclosed symbol (More (ChoiceElement a b c d) s) h = h
+joined_rest enclosed symbol (More (MuSpaceElement glue) s) h = h
+joined_rest enclosed symbol (More (SpaceElement glue) s) h = h
+joined_rest enclosed symbol (More (MuKernElement amount) s) h = h
+joined_rest enclosed symbol (More (KernElement amount) s) h = h
+joined_rest enclosed symbol (More NonscriptElement s) h = h
 
 -- ---- items so far
 

@@ -5,7 +5,9 @@ use mathlib.Core.List.{reverse_aux}
 use Rattle.mt_rules.specs.declared.list.Item.{Item}
 use Rattle.mt_rules.specs.Sequence.{Sequence, End, More}
 use Rattle.mt_rules.specs.View.{element_of, sequence_of}
-use Rattle.mt_convert.specs.inner.Turns.{append_list, begins_with_space, is_space_element, next_symbol_of, symbol_of_element}
+use Rattle.mt_arena.specs.Rest.{append_list}
+use Rattle.mt_arena.proofs.Leaving.{append_end}
+use Rattle.mt_convert.specs.inner.Turns.{begins_with_space, is_space_element, next_symbol_of, symbol_of_element}
 use Rattle.mt_convert.specs.inner.Stack.{stacked_on, stack_list}
 
 pub stacked_append : (is js : List Item) (s : Sequence) → stacked_on (is ++ js) s ≡ stacked_on js (stacked_on is s)
@@ -15,10 +17,6 @@ stacked_append (i ∷ is) js s = stacked_append is js (More (element_of i) s)
 stacked_onto : (xs acc : List Item) (s : Sequence) → stacked_on (reverse_aux xs acc) s ≡ stacked_on acc (append_list (sequence_of xs) s)
 stacked_onto [] acc s = refl
 stacked_onto (x ∷ xs) acc s = stacked_onto xs (x ∷ acc) s
-
-append_end : (s : Sequence) → append_list s End ≡ s
-append_end End = refl
-append_end (More n s) = ap (More n) (append_end s)
 
 pub stack_of : (xs ys : List Item) (s : Sequence) → ys ≡ reverse xs → sequence_of xs ≡ s → stack_list ys ≡ s
 stack_of xs ys s e f = ap stack_list e ∙ (stacked_onto xs [] End ∙ (append_end (sequence_of xs) ∙ f))

@@ -23,7 +23,8 @@ use Rattle.mt_convert.specs.Joining.{is_ord_by_now, is_any_but_inner, content_sy
 use Rattle.mt_convert.specs.ListRow.{items_of, item_of, content_of}
 use Rattle.mt_convert.specs.Flat.{Passes, Rewrites, FlatSpace, turn, atom_turn, pair_turn, as_symbol, first_as_symbol, list_for, is_space_or_kern, without_space, after_nonscript, no_glue, current_after_items}
 use Rattle.mt_convert.specs.inner.Fields.{atom_content}
-use Rattle.mt_convert.specs.inner.Turns.{PassedElement, PassedAtom, PassedFraction, PassedLeft, PassedMiddle, PassedRight, PassedStyle, PassedMuSpace, PassedSpace, PassedMuKern, PassedKern, ListTurn, PassesOne, RewritesTo, element_of_passed, append_list, part_symbol, is_empty_part, symbol_before, symbol_of_element, next_symbol_of, element_as_symbol, first_element_as, turn_by_pair, turn_of_atom, is_space_element, list_without_space, list_after_nonscript, turn_of, turn_meaning, flat_items, current_after_passed}
+use Rattle.mt_arena.specs.Rest.{append_list}
+use Rattle.mt_convert.specs.inner.Turns.{PassedElement, PassedAtom, PassedFraction, PassedLeft, PassedMiddle, PassedRight, PassedStyle, PassedMuSpace, PassedSpace, PassedMuKern, PassedKern, ListTurn, PassesOne, RewritesTo, element_of_passed, part_symbol, is_empty_part, symbol_before, symbol_of_element, next_symbol_of, element_as_symbol, first_element_as, turn_by_pair, turn_of_atom, is_space_element, list_without_space, list_after_nonscript, turn_of, turn_meaning, flat_items, current_after_passed}
 
 -- ---- in size, items, nesting and amounts
 

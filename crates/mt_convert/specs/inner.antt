@@ -6,6 +6,8 @@ pub mod Modest
 pub mod Fields
 -- one turn on a list of the code
 pub mod Turns
+-- one turn on a list in an arena
+pub mod Spans
 -- where boundaries stand in what is left of a list
 pub mod Boundaries
 -- a stack of items as a list

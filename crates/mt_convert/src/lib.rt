@@ -9,6 +9,7 @@ mod laws;
 mod list;
 mod second;
 mod set;
+mod spans;
 
 pub use fault::SetFault;
 pub use half::{Half, HalfList};

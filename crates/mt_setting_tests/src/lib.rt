@@ -1,9 +1,11 @@
 //! Tests of the crates below the program that set and write: sets of fonts, boxes, the parts of a formula, its
-//! conversion, displays and DVI files. A module is named after its crate, without `mt_`.
+//! conversion, lists in an arena, displays and DVI files. A module is named after its crate, without `mt_`.
 #![tactic(auto)]
 
 #[cfg(test)]
 mod align;
+#[cfg(test)]
+mod arena;
 #[cfg(test)]
 mod boxes;
 #[cfg(test)]

@@ -21,6 +21,7 @@ use Rattle.mt_rules.specs.Classes.{kind_class, forward_of}
 use Rattle.mt_rules.specs.Nuclei.{SymbolRole, OrdinarySymbol, TextSymbol, SmartPair}
 use Rattle.mt_rules.specs.Sequence.{Sequence, Element, Part, End, More, AtomElement, FractionElement, LeftElement, MiddleElement, RightElement, StyleElement, ChoiceElement, MuSpaceElement, SpaceElement, MuKernElement, KernElement, NonscriptElement, EmptyPart, SymbolPart}
 use Rattle.mt_rules.specs.View.{part_of_field}
+use Rattle.mt_arena.specs.Rest.{append_list}
 use Rattle.mt_convert.specs.declared.flat.current.Current.{Current}
 use Rattle.mt_convert.specs.declared.flat.joining.SymbolPair.{SymbolPair}
 use Rattle.mt_convert.specs.declared.flat.passed.Passed.{Passed as CodePassed}
@@ -143,10 +144,6 @@ pub data ListTurn : Type 0 where
   PassesOne : (passed : PassedElement) (rest : Sequence) → ListTurn
   RewritesTo : (rest : Sequence) → ListTurn
 
-abbrev pub append_list : Sequence → Sequence → Sequence
-append_list End after = after
-append_list (More e s) after = More e (append_list s after)
-
 abbrev pub part_symbol : Part → Option Symbol
 part_symbol (SymbolPart symbol) = Some symbol
 part_symbol _ = None
@@ -233,10 +230,13 @@ turn_of fonts current (MuKernElement amount) s = PassesOne (PassedMuKern amount)
 turn_of fonts current (KernElement amount) s = PassesOne (PassedKern amount) s
 turn_of fonts current NonscriptElement s = PassesOne (PassedSpace no_glue) (list_after_nonscript current.style s)
 
--- the code passes an item, or has rewritten what is left
+-- the code passes an item, which means one in the list, or has rewritten what is left
+abbrev pub turned_by : {P : Type 0} → (P → PassedElement) → Option P → Sequence → ListTurn
+turned_by meaning None rest = RewritesTo rest
+turned_by meaning (Some p) rest = PassesOne (meaning p) rest
+
 abbrev pub turned : Option CodePassed → Sequence → ListTurn
-turned None rest = RewritesTo rest
-turned (Some p) rest = PassesOne (passed_value p) rest
+turned = turned_by passed_value
 
 -- the same turn in the definition
 abbrev pub turn_meaning : SetValue → ListTurn → flat.FrontTurn

@@ -39,7 +39,7 @@ pub(crate) fn is_empty(field: &Field) -> bool
 }
 
 // An atom of the plain kind that is ordinary by now, after the atom before it.
-fn is_ord_by_now(last: Option<Class>, kind: Kind) -> bool
+pub(crate) fn is_ord_by_now(last: Option<Class>, kind: Kind) -> bool
     ensures { result ≡ is_ord_by_now last kind }
 {
     match kind {
@@ -48,7 +48,7 @@ fn is_ord_by_now(last: Option<Class>, kind: Kind) -> bool
     }
 }
 
-fn is_any_but_inner(kind: Kind) -> bool
+pub(crate) fn is_any_but_inner(kind: Kind) -> bool
     ensures { result ≡ is_any_but_inner kind }
 {
     match kind {

@@ -1,0 +1,5 @@
+pub mod Growing
+pub mod Putting
+pub mod Opening
+pub mod Making
+pub mod Leaving

@@ -1,0 +1,345 @@
+//! Lists in an arena: what is put there comes back, and a choice's list and a joined symbol come before the rest.
+ghost use Rattle.std.specs.Prelude.{IfOk, ◌≡◌, ◌<◌};
+ghost use Rattle.mt_rules.specs.Facts.{IsField, NoBoundary};
+ghost use Rattle.mt_rules.specs.Sequence.{AtomElement, EmptyPart};
+ghost use Rattle.mt_rules.specs.View.{element_of, part_of_field};
+ghost use Rattle.mt_rules.specs.declared.kind.Limits.TheVariants.{Default};
+
+use crate::pieces::NO_DELIMITER;
+use mt_arena::{Arena, Cell, Noad, Rest, Thing, list_of, put_list};
+use mt_rules::{
+    Atom, Choice, Class, Field, Fraction, Glue, Item, Kind, Limits, Look, MathList, Root, RowList,
+    Style, Symbol, Table, TableRows,
+};
+use std::alloc::{AllocError, Global};
+
+const GLUE: Glue = Glue {
+    width: 3,
+    shrink: -1,
+};
+
+const X: Symbol = Symbol { fam: 1, code: 120 };
+
+// An atom without scripts.
+fn atom(alloc: Global, kind: Kind, nucleus: Field) -> Result<Item, AllocError>
+    ensures { IfOk result (λ item. element_of item ≡ AtomElement kind Default (part_of_field nucleus) EmptyPart EmptyPart) }
+{
+    let atom = Atom {
+        kind,
+        limits: Limits::Default,
+        nucleus,
+        sup: Field::Empty,
+        sub: Field::Empty,
+    };
+    Ok(Item::Atom(Box::new(alloc, atom)?))
+}
+
+// A list of this letter alone.
+fn letter(alloc: Global, code: u8) -> Result<MathList, AllocError>
+    ensures { IfOk result NoBoundary }
+{
+    let nucleus = Field::Sym(Symbol { fam: 1, code });
+    let letter = atom(alloc, Kind::Plain(Class::Ord), nucleus)?;
+    Ok(MathList::from_vec(vec![in alloc; letter]?))
+}
+
+// A letter with both scripts.
+fn scripted(alloc: Global) -> Result<MathList, AllocError> {
+    let atom = Atom {
+        kind: Kind::Plain(Class::Op),
+        limits: Limits::Never,
+        nucleus: Field::List(letter(alloc, 97)?),
+        sup: Field::Sym(X),
+        sub: Field::List(letter(alloc, 98)?),
+    };
+    Ok(MathList::from_vec(vec![in alloc; Item::Atom(Box::new(alloc, atom)?)]?))
+}
+
+// A letter over nothing, as a fraction.
+fn fraction(alloc: Global) -> Result<MathList, AllocError> {
+    let fraction = Fraction {
+        thickness: Some(3),
+        left: NO_DELIMITER,
+        right: NO_DELIMITER,
+        num: letter(alloc, 97)?,
+        den: MathList::from_vec(Vec::new(alloc)),
+    };
+    Ok(MathList::from_vec(vec![in alloc; Item::Fraction(Box::new(alloc, fraction)?)]?))
+}
+
+// The items without lists in them, between boundaries.
+fn enclosed(alloc: Global) -> Result<MathList, AllocError> {
+    let items = vec![in alloc;
+        Item::Left(NO_DELIMITER),
+        Item::Style(Style::S),
+        Item::MuSpace(GLUE),
+        Item::Space(GLUE),
+        Item::Middle(NO_DELIMITER),
+        Item::MuKern(7),
+        Item::Kern(-8),
+        Item::Nonscript,
+        Item::Right(NO_DELIMITER),
+    ]?;
+    Ok(MathList::from_vec(items))
+}
+
+// A choice among four letters, and the letter e.
+fn choice(alloc: Global) -> Result<MathList, AllocError> {
+    let choice = Choice {
+        display: letter(alloc, 97)?,
+        text: letter(alloc, 98)?,
+        script: letter(alloc, 99)?,
+        small: letter(alloc, 100)?,
+    };
+    let last = atom(
+        alloc,
+        Kind::Plain(Class::Ord),
+        Field::Sym(Symbol { fam: 1, code: 101 }),
+    )?;
+    Ok(MathList::from_vec(vec![in alloc; Item::Choice(Box::new(alloc, choice)?), last]?))
+}
+
+// Two letters, the first one of this code.
+fn two_letters(alloc: Global, first: u8) -> Result<RowList, AllocError>
+    requires { first < 255 }
+{
+    let lists = vec![in alloc; letter(alloc, first)?, letter(alloc, first + 1)?]?;
+    Ok(RowList::from_vec(lists))
+}
+
+fn equations(alloc: Global) -> Result<Table, AllocError> {
+    let rows = vec![in alloc; two_letters(alloc, 99)?]?;
+    Ok(Table {
+        look: Look::Equations,
+        rows: TableRows::from_vec(rows),
+    })
+}
+
+// A root of a letter, with a letter as its degree.
+fn root(alloc: Global) -> Result<Root, AllocError>
+    ensures { IfOk result (λ root. IsField root.body) }
+{
+    Ok(Root {
+        degree: letter(alloc, 101)?,
+        body: Field::List(letter(alloc, 102)?),
+    })
+}
+
+// Atoms whose nuclei are rows, a table, a root and a delimiter of a fixed size.
+fn nuclei(alloc: Global) -> Result<MathList, AllocError> {
+    let rows = Field::Rows(two_letters(alloc, 97)?);
+    let table = Field::Table(equations(alloc)?);
+    let root = Field::Root(Box::new(alloc, root(alloc)?)?);
+    let big = Field::Big {
+        delim: NO_DELIMITER,
+        level: 2,
+    };
+    let items = vec![in alloc;
+        atom(alloc, Kind::Vcenter, rows)?,
+        atom(alloc, Kind::Vcenter, table)?,
+        atom(alloc, Kind::Radical(NO_DELIMITER), root)?,
+        atom(alloc, Kind::Plain(Class::Open), big)?,
+    ]?;
+    Ok(MathList::from_vec(items))
+}
+
+// The nucleus of the atom at an index.
+fn nucleus(list: &MathList, index: usize) -> Option<&Field> {
+    match list.get(index) {
+        Some(Item::Atom(atom)) => Some(&atom.nucleus),
+        _ => None,
+    }
+}
+
+// The codes of two lists of one symbol each.
+fn codes(rows: &RowList) -> Option<(u8, u8)> {
+    match rows.as_slice() {
+        [first, second] => match (code(first), code(second)) {
+            (Some(first), Some(second)) => Some((first, second)),
+            _ => None,
+        },
+        _ => None,
+    }
+}
+
+// A list that was put into an arena, and comes back from it.
+fn returned(alloc: Global, list: MathList) -> Result<MathList, AllocError> {
+    let mut arena = Arena::new(alloc);
+    let span = put_list(&mut arena, &list)?;
+    list_of(alloc, &arena, span)
+}
+
+// The code of the symbol of a list of one atom.
+fn code(list: &MathList) -> Option<u8> {
+    match list.as_slice() {
+        [Item::Atom(atom)] => match atom.nucleus {
+            Field::Sym(symbol) => Some(symbol.code),
+            _ => None,
+        },
+        _ => None,
+    }
+}
+
+// The same of a field that is a list.
+fn field_code(field: &Field) -> Option<u8> {
+    match field {
+        Field::List(list) => code(list),
+        _ => None,
+    }
+}
+
+#[test]
+fn items_come_back(rt: HostRuntime) {
+    let alloc = rt.alloc();
+    let list = enclosed(alloc).expect(&rt, "memory");
+    let list = returned(alloc, list).expect(&rt, "memory");
+    assert!(rt;
+        matches!(
+            list.as_slice(),
+            [
+                Item::Left(_),
+                Item::Style(Style::S),
+                Item::MuSpace(Glue {
+                    width: 3,
+                    shrink: -1
+                }),
+                Item::Space(Glue {
+                    width: 3,
+                    shrink: -1
+                }),
+                Item::Middle(_),
+                Item::MuKern(7),
+                Item::Kern(-8),
+                Item::Nonscript,
+                Item::Right(_),
+            ]
+        )
+    );
+}
+
+#[test]
+fn scripts_come_back(rt: HostRuntime) {
+    let alloc = rt.alloc();
+    let list = scripted(alloc).expect(&rt, "memory");
+    let list = returned(alloc, list).expect(&rt, "memory");
+    assert!(rt;
+        match list.get(0) {
+            Some(Item::Atom(atom)) => {
+                atom.kind == Kind::Plain(Class::Op)
+                    && atom.limits == Limits::Never
+                    && field_code(&atom.nucleus) == Some(97)
+                    && matches!(atom.sup, Field::Sym(X))
+                    && field_code(&atom.sub) == Some(98)
+            }
+            _ => false,
+        }
+    );
+}
+
+#[test]
+fn fractions_and_choices_come_back(rt: HostRuntime) {
+    let alloc = rt.alloc();
+    let list = fraction(alloc).expect(&rt, "memory");
+    let list = returned(alloc, list).expect(&rt, "memory");
+    assert!(rt;
+        match list.get(0) {
+            Some(Item::Fraction(fraction)) => {
+                fraction.thickness == Some(3)
+                    && code(&fraction.num) == Some(97)
+                    && fraction.den.is_empty()
+            }
+            _ => false,
+        }
+    );
+    let list = choice(alloc).expect(&rt, "memory");
+    let list = returned(alloc, list).expect(&rt, "memory");
+    assert!(rt;
+        match list.get(0) {
+            Some(Item::Choice(choice)) => {
+                code(&choice.display) == Some(97)
+                    && code(&choice.text) == Some(98)
+                    && code(&choice.script) == Some(99)
+                    && code(&choice.small) == Some(100)
+            }
+            _ => false,
+        }
+    );
+}
+
+#[test]
+fn nuclei_come_back(rt: HostRuntime) {
+    let alloc = rt.alloc();
+    let list = nuclei(alloc).expect(&rt, "memory");
+    let list = returned(alloc, list).expect(&rt, "memory");
+    assert!(rt; list.len() == 4);
+    assert!(rt;
+        match nucleus(&list, 0) {
+            Some(Field::Rows(rows)) => codes(rows) == Some((97, 98)),
+            _ => false,
+        }
+    );
+    assert!(rt;
+        match nucleus(&list, 1) {
+            Some(Field::Table(table)) => {
+                matches!(table.look, Look::Equations)
+                    && table.rows.len() == 1
+                    && table.rows.get(0).and_then(codes) == Some((99, 100))
+            }
+            _ => false,
+        }
+    );
+    assert!(rt;
+        match nucleus(&list, 2) {
+            Some(Field::Root(root)) => code(&root.degree) == Some(101)
+                && field_code(&root.body) == Some(102),
+            _ => false,
+        }
+    );
+    assert!(rt; matches!(nucleus(&list, 3), Some(Field::Big { level: 2, .. })));
+}
+
+// The symbol of a thing that is an atom.
+fn symbol(thing: Option<Thing>) -> Option<Symbol> {
+    match thing {
+        Some(Thing::Atom(noad)) => match noad.nucleus {
+            Cell::Sym(symbol) => Some(symbol),
+            _ => None,
+        },
+        _ => None,
+    }
+}
+
+#[test]
+fn a_list_of_a_choice_comes_before_the_rest(rt: HostRuntime) {
+    let alloc = rt.alloc();
+    let list = choice(alloc).expect(&rt, "memory");
+    let mut arena = Arena::new(alloc);
+    let span = put_list(&mut arena, &list).expect(&rt, "memory");
+    let mut rest = Rest::of(alloc, span);
+    if let Some(Thing::Choice(spans)) = rest.pop(&arena) {
+        rest.enter(spans.text).expect(&rt, "memory");
+        rest.push(Thing::Style(Style::T));
+    }
+    assert!(rt; matches!(rest.pop(&arena), Some(Thing::Style(Style::T))));
+    assert!(rt; symbol(rest.peek(&arena)) == Some(Symbol { fam: 1, code: 98 }));
+    assert!(rt; symbol(rest.pop(&arena)) == Some(Symbol { fam: 1, code: 98 }));
+    assert!(rt; symbol(rest.pop(&arena)) == Some(Symbol { fam: 1, code: 101 }));
+    assert!(rt; rest.pop(&arena).is_none());
+}
+
+#[test]
+fn a_joined_symbol_comes_before_the_rest(rt: HostRuntime) {
+    let alloc = rt.alloc();
+    let list = letter(alloc, 97).expect(&rt, "memory");
+    let mut arena = Arena::new(alloc);
+    let span = put_list(&mut arena, &list).expect(&rt, "memory");
+    let mut rest = Rest::of(alloc, span);
+    if let Some(Thing::Atom(noad)) = rest.pop(&arena) {
+        rest.push(Thing::Atom(Noad {
+            nucleus: Cell::Sym(X),
+            ..noad
+        }));
+    }
+    assert!(rt; symbol(rest.pop(&arena)) == Some(X));
+    assert!(rt; rest.pop(&arena).is_none());
+}
