@@ -10,8 +10,7 @@ use Rattle.mt_box.specs.declared.place.Place.{Place}
 use Rattle.mt_box.specs.Extents.{ExtentsInRange}
 use Rattle.mt_box.specs.Layout.{BoxValue, layout_of, all_moved}
 use Rattle.mt_box.specs.marks.Layers.{joined, moved_layer}
-use Rattle.mt_box.proofs.Moved.{moved_twice}
-use Rattle.mt_box.proofs.Trees.{moved_append}
+use Rattle.mt_box.proofs.Moved.{moved_append, moved_twice}
 use Rattle.mt_rules.specs.Tables.{Cells, widened, column_widths, cells_height, cells_depth}
 use Rattle.mt_align.specs.declared.look.Look.{Look}
 use Rattle.mt_align.specs.Looks.{inset_of, least_height, least_depth}

@@ -8,15 +8,11 @@ mod equations;
 mod levels;
 mod lines;
 mod look;
-mod marked_equations;
-mod marked_matrix;
 mod matrix;
 mod placing;
 mod pushing;
 mod widths;
 
 pub use cells::{CellExtents, CellRow, CellRows, TableExtents};
-pub use equations::align_equations;
-pub use marked_equations::equations_on_marks;
-pub use marked_matrix::matrix_on_marks;
-pub use matrix::align_matrix;
+pub use equations::{align_equations, equations_on_marks};
+pub use matrix::{align_matrix, matrix_on_marks};

@@ -34,7 +34,7 @@ fn push_cells(alloc: Global, marks: &mut Marks, cells: &CellRow) -> Result<CellE
 {
     let mut extents = Vec::with_capacity(alloc, cells.len())?;
     for cell in cells.as_slice() {
-        marks.push_box(alloc, cell)?;
+        marks.push_box(cell)?;
         extents.push(cell.extents())?;
     }
     Ok(CellExtents::from_vec(extents))

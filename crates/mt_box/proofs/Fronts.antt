@@ -2,7 +2,7 @@
 use Rattle.std.proofs.Common.{◌≡◌, List, [], ◌∷◌, ◌++◌, length, take, refl, arith}
 use Rattle.std.proofs.lemmas.List.{take_at, take_all}
 use Rattle.mt_box.specs.declared.place.Place.{Place}
-use Rattle.mt_box.specs.tree.Putting.{IsFront}
+use Rattle.mt_box.specs.inner.Putting.{IsFront}
 
 pub front_itself : (xs : List Place) → IsFront xs xs
 front_itself xs = take_all (length xs) xs (omega arith)

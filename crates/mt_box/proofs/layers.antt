@@ -1,11 +1,9 @@
--- marks moved, and their places
-pub mod InkPlaces
--- the marks of a tree after others
-pub mod InkedTrees
--- layouts one on another, and the list of their marks
+-- layouts one on another, as lists of nodes
 pub mod Layering
--- where they begin
+-- those that are put on others and taken off
 pub mod StartLists
+-- what calls do to them
+pub mod LayerCalls
 -- layouts in the middle of a width
 pub mod Centred
 -- the loops over the parts of a row

@@ -1,14 +1,15 @@
 //! Layouts that are being made: their marks, on one list.
 mod centring;
 mod ink;
-mod inking;
-mod inks;
+mod moves;
+mod numbering;
 mod row;
 mod stack;
 mod starts;
 
 pub use centring::recentre_layer;
 pub use ink::Ink;
-pub use inks::Move;
-pub use row::{RowPart, RowPiece, pack_parts};
+pub use moves::Move;
+pub(crate) use row::RowReach;
+pub use row::{RowPart, RowPiece, pack_parts, pack_parts_to, parts_extents};
 pub use stack::Marks;

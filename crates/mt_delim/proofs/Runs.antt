@@ -39,10 +39,6 @@ one_piece c some =
 pub piece_there : (m : Metrics) (c : ℕ) → (c ≡ 0 → ⊥) → All (There m) (recipe_piece c) → There m c
 piece_there m c some h = All-head (There m) c [] (subst (λ cs. All (There m) cs) (one_piece c some) h)
 
-pub repeat_there : (m : Metrics) (n c : ℕ) → (n ≡ 0 → ⊥) → All (There m) (replicate n c) → There m c
-repeat_there m zero c some h = absurd (some refl)
-repeat_there m (suc n) c some h = All-head (There m) c (replicate n c) h
-
 pub parted : (P : ℕ → Type 0) (xs ys : List ℕ) → All P (xs ++ ys) → All P xs × All P ys
 parted P [] ys h = (All-nil P, h)
 parted P (x ∷ xs) ys h =

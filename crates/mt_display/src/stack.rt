@@ -50,14 +50,13 @@ pub fn stack_lines(alloc: Global, lines: &Lines, room: u64) -> Result<PlaceList,
         above: None,
     };
     for line in lines.as_slice() {
-        next = add_line(alloc, &mut page, line, next, room)?;
+        next = add_line(&mut page, line, next, room)?;
     }
     Ok(Items::from_vec(page))
 }
 
 // Puts the places of the next line after the others.
 fn add_line(
-    alloc: Global,
     page: &mut Vec<Place>,
     line: &Line,
     here: NextLine,
@@ -71,26 +70,20 @@ fn add_line(
 {
     let extents = line.body.extents();
     let v = reference_below(here, extents);
-    match put_line(alloc, page, line, v, room) {
+    match put_line(page, line, v, room) {
         Ok(()) => Ok(line_after(here, v, extents)),
         Err(error) => Err(fault_in_line(here.line, error)),
     }
 }
 
 // Puts the places of a line whose reference point is at v after the others.
-fn put_line(
-    alloc: Global,
-    page: &mut Vec<Place>,
-    line: &Line,
-    v: Length,
-    room: u64,
-) -> Result<(), PlaceError>
+fn put_line(page: &mut Vec<Place>, line: &Line, v: Length, room: u64) -> Result<(), PlaceError>
     requires shift { Within (2 ^ 40) line.now.shift }
     requires v { Within (2 ^ 56) v.sp }
     requires room { length page.old.items ≤ room }
     ensures { Puts room page.old.items (line_places v.sp (line_value line.now)) result page.new.items }
 {
-    put_places(alloc, page, &line.body, line.shift, v.sp, room)
+    put_places(page, &line.body, line.shift, v.sp, room)
 }
 
 // At most how many places are put, where no node has several.

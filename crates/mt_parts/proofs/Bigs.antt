@@ -1,7 +1,7 @@
 -- Delimiters of fixed sizes: the steps of their layout.
 use Rattle.std.proofs.Common.{◌≡◌, ℕ, ℤ, pos, List, [], ◌∷◌, refl, sym, ap, subst, ◌∙◌}
 use Rattle.std.specs.Int.{int_max}
-use Rattle.std.specs.Prelude.{Result, Ok, Err}
+use Rattle.std.specs.Prelude.{Result, Ok}
 use Rattle.mt_family.specs.SetValue.{SetValue}
 use Rattle.mt_family.specs.declared.size.Size.TheVariants.{Text}
 use Rattle.mt_box.specs.declared.place.Place.{Place}
@@ -16,7 +16,6 @@ use Rattle.mt_rules.specs.OnMarks.{SetsOn, layout_with}
 use Rattle.mt_rules.specs.Delimiters.{DelimiterVariant, delimiter, delimiter_variant, piece_on_axis, boundary_size}
 use Rattle.mt_rules.specs.BigDelimiters.{big_height, big_wanted, without_null_width, at_least_high, big_delimiter}
 use Rattle.mt_rules.proofs.Answering.{then_ok}
-use Rattle.mt_parts.proofs.MarkedParts.{step_fault}
 
 wanted_is : (fonts : SetValue) (level : ℕ) (height wanted : ℤ) → height ≡ big_height level → wanted ≡ boundary_size fonts Text height (pos 0) → wanted ≡ big_wanted fonts level
 wanted_is fonts level height wanted p w = w ∙ ap (λ h. boundary_size fonts Text h (pos 0)) p
@@ -28,15 +27,6 @@ pub made_high : (height : ℤ) (e f : Extents) (l : Layout) (r : Result Extents 
 made_high height e f l r ps w u d i h =
     let same : layout_with f ps ≡ at_least_high height (layout_with e ps) = layout_eq (extents_is f _ _ _ w u d) refl in
     subst (λ m. SetsOn r ps (make_box m)) (same ∙ ap (λ m. at_least_high height m) i) h
-
--- a delimiter that was not made
-pub big_fault : (fonts : SetValue) (delim : Delim) (level : ℕ) (height wanted : ℤ) (e : PartError) (ps qs : List Place)
-    → height ≡ big_height level → wanted ≡ boundary_size fonts Text height (pos 0)
-    → SetsOn (Err e) ps (delimiter fonts delim Text wanted) → SetsOn (Err e) qs (big_delimiter fonts delim level)
-unfolding big_delimiter
-big_fault fonts delim level height wanted e ps qs p w h =
-    step_fault e ps qs (delimiter fonts delim Text (big_wanted fonts level)) _
-    (subst (λ x. SetsOn (Err e) ps (delimiter fonts delim Text x)) (wanted_is fonts level height wanted p w) h)
 
 -- its row, packed and made at least so high
 pub big_made : (fonts : SetValue) (delim : Delim) (level : ℕ) (height wanted : ℤ) (variant : DelimiterVariant) (box : Layout) (piece : PieceValue) (r : Result Extents PartError) (ps : List Place)

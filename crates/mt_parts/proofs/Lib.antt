@@ -8,19 +8,13 @@ pub mod Clamps
 pub mod Lining
 -- lines that are given as boxes
 mod LineBoxes
--- rules that passed their test
-pub mod RuleTests
--- a body under a radical sign
-pub mod UnderSign
--- a fraction step by step
-pub mod FractionSteps
 -- delimiters of fixed sizes
 pub mod Bigs
 -- a radical with its degree
 pub mod Rooting
 -- parts on marks
 pub mod MarkedParts
--- fractions on marks
-mod MarkedFractions
 -- lines over and under a body on marks
 mod MarkedLines
+-- fractions on marks
+mod Fractions

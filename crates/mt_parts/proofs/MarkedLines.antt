@@ -2,7 +2,7 @@
 use Rattle.std.proofs.Common.{◌≡◌, List, ℤ, pos, ◌+ℤ◌, ◌*ℤ◌, ◌++◌, refl, arith, ap, subst}
 use Rattle.std.proofs.lemmas.Int.{ints}
 use Rattle.std.specs.Int.{int_max}
-use Rattle.std.specs.Prelude.{Result, Ok, Err}
+use Rattle.std.specs.Prelude.{Result}
 use Rattle.mt_family.specs.SetValue.{SetValue}
 use Rattle.mt_family.specs.declared.size.Size.{Size}
 use Rattle.mt_box.specs.declared.place.Place.{Place}
@@ -11,13 +11,11 @@ use Rattle.mt_box.specs.Layout.{Layout, rule_places}
 use Rattle.mt_box.proofs.Equalities.{extents_eq, layout_eq}
 use Rattle.mt_rules.specs.declared.part_error.PartError.{PartError}
 use Rattle.mt_rules.specs.Setting.{◌>>◌, test_rule, make_box}
-use Rattle.mt_rules.specs.Calls.{TestAnswers}
 use Rattle.mt_rules.specs.OnMarks.{SetsOn}
 use Rattle.mt_rules.specs.Parameters.{default_rule_thickness}
-use Rattle.mt_rules.specs.Lines.{overline_layout, overline, underline_layout, underline}
+use Rattle.mt_rules.specs.Lines.{overline_layout, overline}
 use Rattle.mt_rules.specs.Radicals.{under_rule}
 use Rattle.mt_parts.specs.RuledBodies.{ruled_body}
-use Rattle.mt_parts.proofs.MarkedParts.{after_test, test_fault}
 
 over_layout : (t bottom : ℤ) (b : Layout) → bottom ≡ b.extents.height +ℤ (pos 3 *ℤ t) → under_rule bottom t b ≡ overline_layout t b
 over_layout t bottom b e =
@@ -31,15 +29,3 @@ pub overlined : (fonts : SetValue) (size : Size) (t bottom : ℤ) (b : Layout) (
 unfolding overline
 overlined fonts size t bottom b r ps e f h =
     rw (← e) (subst (λ l. SetsOn r ps (test_rule (int_max (pos 0) b.extents.width) t >> make_box l)) (over_layout t bottom b f) h)
-
-pub underlined : (fonts : SetValue) (size : Size) (t : ℤ) (b : Layout) (r : Result Extents PartError) (ps : List Place)
-    → t ≡ default_rule_thickness fonts size → test_rule (int_max (pos 0) b.extents.width) t ≡ Ok tt
-    → SetsOn r ps (make_box (underline_layout t b)) → SetsOn r ps (underline fonts size b)
-unfolding underline
-underlined fonts size t b r ps e f h = rw (← e) (after_test (int_max (pos 0) b.extents.width) t (underline_layout t b) r ps f h)
-
-pub underline_fault : (fonts : SetValue) (size : Size) (t : ℤ) (b : Layout) (e : PartError) (ps : List Place)
-    → t ≡ default_rule_thickness fonts size → TestAnswers (Err e) (test_rule (int_max (pos 0) b.extents.width) t)
-    → SetsOn (Err e) ps (underline fonts size b)
-unfolding underline
-underline_fault fonts size t b e ps is h = rw (← is) (test_fault e ps (test_rule (int_max (pos 0) b.extents.width) t) (make_box (underline_layout t b)) h)

@@ -8,3 +8,5 @@ pub mod RuledBodies
 pub mod PackedRoots
 -- kerns that are tested
 pub mod KernTests
+-- the pieces of a row on marks
+pub mod PiecesOnMarks

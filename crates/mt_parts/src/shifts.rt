@@ -3,7 +3,7 @@
 ghost use Rattle.std.specs.Prelude.{◌≡◌, ◌^◌, ◌+ℤ◌, ◌-ℤ◌, ◌*ℤ◌, pos, if◌then◌else◌};
 ghost use Rattle.std.specs.Int.{int_max};
 ghost use Rattle.std.specs.Ordering.{int_eq};
-ghost use Rattle.mt_scaled.specs.Number.{Within, half_of, max_dimen};
+ghost use Rattle.mt_scaled.specs.Number.{Within, half_of};
 ghost use Rattle.mt_rules.specs.Styles.{size_of, is_display};
 ghost use Rattle.mt_rules.specs.Parameters;
 ghost use Rattle.mt_box.specs.marks.Recentred.{recentred_extents};
@@ -150,6 +150,40 @@ fn least_down(fonts: &FontSet, style: Style) -> Length
     }
 }
 
+// How high the bottom of a numerator is that is shifted up.
+#[tactic(auto, using(std::proofs::lemmas::Int::ints))]
+fn bottom_of(num: Extents, up: Length) -> Length
+    requires num { Within (2 ^ 40) num.depth }
+    requires up { Within (2 ^ 31) up.sp }
+    ensures is { result.sp ≡ up.sp -ℤ num.depth }
+    ensures small { Within (2 ^ 45) result.sp }
+{
+    up.minus(Length { sp: num.depth })
+}
+
+// How high the top of a denominator is that is shifted down.
+#[tactic(auto, using(std::proofs::lemmas::Int::ints))]
+fn top_of(den: Extents, down: Length) -> Length
+    requires den { Within (2 ^ 40) den.height }
+    requires down { Within (2 ^ 31) down.sp }
+    ensures is { result.sp ≡ den.height -ℤ down.sp }
+    ensures small { Within (2 ^ 45) result.sp }
+{
+    Length { sp: den.height }.minus(down)
+}
+
+// What the gap between two heights lacks.
+#[tactic(auto, using(std::proofs::lemmas::Int::ints))]
+fn lack_of(least: Length, upper: Length, lower: Length) -> Length
+    requires least { Within (2 ^ 42) least.sp }
+    requires upper { Within (2 ^ 45) upper.sp }
+    requires lower { Within (2 ^ 45) lower.sp }
+    ensures is { result.sp ≡ least.sp -ℤ (upper.sp -ℤ lower.sp) }
+    ensures small { Within (2 ^ 47) result.sp }
+{
+    least.minus(upper.minus(lower))
+}
+
 // ---- without a rule
 
 // The gap that there is to be at least between numerator and denominator.
@@ -168,24 +202,6 @@ fn least_gap(fonts: &FontSet, style: Style) -> Length
     }
 }
 
-// What the gap between both lacks.
-#[tactic(auto, using(std::proofs::lemmas::Int::ints))]
-fn lack_between(least: Length, up: Length, down: Length, num: Extents, den: Extents) -> Length
-    requires least { Within (2 ^ 34) least.sp }
-    requires up { Within (2 ^ 31) up.sp }
-    requires down { Within (2 ^ 31) down.sp }
-    requires num { Within (2 ^ 40) num.depth }
-    requires den { Within (2 ^ 40) den.height }
-    ensures is { result.sp ≡ least.sp -ℤ ((up.sp -ℤ num.depth) -ℤ (den.height -ℤ down.sp)) }
-    ensures small { Within (2 ^ 44) result.sp }
-    ensures near { Within max_dimen num.depth → Within max_dimen den.height
-        → Within (2 ^ 36) result.sp }
-{
-    let bottom = up.minus(Length { sp: num.depth });
-    let top = Length { sp: den.height }.minus(down);
-    least.minus(bottom.minus(top))
-}
-
 /// The shifts of a numerator and a denominator of one width, without a rule between them. Where the gap between them
 /// is less than 7 or 3 rules thick, half of what it lacks is added to both.
 #[tactic(auto, using(std::proofs::lemmas::Int::ints, std::proofs::lemmas::Int::clamps))]
@@ -201,14 +217,14 @@ pub fn shifts_without_rule(
     ensures down { result.down.sp ≡ (Fractions.shifts_without_rule fonts.now style num den).down }
     ensures up_small { Within (2 ^ 48) result.up.sp }
     ensures down_small { Within (2 ^ 48) result.down.sp }
-    ensures up_near { Within max_dimen num.depth → Within max_dimen den.height
-        → Within (2 ^ 37) result.up.sp }
-    ensures down_near { Within max_dimen num.depth → Within max_dimen den.height
-        → Within (2 ^ 37) result.down.sp }
 {
     let up = least_up_over_no_rule(fonts, style);
     let down = least_down(fonts, style);
-    let lack = lack_between(least_gap(fonts, style), up, down, num, den);
+    let lack = lack_of(
+        least_gap(fonts, style),
+        bottom_of(num, up),
+        top_of(den, down),
+    );
     let more = lack.half().not_negative();
     ShiftLengths {
         up: up.plus(more),
@@ -224,7 +240,6 @@ fn least_gap_at_rule(style: Style, thickness: Length) -> Length
     requires { Within (2 ^ 40) thickness.sp }
     ensures is { result.sp ≡ if is_display style then pos 3 *ℤ thickness.sp else thickness.sp }
     ensures small { Within (2 ^ 42) result.sp }
-    ensures near { Within max_dimen thickness.sp → Within (2 ^ 33) result.sp }
 {
     if style.is_display() {
         Length {
@@ -235,6 +250,15 @@ fn least_gap_at_rule(style: Style, thickness: Length) -> Length
     }
 }
 
+/// Half of the thickness of a rule.
+pub fn half_rule(thickness: Length) -> Length
+    requires { Within (2 ^ 40) thickness.sp }
+    ensures is { result.sp ≡ half_of thickness.sp }
+    ensures small { Within (2 ^ 40) result.sp }
+{
+    thickness.half()
+}
+
 /// How high the top of a rule is whose middle is on the axis.
 #[tactic(auto, using(std::proofs::lemmas::Int::ints))]
 pub fn top_of_rule(fonts: &FontSet, style: Style, thickness: Length) -> Length
@@ -242,9 +266,8 @@ pub fn top_of_rule(fonts: &FontSet, style: Style, thickness: Length) -> Length
     ensures is { result.sp
         ≡ Parameters.axis_height fonts.now (size_of style) +ℤ half_of thickness.sp }
     ensures small { Within (2 ^ 45) result.sp }
-    ensures near { Within max_dimen thickness.sp → Within (2 ^ 33) result.sp }
 {
-    axis_height(fonts, style.size()).plus(thickness.half())
+    axis_height(fonts, style.size()).plus(half_rule(thickness))
 }
 
 // How high the bottom of such a rule of even thickness is.
@@ -254,42 +277,8 @@ fn bottom_of_even_rule(fonts: &FontSet, style: Style, thickness: Length) -> Leng
     ensures is { result.sp
         ≡ Parameters.axis_height fonts.now (size_of style) -ℤ half_of thickness.sp }
     ensures small { Within (2 ^ 45) result.sp }
-    ensures near { Within max_dimen thickness.sp → Within (2 ^ 33) result.sp }
 {
-    axis_height(fonts, style.size()).minus(thickness.half())
-}
-
-// What the gap above the rule lacks.
-#[tactic(auto, using(std::proofs::lemmas::Int::ints, std::proofs::lemmas::Int::clamps))]
-fn lack_above(clearance: Length, top: Length, up: Length, num: Extents) -> Length
-    requires clearance { Within (2 ^ 42) clearance.sp }
-    requires top { Within (2 ^ 45) top.sp }
-    requires up { Within (2 ^ 31) up.sp }
-    requires num { Within (2 ^ 40) num.depth }
-    ensures is { result.sp ≡ int_max (pos 0) (clearance.sp -ℤ ((up.sp -ℤ num.depth) -ℤ top.sp)) }
-    ensures small { Within (2 ^ 47) result.sp }
-    ensures near { Within (2 ^ 33) clearance.sp → Within (2 ^ 33) top.sp → Within max_dimen num.depth
-        → Within (2 ^ 36) result.sp }
-{
-    let gap = up.minus(Length { sp: num.depth }).minus(top);
-    clearance.minus(gap).not_negative()
-}
-
-// What the gap below the rule lacks.
-#[tactic(auto, using(std::proofs::lemmas::Int::ints, std::proofs::lemmas::Int::clamps))]
-fn lack_below(clearance: Length, bottom: Length, down: Length, den: Extents) -> Length
-    requires clearance { Within (2 ^ 42) clearance.sp }
-    requires bottom { Within (2 ^ 45) bottom.sp }
-    requires down { Within (2 ^ 31) down.sp }
-    requires den { Within (2 ^ 40) den.height }
-    ensures is { result.sp
-        ≡ int_max (pos 0) (clearance.sp -ℤ (bottom.sp -ℤ (den.height -ℤ down.sp))) }
-    ensures small { Within (2 ^ 47) result.sp }
-    ensures near { Within (2 ^ 33) clearance.sp → Within (2 ^ 33) bottom.sp
-        → Within max_dimen den.height → Within (2 ^ 36) result.sp }
-{
-    let gap = bottom.minus(Length { sp: den.height }.minus(down));
-    clearance.minus(gap).not_negative()
+    axis_height(fonts, style.size()).minus(half_rule(thickness))
 }
 
 /// The shifts of a numerator and a denominator of one width, with a rule of this thickness between them. The gap above
@@ -311,10 +300,6 @@ pub fn shifts_with_rule(
         ≡ (Fractions.shifts_with_rule fonts.now style thickness.sp num den).down }
     ensures up_small { Within (2 ^ 48) result.up.sp }
     ensures down_small { Within (2 ^ 48) result.down.sp }
-    ensures up_near { Within max_dimen thickness.sp → Within max_dimen num.depth
-        → Within (2 ^ 37) result.up.sp }
-    ensures down_near { Within max_dimen thickness.sp → Within max_dimen den.height
-        → Within (2 ^ 37) result.down.sp }
 {
     let clearance = least_gap_at_rule(style, thickness);
     let top = top_of_rule(fonts, style, thickness);
@@ -322,7 +307,7 @@ pub fn shifts_with_rule(
     let up = least_up_over_rule(fonts, style);
     let down = least_down(fonts, style);
     ShiftLengths {
-        up: up.plus(lack_above(clearance, top, up, num)),
-        down: down.plus(lack_below(clearance, bottom, down, den)),
+        up: up.plus(lack_of(clearance, bottom_of(num, up), top).not_negative()),
+        down: down.plus(lack_of(clearance, bottom, top_of(den, down)).not_negative()),
     }
 }

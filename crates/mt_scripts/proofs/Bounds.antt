@@ -23,6 +23,3 @@ script_near o h e p = reaches_in_range (2 ^ 33) e (lit≤ tt) (h e p)
 -- a moderate raise is at most 2^40 in size
 pub raise_wide : (x : ℤ) → Within (2 ^ 38) x → Within (2 ^ 40) (to_z w64 (of_z w64 x))
 raise_wide x h = record { low = omega (arith, ints, h.low, h.high); high = omega (arith, ints, h.low, h.high) }
-
-pub near_kept : (x : ℤ) → Within (2 ^ 38) x → Within (2 ^ 38) (to_z w64 (of_z w64 x))
-near_kept x h = record { low = omega (arith, ints, h.low, h.high); high = omega (arith, ints, h.low, h.high) }

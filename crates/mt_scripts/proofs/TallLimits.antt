@@ -63,13 +63,3 @@ box_is_limit (Some b) e h = rw h tt
 pub box_fault : (e : PackError) (ps : List Place) (s : Setting Layout) → BoxSetsOn (Err e) ps s → BoxAnswers (Err e) s
 box_fault (PackOverflow value) ps s h = h
 box_fault NoPackMemory ps s h = tt
-
-pub limits_boxed : (fonts : SetValue) (size : Size) (d delta : ℤ) (n : Extents) (nucleus : BoxValue) (above below : Option Extents) (sup sub : Option BoxValue) (r : Result Extents PackError) (ps : List Place)
-    → d ≡ delta → n ≡ nucleus.extents → above ≡ extents_in sup → below ≡ extents_in sub
-    → BoxSetsOn r ps (limits fonts size (layout_with n nucleus.places) d (limit_of above (layout_or_empty (option_map layout_of sup)).places) (limit_of below (layout_or_empty (option_map layout_of sub)).places))
-    → BoxSetsOn r ps (limits fonts size (layout_of nucleus) delta (option_map layout_of sup) (option_map layout_of sub))
-limits_boxed fonts size d delta n nucleus above below sup sub r ps p q a b h =
-    let h1 = subst (λ x. BoxSetsOn r ps (limits fonts size (layout_with n nucleus.places) x (limit_of above (layout_or_empty (option_map layout_of sup)).places) (limit_of below (layout_or_empty (option_map layout_of sub)).places))) p h in
-    let h2 = subst (λ x. BoxSetsOn r ps (limits fonts size (layout_with x nucleus.places) delta (limit_of above (layout_or_empty (option_map layout_of sup)).places) (limit_of below (layout_or_empty (option_map layout_of sub)).places))) q h1 in
-    let h3 = subst (λ x. BoxSetsOn r ps (limits fonts size (layout_of nucleus) delta x (limit_of below (layout_or_empty (option_map layout_of sub)).places))) (ap (λ e. limit_of e (layout_or_empty (option_map layout_of sup)).places) a ∙ box_limit sup) h2 in
-    subst (λ x. BoxSetsOn r ps (limits fonts size (layout_of nucleus) delta (option_map layout_of sup) x)) (ap (λ e. limit_of e (layout_or_empty (option_map layout_of sub)).places) b ∙ box_limit sub) h3

@@ -2,7 +2,7 @@
 use Rattle.std.specs.Prelude.{◌≡◌, List}
 use Rattle.mt_box.specs.Rows.{PieceValue, pack}
 use Rattle.mt_rules.specs.Scripts.{begins_with_glyph}
-use Rattle.mt_scripts.specs.declared.marked_scripts.Nucleus.{Nucleus}
+use Rattle.mt_scripts.specs.declared.attach.Nucleus.{Nucleus}
 
 -- it is the nucleus of this row
 pub record IsNucleusOf (row : List PieceValue) (n : Nucleus) : Type 0 where

@@ -1,19 +1,28 @@
 //! A nucleus's row with its scripts (The TeXbook, Appendix G, rule 18; tex.web §756 to §759).
-ghost use Rattle.std.specs.Prelude.{◌≡◌, ◌≤◌, ◌<◌, ◌^◌, ◌+◌, ◌++◌, ◌∷◌, [], length, max, pos, Some, None, Option, IfOk};
+ghost use Rattle.std.specs.Prelude.{◌≡◌, ◌≤◌, ◌<◌, ◌^◌, ◌+◌, ◌++◌, ◌∷◌, [], length, max, pos, Some, None, Option, IfOk, ◌+ℤ◌, neg_ℤ, IsErrOf, OnOk, List};
 ghost use Rattle.std.specs.Option.{ForSome, option_map};
 ghost use Rattle.mt_scaled.specs.Number.{Within};
 ghost use Rattle.mt_box.specs.Layout.{layout_of};
-ghost use Rattle.mt_box.specs.Rows.{PieceBox, piece_values, row_level, AllMeasurable, AllModest};
+ghost use Rattle.mt_box.specs.Rows.{PieceBox, piece_values, row_level, AllMeasurable, AllModest, PieceValue};
 ghost use Rattle.mt_rules.specs.Calls.{RowAnswers};
 ghost use Rattle.mt_rules.specs.Scripts;
 ghost use Rattle.mt_scripts.specs.Levels.{script_level};
 ghost use Rattle.mt_scripts.specs.Reaches.{ReachesWithin, RowReachesWithin};
 ghost use Rattle.mt_scripts.specs.Nuclei.{IsNucleusOf};
+ghost use Rattle.std.specs.Int.{int_max};
+ghost use Rattle.mt_box.specs.declared.place.Place.{Place};
+ghost use Rattle.mt_box.specs.Extents.{ExtentsInRange};
+ghost use Rattle.mt_box.specs.marks.Layers.{top};
+ghost use Rattle.mt_box.specs.marks.RowParts.{IsNear};
+ghost use Rattle.mt_rules.specs.Setting.{make_box};
+ghost use Rattle.mt_rules.specs.OnMarks.{RowSetsOn, BoxSetsOn, layout_with};
 
-use crate::marked_scripts::{Nucleus, both_on_marks, sub_on_marks, sup_on_marks};
-use mt_box::{Marks, PackError, Packed, Piece, Row, RowPiece, row_extents, with_extents};
+use crate::script_shifts;
+use mt_box::{
+    Extents, Marks, Move, PackError, Packed, Piece, Row, RowPiece, row_extents, with_extents,
+};
 use mt_family::FontSet;
-use mt_rules::Style;
+use mt_rules::{Shifts, Style, tested_extents};
 use mt_scaled::Length;
 use std::alloc::{AllocError, Global};
 
@@ -114,21 +123,13 @@ fn attach_both(
         ≡ max (row_level nucleus) (max sup.level sub.level + 2)) }
     ensures modest { AllModest nucleus → RowReachesWithin (2 ^ 33) nucleus → IfOk result AllModest }
 {
-    let mut marks = Marks::new(alloc);
-    marks.push_box(alloc, &sup)?;
-    marks.push_box(alloc, &sub)?;
-    let beside = nucleus_of(&nucleus);
-    let piece = both_on_marks(
-        &mut marks,
-        fonts,
-        style,
-        beside,
-        delta,
-        sup.extents(),
-        sub.extents(),
-    )?;
+    let (above, below) = (sup.extents(), sub.extents());
     let level = sup.level().max(sub.level()) + 1;
-    let both = marks.top_box(alloc, piece.extents, level)?;
+    let mut marks = Marks::of_box(alloc, sup)?;
+    marks.push_box(&sub)?;
+    let beside = nucleus_of(&nucleus);
+    let piece = both_on_marks(&mut marks, fonts, style, beside, delta, above, below)?;
+    let both = marks.into_box(piece.extents, level)?;
     Ok(row_with(nucleus, piece, both)?)
 }
 
@@ -168,4 +169,227 @@ fn row_with(row: Row, piece: RowPiece, body: Packed) -> Result<Row, AllocError>
         body,
     })?;
     Ok(Row::from_vec(pieces))
+}
+
+// How much wider each script is made: 0.5pt (plain TeX's \scriptspace).
+const SCRIPT_SPACE: i64 = 32768;
+
+/// What a nucleus reaches that has scripts, and whether it begins with a glyph.
+#[derive(Clone, Copy)]
+pub struct Nucleus {
+    /// What its row reaches.
+    pub extents: Extents,
+    /// Whether its row begins with a glyph.
+    pub glyph: bool,
+}
+
+// The shifts of scripts beside a nucleus.
+fn shifts_beside(
+    fonts: &FontSet,
+    style: Style,
+    nucleus: Nucleus,
+    sup: Option<Extents>,
+    sub: Option<Extents>,
+) -> Shifts
+    requires nucleus { ReachesWithin (2 ^ 41) nucleus.extents }
+    requires sup { ForSome sup ExtentsInRange }
+    requires sub { ForSome sub ExtentsInRange }
+    ensures up { (row : List PieceValue) → IsNucleusOf row nucleus
+        → result.up ≡ (Scripts.shifts_beside fonts.now style row sup sub).up }
+    ensures down { (row : List PieceValue) → IsNucleusOf row nucleus
+        → result.down ≡ (Scripts.shifts_beside fonts.now style row sup sub).down }
+    ensures up_small { Within (2 ^ 48) result.up }
+    ensures down_small { Within (2 ^ 48) result.down }
+    ensures up_near { ReachesWithin (2 ^ 33) nucleus.extents → Within (2 ^ 38) result.up }
+    ensures down_near { ReachesWithin (2 ^ 33) nucleus.extents → Within (2 ^ 38) result.down }
+{
+    script_shifts(fonts, style, nucleus.glyph, nucleus.extents, sup, sub)
+}
+
+// What the script made wider reaches, if it is in range then.
+fn widened(script: Extents) -> Result<Extents, PackError>
+    requires { ExtentsInRange script }
+    ensures is { (ps : List Place)
+        → BoxSetsOn result ps (make_box (Scripts.widened_script (layout_with script ps))) }
+    ensures in_range { IfOk result ExtentsInRange }
+    ensures known { IsErrOf result PackError.OutOfMemory → ⊥ }
+{
+    tested_extents(wider(script))
+}
+
+/// A superscript alone, made wider: what it reaches beside the nucleus, and its raise. Its marks are where they are.
+///
+/// Refused with `Overflow` of its new width, and never with `OutOfMemory`.
+#[tactic(auto, unfolding(mt_rules::specs::Scripts::row_with_scripts))]
+pub fn sup_on_marks(
+    fonts: &FontSet,
+    style: Style,
+    nucleus: Nucleus,
+    sup: Extents,
+) -> Result<RowPiece, PackError>
+    requires nucleus { ReachesWithin (2 ^ 41) nucleus.extents }
+    requires sup { ExtentsInRange sup }
+    ensures is { (row : List PieceValue) → (ps : List Place) → IsNucleusOf row nucleus
+        → RowSetsOn row result ps (Scripts.row_with_scripts fonts.now style row (pos 0)
+        (Some (layout_with sup ps)) None) }
+    ensures near { IfOk result IsNear }
+    ensures known { IsErrOf result PackError.OutOfMemory → ⊥ }
+    ensures in_range { IfOk result (λ p. ExtentsInRange p.extents) }
+    ensures low { ReachesWithin (2 ^ 33) nucleus.extents → IfOk result (λ p. Within (2 ^ 38) p.raise) }
+{
+    let shifts = shifts_beside(fonts, style, nucleus, Some(sup), None);
+    let extents = widened(sup)?;
+    Ok(RowPiece {
+        extents,
+        raise: shifts.up,
+    })
+}
+
+/// A subscript alone, made wider: what it reaches beside the nucleus, and its raise. Its marks are where they are.
+///
+/// Refused with `Overflow` of its new width, and never with `OutOfMemory`.
+#[tactic(auto, unfolding(mt_rules::specs::Scripts::row_with_scripts))]
+pub fn sub_on_marks(
+    fonts: &FontSet,
+    style: Style,
+    nucleus: Nucleus,
+    sub: Extents,
+) -> Result<RowPiece, PackError>
+    requires nucleus { ReachesWithin (2 ^ 41) nucleus.extents }
+    requires sub { ExtentsInRange sub }
+    ensures is { (row : List PieceValue) → (ps : List Place) → IsNucleusOf row nucleus
+        → RowSetsOn row result ps (Scripts.row_with_scripts fonts.now style row (pos 0)
+        None (Some (layout_with sub ps))) }
+    ensures near { IfOk result IsNear }
+    ensures known { IsErrOf result PackError.OutOfMemory → ⊥ }
+    ensures in_range { IfOk result (λ p. ExtentsInRange p.extents) }
+    ensures low { ReachesWithin (2 ^ 33) nucleus.extents → IfOk result (λ p. Within (2 ^ 38) p.raise) }
+{
+    let shifts = shifts_beside(fonts, style, nucleus, None, Some(sub));
+    let extents = widened(sub)?;
+    Ok(RowPiece {
+        extents,
+        raise: raise_of_subscript(shifts).sp,
+    })
+}
+
+/// The superscript and, on top, the subscript become the layout of both: what it reaches beside the nucleus, and its
+/// raise.
+#[tactic(auto, unfolding(mt_rules::specs::Scripts::row_with_scripts))]
+pub fn both_on_marks(
+    marks: &mut Marks,
+    fonts: &FontSet,
+    style: Style,
+    nucleus: Nucleus,
+    delta: Length,
+    sup: Extents,
+    sub: Extents,
+) -> Result<RowPiece, PackError>
+    requires nucleus { ReachesWithin (2 ^ 41) nucleus.extents }
+    requires delta { Within (2 ^ 40) delta.sp }
+    requires sup { ExtentsInRange sup }
+    requires sub { ExtentsInRange sub }
+    ensures is { (row : List PieceValue) → (s b : List Place) → (rest : List (List Place))
+        → IsNucleusOf row nucleus → marks.old ≡ b ∷ s ∷ rest
+        → RowSetsOn row result (top marks.new) (Scripts.row_with_scripts fonts.now style row delta.sp
+        (Some (layout_with sup s)) (Some (layout_with sub b))) }
+    ensures rest { (s b : List Place) → (rest : List (List Place)) → marks.old ≡ b ∷ s ∷ rest
+        → OnOk result (marks.new ≡ top marks.new ∷ rest) }
+    ensures near { IfOk result IsNear }
+    ensures in_range { IfOk result (λ p. ExtentsInRange p.extents) }
+    ensures low { ReachesWithin (2 ^ 33) nucleus.extents → IfOk result (λ p. Within (2 ^ 38) p.raise) }
+{
+    let shifts = shifts_beside(fonts, style, nucleus, Some(sup), Some(sub));
+    let sup = widened(sup)?;
+    let sub = widened(sub)?;
+    let extents = join_both(marks, delta, distance_between(shifts), sup, sub)?;
+    Ok(RowPiece {
+        extents,
+        raise: raise_of_subscript(shifts).sp,
+    })
+}
+
+// The layout of both, from the subscript's reference point.
+fn join_both(
+    marks: &mut Marks,
+    delta: Length,
+    distance: Length,
+    sup: Extents,
+    sub: Extents,
+) -> Result<Extents, PackError>
+    requires delta { Within (2 ^ 40) delta.sp }
+    requires distance { Within (2 ^ 49) distance.sp }
+    requires sup { ExtentsInRange sup }
+    requires sub { ExtentsInRange sub }
+    ensures is { (s b : List Place) → (rest : List (List Place)) → marks.old ≡ b ∷ s ∷ rest
+        → BoxSetsOn result (top marks.new) (make_box (Scripts.both_scripts delta.sp distance.sp
+        (layout_with sup s) (layout_with sub b))) }
+    ensures rest { (s b : List Place) → (rest : List (List Place)) → marks.old ≡ b ∷ s ∷ rest
+        → OnOk result (marks.new ≡ top marks.new ∷ rest) }
+    ensures in_range { IfOk result ExtentsInRange }
+{
+    let extents = tested_extents(extents_of_both(delta, distance, sup, sub))?;
+    let by = Move {
+        right: delta.sp,
+        up: distance.sp,
+    };
+    marks.shift(1, by)?;
+    marks.join();
+    Ok(extents)
+}
+
+#[tactic(auto, using(std::proofs::lemmas::Int::ints))]
+fn wider(extents: Extents) -> Extents
+    requires { ExtentsInRange extents }
+    ensures width { result.width ≡ extents.width +ℤ pos 32768 }
+    ensures height { result.height ≡ extents.height }
+    ensures depth { result.depth ≡ extents.depth }
+{
+    Extents {
+        width: extents.width + SCRIPT_SPACE,
+        ..extents
+    }
+}
+
+// By how much a subscript is raised.
+#[tactic(auto, using(std::proofs::lemmas::Int::ints))]
+fn raise_of_subscript(shifts: Shifts) -> Length
+    requires { Within (2 ^ 48) shifts.down }
+    ensures is { result.sp ≡ neg_ℤ shifts.down }
+    ensures small { Within (2 ^ 48) result.sp }
+    ensures near { Within (2 ^ 38) shifts.down → Within (2 ^ 38) result.sp }
+{
+    Length { sp: -shifts.down }
+}
+
+// The distance between the baselines of both scripts.
+#[tactic(auto, using(std::proofs::lemmas::Int::ints))]
+fn distance_between(shifts: Shifts) -> Length
+    requires up { Within (2 ^ 48) shifts.up }
+    requires down { Within (2 ^ 48) shifts.down }
+    ensures is { result.sp ≡ shifts.up +ℤ shifts.down }
+    ensures small { Within (2 ^ 49) result.sp }
+{
+    Length {
+        sp: shifts.up + shifts.down,
+    }
+}
+
+#[tactic(auto, using(std::proofs::lemmas::Int::ints, std::proofs::lemmas::Int::clamps))]
+fn extents_of_both(delta: Length, distance: Length, sup: Extents, sub: Extents) -> Extents
+    requires delta { Within (2 ^ 40) delta.sp }
+    requires distance { Within (2 ^ 49) distance.sp }
+    requires sup { ExtentsInRange sup }
+    requires sub { ExtentsInRange sub }
+    ensures width { result.width ≡ int_max (pos 0) (int_max (delta.sp +ℤ sup.width) sub.width) }
+    ensures height { result.height ≡ distance.sp +ℤ sup.height }
+    ensures depth { result.depth ≡ sub.depth }
+{
+    let right = delta.plus(Length { sp: sup.width });
+    let width = Length { sp: sub.width }.at_least(right).not_negative();
+    Extents {
+        width: width.sp,
+        height: distance.plus(Length { sp: sup.height }).sp,
+        depth: sub.depth,
+    }
 }

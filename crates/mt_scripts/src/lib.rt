@@ -4,13 +4,9 @@
 
 mod attach;
 mod limits;
-mod marked_limits;
-mod marked_scripts;
 mod shifts;
 
-pub use attach::attach_scripts;
-pub use limits::limits_box;
-pub use marked_limits::limits_on_marks;
-pub use marked_scripts::{Nucleus, both_on_marks, sub_on_marks, sup_on_marks};
+pub use attach::{Nucleus, attach_scripts, both_on_marks, sub_on_marks, sup_on_marks};
+pub use limits::{limits_box, limits_on_marks};
 pub use mt_rules::Shifts;
 pub use shifts::script_shifts;

@@ -238,9 +238,8 @@ fn a_rule_of_odd_thickness(rt: HostRuntime) -> Result<(), Fail> {
 fn a_letter_with_a_degree_on_marks(rt: HostRuntime) -> Result<(), Fail> {
     let alloc = rt.alloc();
     let fonts = toy_fonts(alloc)?;
-    let mut marks = Marks::new(alloc);
-    marks.push_box(alloc, &letter(&rt, alloc))?;
-    marks.push_box(alloc, &letter(&rt, alloc))?;
+    let mut marks = Marks::of_box(alloc, letter(&rt, alloc))?;
+    marks.push_box(&letter(&rt, alloc))?;
     let row = root_on_marks(&mut marks, &fonts, Style::T, LETTER, LETTER).expect(&rt, "a row");
     // a math unit is 36408, and the degree is raised by 196610
     let want = Extents {
@@ -249,7 +248,7 @@ fn a_letter_with_a_degree_on_marks(rt: HostRuntime) -> Result<(), Fail> {
         depth: 0,
     };
     assert!(rt; row == want);
-    let body = marks.top_box(alloc, row, 1)?;
+    let body = marks.into_box(row, 1)?;
     let page = places(alloc, &body, 0, 524290, 2).expect(&rt, "two places");
     let degree = glyph(3, 97, 182040, 327680);
     assert_eq!(rt;
@@ -263,7 +262,7 @@ fn a_letter_with_a_degree_on_marks(rt: HostRuntime) -> Result<(), Fail> {
 fn what_is_left_of_a_letter_on_marks(rt: HostRuntime) -> Result<(), Fail> {
     let alloc = rt.alloc();
     let mut marks = Marks::new(alloc);
-    marks.push_box(alloc, &letter(&rt, alloc))?;
+    marks.push_box(&letter(&rt, alloc))?;
     let left = veil_on_marks(&mut marks, LETTER, true, false, false)?;
     let want = Extents {
         width: 327680,

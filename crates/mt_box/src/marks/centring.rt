@@ -1,14 +1,11 @@
 //! Layouts in the middle of a width.
-ghost use Rattle.std.specs.Prelude.{◌≡◌, ◌-ℤ◌, pos, IfOk, OnOk};
-ghost use Rattle.std.specs.Int.{int_max};
-ghost use Rattle.std.specs.Ordering.{int_eq};
-ghost use Rattle.mt_scaled.specs.Number.{Within, half_of, max_dimen};
+ghost use Rattle.std.specs.Prelude.{◌≡◌, IfOk, OnOk};
+ghost use Rattle.mt_scaled.specs.Number.{Within, max_dimen};
 ghost use Rattle.mt_box.specs.Extents.{ExtentsInRange};
 ghost use Rattle.mt_box.specs.marks.Recentred.{recentred_extents, recentred_layer};
 
 use crate::Extents;
 use crate::boxes::{extents_of_width, inset, is_as_wide};
-use crate::marks::inks::Move;
 use crate::marks::stack::Marks;
 use mt_scaled::Length;
 use std::alloc::AllocError;
@@ -30,20 +27,6 @@ pub fn recentre_layer(
     if is_as_wide(extents, width.sp) {
         return Ok(extents);
     }
-    marks.shift(under, way_to_the_middle(extents, width))?;
+    marks.shift(under, inset(extents, width.sp))?;
     Ok(extents_of_width(extents, width.sp))
-}
-
-// How far right a layout is moved to stand in the middle of a width.
-#[tactic(auto, using(std::proofs::lemmas::Int::ints))]
-fn way_to_the_middle(extents: Extents, width: Length) -> Move
-    requires extents { ExtentsInRange extents }
-    requires width { Within max_dimen width.sp }
-    ensures right { result.right ≡ half_of (width.sp -ℤ extents.width) }
-    ensures up { result.up ≡ pos 0 }
-{
-    Move {
-        right: inset(extents, width.sp).x,
-        up: 0,
-    }
 }

@@ -1,15 +1,18 @@
 //! Layouts one on another.
-ghost use Rattle.std.specs.Prelude.{◌≡◌, ◌≤◌, ◌^◌, ◌∷◌, [], OnOk, OnErr, IfOk};
+ghost use Rattle.std.specs.Prelude.{◌≡◌, ◌≤◌, ◌^◌, ◌+◌, ◌-ℤ◌, ◌∷◌, [], ◌++◌, take, drop, pos, OnOk, OnErr, IfOk};
+ghost use Rattle.mt_box.specs.declared.place.Place.TheVariants.{Glyph};
 ghost use Rattle.mt_box.specs.Extents.{ExtentsInRange};
 ghost use Rattle.mt_box.specs.Layout.{layout_of};
 ghost use Rattle.mt_box.specs.Unfold.{marks, IsMark};
-ghost use Rattle.mt_box.specs.marks.Layers.{begun, put_on, moved_layer, joined, swapped_layers, dropped, top};
+ghost use Rattle.mt_box.specs.marks.Layers.{begun, put_on, moved_layer, joined, swapped_layers, dropped, layer_at, top};
 
 use crate::marks::ink::Ink;
-use crate::marks::inking::{box_of_inks, put_inks};
-use crate::marks::inks::{Move, move_range, turn_range};
-use crate::marks::starts::{Bounds, Two, bounds_of, drop_last, set_start, top_start, two_ends};
-use crate::{Extents, Packed};
+use crate::marks::moves::{Move, move_range, turn_range};
+use crate::marks::numbering::{box_of_nodes, copied_from, without_front};
+use crate::marks::starts::{
+    Bounds, bounds_of, drop_last, set_start, start_of, starts_without, top_start,
+};
+use crate::{Extents, Mark, Node, NodeId, Packed};
 use std::alloc::{AllocError, Global};
 use std::marker::Model;
 
@@ -18,7 +21,8 @@ use std::marker::Model;
 /// Want of memory is also answered where a mark would stand 2^63 scaled points or more from its reference point.
 #[derive(Drop)]
 pub struct Marks {
-    inks: Vec<Ink>,
+    // the marks of all layouts, from the lowest; what is `after` each has no meaning
+    nodes: Vec<Node>,
     // where the marks of each layout begin
     starts: Vec<usize>,
 }
@@ -42,9 +46,31 @@ impl Marks {
         ensures { result ≡ [] }
     {
         Marks {
-            inks: Vec::new(alloc),
+            nodes: Vec::new(alloc),
             starts: Vec::new(alloc),
         }
+    }
+
+    /// No layout, with room for so many marks and layouts.
+    pub fn with_capacity(alloc: Global, marks: usize, layouts: usize) -> Result<Marks, AllocError>
+        ensures { IfOk result (λ m. m ≡ []) }
+    {
+        Ok(Marks {
+            nodes: Vec::with_capacity(alloc, marks)?,
+            starts: Vec::with_capacity(alloc, layouts)?,
+        })
+    }
+
+    /// The layout of a box alone, whose list is taken over.
+    pub fn of_box(alloc: Global, body: Packed) -> Result<Marks, AllocError>
+        ensures { IfOk result (λ m. m ≡ body.places ∷ []) }
+    {
+        let mut starts = Vec::new(alloc);
+        starts.push(0)?;
+        Ok(Marks {
+            nodes: body.nodes,
+            starts,
+        })
     }
 
     /// A layout without marks on top.
@@ -52,7 +78,7 @@ impl Marks {
         ensures is { OnOk result (self.new ≡ begun self.old) }
         ensures err { OnErr result (self.new ≡ self.old) }
     {
-        self.starts.push(self.inks.len())?;
+        self.starts.push(self.nodes.len())?;
         Ok(())
     }
 
@@ -63,7 +89,8 @@ impl Marks {
         ensures is { OnOk result (self.new ≡ put_on (marks ink.mark ink.h ink.v) self.old) }
         ensures err { OnErr result (self.new ≡ self.old) }
     {
-        self.inks.push(ink)?;
+        let node = node_of(ink)?;
+        self.nodes.push(node)?;
         Ok(())
     }
 
@@ -72,10 +99,10 @@ impl Marks {
     pub fn shift(&mut self, under: usize, by: Move) -> Result<(), AllocError>
         ensures { OnOk result (self.new ≡ moved_layer under by.right by.up self.old) }
     {
-        let Some(Bounds { start, end }) = bounds_of(&self.starts, under, self.inks.len()) else {
+        let Some(Bounds { start, end }) = bounds_of(&self.starts, under, self.nodes.len()) else {
             return Ok(());
         };
-        move_range(&mut self.inks, start, end, by)
+        move_range(&mut self.nodes, start, end, by)
     }
 
     /// The two layouts on top become one: the marks of the lower one, and then those of the top one. A lone layout
@@ -93,23 +120,45 @@ impl Marks {
     pub fn swap(&mut self, under: usize)
         ensures { self.new ≡ swapped_layers under self.old }
     {
-        let Some(ends) = two_ends(&self.starts, under, self.inks.len()) else {
+        let end = self.nodes.len();
+        let Some(upper) = bounds_of(&self.starts, under, end) else {
             return;
         };
-        let Two { start, middle, end } = ends;
-        turn_range(&mut self.inks, start, middle, end);
-        set_start(&mut self.starts, under, start + (end - middle));
+        let Some(lower) = bounds_of(&self.starts, under + 1, end) else {
+            return;
+        };
+        turn_range(&mut self.nodes, lower.start, upper.start, upper.end);
+        set_start(
+            &mut self.starts,
+            under,
+            lower.start + (upper.end - upper.start),
+        );
+    }
+
+    /// The layout of a character of a font on top, at its reference point. The font is its number in the font list.
+    pub fn push_glyph(&mut self, font: u16, code: u8) -> Result<(), AllocError>
+        ensures { OnOk result (self.new ≡ (Glyph font code (pos 0) (pos 0) ∷ []) ∷ self.old) }
+    {
+        self.begin()?;
+        self.put(Ink {
+            h: 0,
+            v: 0,
+            mark: Mark::Glyph { font, code },
+        })
     }
 
     /// The layout of a box on top.
-    pub fn push_box(&mut self, alloc: Global, body: &Packed) -> Result<(), AllocError>
+    pub fn push_box(&mut self, body: &Packed) -> Result<(), AllocError>
         ensures { OnOk result (self.new ≡ body.now.places ∷ self.old) }
     {
-        self.starts.push(self.inks.len())?;
-        put_inks(alloc, &mut self.inks, body)
+        self.starts.push(self.nodes.len())?;
+        self.nodes.extend_from_slice(&body.nodes)?;
+        Ok(())
     }
 
     /// The box of the top layout with these extents, which are in range, and this level, from 1 to 2^20. The layouts stay.
+    ///
+    /// Want of memory is also answered where a mark stands more than 3·2^61 scaled points to a side.
     pub fn top_box(&self, alloc: Global, extents: Extents, level: u32) -> Result<Packed, AllocError>
         requires extents { ExtentsInRange extents }
         requires level { level ≤ 2 ^ 20 }
@@ -117,8 +166,56 @@ impl Marks {
         ensures is { IfOk result (λ b. layout_of b ≡ record { extents = extents; places = top self.now }) }
         ensures level { IfOk result (λ b. b.level ≡ level) }
     {
-        let start = top_start(&self.starts, self.inks.len());
-        box_of_inks(alloc, extents, level, &self.inks[start..])
+        let start = top_start(&self.starts, self.nodes.len());
+        box_of_nodes(copied_from(alloc, &self.nodes, start)?, extents, level)
+    }
+
+    /// The box of the top layout, as by [`Marks::top_box`]. The other layouts are given up, and where there are none the
+    /// box takes the list over.
+    pub fn into_box(self, extents: Extents, level: u32) -> Result<Packed, AllocError>
+        requires extents { ExtentsInRange extents }
+        requires level { level ≤ 2 ^ 20 }
+        requires level_low { 1 ≤ level }
+        ensures is { IfOk result (λ b. layout_of b ≡ record { extents = extents; places = top self }) }
+        ensures level { IfOk result (λ b. b.level ≡ level) }
+    {
+        let start = top_start(&self.starts, self.nodes.len());
+        box_of_nodes(without_front(self.nodes, start), extents, level)
+    }
+
+    /// A copy of the layout under so many others on top; an empty one where there is no such layout.
+    pub fn copy(&mut self, under: usize) -> Result<(), AllocError>
+        ensures { OnOk result (self.new ≡ layer_at under self.old ∷ self.old) }
+    {
+        let end_of_all = self.nodes.len();
+        let bounds = bounds_of(&self.starts, under, end_of_all);
+        self.starts.push(end_of_all)?;
+        let Some(Bounds { start, end }) = bounds else {
+            return Ok(());
+        };
+        self.nodes.extend_from_within(start..end)?;
+        Ok(())
+    }
+
+    /// Without so many layouts, the first of which is under so many others. Those under these stay.
+    pub fn remove(&mut self, under: usize, count: usize)
+        ensures { self.new ≡ take under self.old ++ drop (under + count) self.old }
+    {
+        let last = self.starts.len().saturating_sub(under);
+        let first = last.saturating_sub(count);
+        let end_of_all = self.nodes.len();
+        let start = start_of(&self.starts, first, end_of_all);
+        let end = start_of(&self.starts, last, end_of_all);
+        self.nodes.drain(start..end);
+        starts_without(&mut self.starts, first, last, end - start);
+    }
+
+    /// Without layouts. What memory they had stays.
+    pub fn clear(&mut self)
+        ensures { self.new ≡ [] }
+    {
+        self.starts.clear();
+        self.nodes.clear();
     }
 
     /// Without the top layout.
@@ -126,7 +223,24 @@ impl Marks {
         ensures { self.new ≡ dropped self.old }
     {
         if let Some(start) = self.starts.pop() {
-            self.inks.truncate(start);
+            self.nodes.truncate(start);
         }
     }
+}
+
+// The mark as a node, if its offset upward is one of 64 bits.
+fn node_of(ink: Ink) -> Result<Node, AllocError>
+    ensures x { IfOk result (λ n. n.x ≡ ink.h) }
+    ensures y { IfOk result (λ n. pos 0 -ℤ n.y ≡ ink.v) }
+    ensures mark { IfOk result (λ n. n.mark ≡ ink.mark) }
+{
+    let Some(y) = 0i64.checked_sub(ink.v) else {
+        return Err(AllocError);
+    };
+    Ok(Node {
+        x: ink.h,
+        y,
+        mark: ink.mark,
+        after: NodeId(0),
+    })
 }

@@ -1,13 +1,5 @@
 //! Where layouts begin, the lowest one first.
-ghost use Rattle.std.specs.Prelude.{◌≡◌, ◌≤◌, ◌<◌, ◌+◌, ◌-◌, ◌∷◌, take, set, length, reverse, get_or, IfSome, IfNone};
-
-// Where a layout begins, where the one above it begins, and where that ends.
-#[derive(Clone, Copy)]
-pub(crate) struct Two {
-    pub(crate) start: usize,
-    pub(crate) middle: usize,
-    pub(crate) end: usize,
-}
+ghost use Rattle.std.specs.Prelude.{◌≡◌, ◌≤◌, ◌<◌, ◌+◌, ◌-◌, ◌++◌, map, take, drop, set, length, reverse, get_or, IfSome, IfNone};
 
 // From a mark on, before another.
 #[derive(Clone, Copy)]
@@ -16,35 +8,18 @@ pub(crate) struct Bounds {
     pub(crate) end: usize,
 }
 
-// The ends of the layout under so many others and of the one under it, where all marks end at `end`. None where there
-// are not so many layouts.
-pub(crate) fn two_ends(starts: &[usize], under: usize, end: usize) -> Option<Two>
-    ensures start { IfSome result (λ t. t.start ≡ get_or (reverse starts.now) (under + 1) 0) }
-    ensures middle { IfSome result (λ t. t.middle ≡ get_or (reverse starts.now) under 0) }
-    ensures end { IfSome result (λ t. t.end ≡ get_or (end ∷ reverse starts.now) under 0) }
-    ensures some { IfSome result (λ t. under + 1 < length starts.now) }
-    ensures none { IfNone result (length starts.now ≤ under + 1) }
+// Where the layouts that have so many under them begin, where all marks end at `end`.
+pub(crate) fn start_of(starts: &[usize], i: usize, end: usize) -> usize
+    ensures { result ≡ get_or starts.now i end }
 {
-    let count = starts.len();
-    if count < 2 || count - 2 < under {
-        return None;
-    }
-    Some(Two {
-        start: starts[count - 2 - under],
-        middle: starts[count - 1 - under],
-        end: if under == 0 {
-            end
-        } else {
-            starts[count - under]
-        },
-    })
+    if i < starts.len() { starts[i] } else { end }
 }
 
 // Where the layout under so many others begins and ends, where all marks end at `end`. None where there are not so many
 // layouts.
 pub(crate) fn bounds_of(starts: &[usize], under: usize, end: usize) -> Option<Bounds>
-    ensures start { IfSome result (λ b. b.start ≡ get_or (reverse starts.now) under 0) }
-    ensures end { IfSome result (λ b. b.end ≡ get_or (end ∷ reverse starts.now) under 0) }
+    ensures start { IfSome result (λ b. b.start ≡ get_or starts.now (length starts.now - (under + 1)) end) }
+    ensures end { IfSome result (λ b. b.end ≡ get_or starts.now (length starts.now - under) end) }
     ensures some { IfSome result (λ b. under < length starts.now) }
     ensures none { IfNone result (length starts.now ≤ under) }
 {
@@ -53,12 +28,8 @@ pub(crate) fn bounds_of(starts: &[usize], under: usize, end: usize) -> Option<Bo
         return None;
     }
     Some(Bounds {
-        start: starts[count - 1 - under],
-        end: if under == 0 {
-            end
-        } else {
-            starts[count - under]
-        },
+        start: start_of(starts, count - (under + 1), end),
+        end: start_of(starts, count - under, end),
     })
 }
 
@@ -85,4 +56,22 @@ pub(crate) fn set_start(starts: &mut Vec<usize>, under: usize, start: usize)
 {
     let last = starts.len() - 1;
     starts[last - under] = start;
+}
+
+// Without the starts number `first` to `last`, and with those above so much lower.
+pub(crate) fn starts_without(starts: &mut Vec<usize>, first: usize, last: usize, by: usize)
+    requires first { first ≤ last }
+    requires last { last ≤ length starts.old.items }
+    ensures { starts.new.items ≡ take first starts.old.items ++ map (λ n. n - by) (drop last starts.old.items) }
+{
+    starts.drain(first..last);
+    lower_all(&mut starts[first..], by);
+}
+
+fn lower_all(starts: &mut [usize], by: usize)
+    ensures { starts.new ≡ map (λ n. n - by) starts.old }
+{
+    for i in 0..starts.len() {
+        starts[i] = starts[i].saturating_sub(by);
+    }
 }

@@ -1,6 +1,6 @@
 use Rattle.std.proofs.Common.{◌∙◌, ap, arith}
 use Rattle.mt_box.specs.marks.Layers.{joined, moved_layer}
-use Rattle.mt_box.specs.declared.marks.inks.Move.{Move}
+use Rattle.mt_box.specs.declared.marks.moves.Move.{Move}
 use Rattle.mt_align.proofs.Joining.{edge_near, joining_item}
 use Rattle.mt_align.proofs.placing.place_cells.Goals as goal
 

@@ -7,7 +7,7 @@ invariant_of-result c = record {
   extents = none_out c.args.extents (sym c.first_out.ensures ∙ c.in-None.is);
   level = omega arith;
   level_low = omega arith;
-  tree = c.in_ok-glyph_node-in-None.ensures.tree;
+  flat = c.in_ok-glyph_node-in-None.ensures.flat;
 }
 
 pub returns-in_ok-glyph_node-in-None-clause-in_range : goal.returns-in_ok-glyph_node-in-None-clause-in_range

@@ -13,10 +13,12 @@ returns-then-is_as_wide-clause-marks c =
 
 pub returns-clause-marks : goal.returns-clause-marks
 returns-clause-marks c =
-    let same = ap (λ z. int_eq c.args.extents.width z) (sym (kept_wide c.args.width.sp c.requires.width)) ∙ sym c.is_as_wide.ensures in
-    let way = c.way_to_the_middle in
+    let kept = kept_wide c.args.width.sp c.requires.width in
+    let same = ap (λ z. int_eq c.args.extents.width z) (sym kept) ∙ sym c.is_as_wide.ensures in
+    let way = c.inset in
+    let right = way.ensures.right ∙ ap (λ z. half_of (z -ℤ c.args.extents.width)) kept in
     c.in_ok-shift.ensures
-    ∙ (ap (λ z. moved_layer c.args.under z way.result.up c.args.marks.now) way.ensures.right
+    ∙ (ap (λ z. moved_layer c.args.under z way.result.up c.args.marks.now) right
     ∙ (ap (λ z. moved_layer c.args.under (half_of (c.args.width.sp -ℤ c.args.extents.width)) z c.args.marks.now) way.ensures.up
     ∙ inset_layer c.args.under c.args.extents c.args.width.sp c.args.marks.now (same ∙ c.if-is_as_wide.false)))
 

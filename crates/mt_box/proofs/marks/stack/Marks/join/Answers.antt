@@ -1,24 +1,24 @@
 use Rattle.std.proofs.Common.{◌∙◌, ap, sym, length, reverse, arith, ◌≤◌}
 use Rattle.std.proofs.lemmas.List.{length-reverse}
 use Rattle.mt_box.specs.marks.Layers.{joined}
-use Rattle.mt_box.proofs.layers.StartLists.{join_view, join_fall}
-use Rattle.mt_box.proofs.layers.Layering.{alone_joined}
+use Rattle.mt_box.proofs.layers.LayerCalls.{join_now}
+use Rattle.mt_box.proofs.layers.StartLists.{alone_joined}
 use Rattle.mt_box.proofs.marks.stack.Marks.join.Goals as goal
 
 pub invariant_of-self : goal.invariant_of-self
 invariant_of-self c =
     let low : 2 ≤ length c.self.inside.starts.items = omega (arith, c.len.ensures, c.self.inside.starts.ok.0, c.if-len-lt2.false) in
     record {
-      inks = c.self.invariant.inks;
-      starts = join_fall (length c.self.inside.inks.items) c.self.inside.starts.items _ low c.self.invariant.starts c.drop_last.ensures;
+      marks = c.self.invariant.marks;
+      starts = (join_now c.self.inside.nodes.items c.self.inside.starts.items _ low c.self.invariant.starts c.drop_last.ensures).fall;
     }
 
 pub returns : goal.returns
 returns c =
     let low : 2 ≤ length c.self.inside.starts.items = omega (arith, c.len.ensures, c.self.inside.starts.ok.0, c.if-len-lt2.false) in
-    join_view c.self.inside.inks.items c.self.inside.starts.items _ low c.self.invariant.starts c.drop_last.ensures ∙ ap joined c.self.view_is
+    (join_now c.self.inside.nodes.items c.self.inside.starts.items _ low c.self.invariant.starts c.drop_last.ensures).view_is ∙ ap joined c.self.view_is
 
 pub returns-then-len-lt2 : goal.returns-then-len-lt2
 returns-then-len-lt2 c =
     let few : length (reverse c.self.inside.starts.items) ≤ 1 = omega (arith, length-reverse c.self.inside.starts.items, c.len.ensures, c.self.inside.starts.ok.0, c.if-len-lt2.true) in
-    sym c.self.view_is ∙ (alone_joined c.self.inside.inks.items (reverse c.self.inside.starts.items) few ∙ ap joined c.self.view_is)
+    sym c.self.view_is ∙ (alone_joined c.self.inside.nodes.items (reverse c.self.inside.starts.items) few ∙ ap joined c.self.view_is)

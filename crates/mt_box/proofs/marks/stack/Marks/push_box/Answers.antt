@@ -1,9 +1,15 @@
-use Rattle.std.proofs.Common.{◌∙◌, ap, ◌∷◌}
-use Rattle.std.proofs.lemmas.Result.{on_ok_weaker}
-use Rattle.mt_box.proofs.layers.StartLists.{pushed_view}
+use Rattle.std.proofs.Common.{◌∙◌, ap, sym, subst, ◌++◌}
+use Rattle.std.proofs.lemmas.List.Elements.{All-append}
+use Rattle.mt_box.specs.inner.Nodes.{HasMark, AreMarks}
+use Rattle.mt_box.proofs.Flat.{flat_marks}
+use Rattle.mt_box.proofs.layers.StartLists.{pushed_fall}
 use Rattle.mt_box.proofs.marks.stack.Marks.push_box.Goals as goal
 
-pub returns : goal.returns
-returns c =
-    on_ok_weaker c.put_inks.result (λ e. pushed_view c.self.inside.inks.items _ c.self.inside.starts.items _ c.len.result c.args.body.now.places c.put_inks.ensures.front (c.len.ensures ∙ c.self.inside.inks.ok.0) c.in_ok-push.ensures.items e
-    ∙ ap (λ r. c.args.body.now.places ∷ r) c.self.view_is) c.put_inks.ensures.is
+pub invariant_of-self-2 : goal.invariant_of-self-2
+invariant_of-self-2 c =
+    let is = c.self.inside.nodes.items in
+    let more = c.in_ok-extend_from_slice.ensures.items ∙ ap (λ r. is ++ r) c.deref.ensures.value in
+    record {
+      marks = subst AreMarks (sym more) (All-append HasMark is _ c.self.invariant.marks (flat_marks _ _ _ c.body.invariant.flat));
+      starts = pushed_fall is _ _ _ _ _ more (c.len.ensures ∙ c.self.inside.nodes.ok.0) c.in_ok-push.ensures.items c.self.invariant.starts;
+    }
