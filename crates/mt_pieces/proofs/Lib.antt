@@ -1,0 +1,34 @@
+-- parts and layers, with a part more and without
+pub mod Laid
+-- the last pieces, and those before them
+pub mod Split
+-- a box in place of other pieces
+pub mod Settled
+-- what is told of each piece
+pub mod Alike
+-- the last piece
+pub mod LastPieces
+-- a lone box is clean
+pub mod Clean
+-- parts of formulas in place of the last pieces
+pub mod Parted
+-- numbers of parts
+pub mod Kept
+-- the last parts taken off
+pub mod Taken
+-- scripts after a nucleus
+pub mod Attached
+-- a delimiter raised onto the axis
+pub mod Boundaries
+-- the row of a root in place of the last two pieces
+pub mod RootRows
+-- limits above and below an operator
+pub mod Limited
+-- the cells of tables
+pub mod Celled
+-- their extents, found one by one
+pub mod Celling
+-- pieces copied and taken out
+pub mod Moved
+-- pieces taken one after another, from the last one
+pub mod Taking

@@ -1,0 +1,117 @@
+//! Pieces packed.
+ghost use Rattle.std.specs.Prelude.{◌≡◌, ◌≤◌, ◌≤ℤ◌, ◌^◌, ◌∷◌, length, map, take, drop, List, IfOk, OnOk};
+ghost use Rattle.mt_scaled.specs.Number.{Within};
+ghost use Rattle.mt_box.specs.declared.place.Place.{Place};
+ghost use Rattle.mt_box.specs.Extents.{ExtentsInRange};
+ghost use Rattle.mt_box.specs.Rows.{PieceValue, piece_shrink, row_width, row_height, row_depth};
+ghost use Rattle.mt_box.specs.SetRows.{pack_to};
+ghost use Rattle.mt_box.specs.marks.Layers.{top};
+ghost use Rattle.mt_box.specs.marks.RowParts.{AreParts, AllNearParts, on_stack, part_shrink, part_width, parts_sum};
+ghost use Rattle.mt_rules.specs.Nuclei.{make_clean};
+ghost use Rattle.mt_rules.specs.OnMarks.{BoxSetsOn};
+ghost use Rattle.mt_rules.specs.Setting.{make_box, pack_row};
+ghost use Rattle.mt_pieces.specs.Putting.{boxed_on, PacksPieces};
+ghost use Rattle.mt_pieces.specs.inner.LastParts.{is_lone_part};
+
+use crate::pieces::Pieces;
+use crate::putting::settle_packed;
+use mt_box::{
+    Extents, Marks, PackError, RowPart, RowPiece, pack_parts, pack_parts_to, parts_extents,
+};
+use mt_rules::tested_extents;
+use mt_scaled::Length;
+
+impl Pieces {
+    /// What the row of the pieces from number `first` on reaches, in range or not. These are at most 2^21.
+    pub fn reach(&self, first: usize) -> Extents
+        requires few { length (drop first self.now) ≤ 2 ^ 21 }
+        ensures width { result.width ≡ row_width (drop first self.now) }
+        ensures height { result.height ≡ row_height (drop first self.now) }
+        ensures depth { result.depth ≡ row_depth (drop first self.now) }
+    {
+        parts_extents(parts_from(&self.parts, first))
+    }
+
+    /// The pieces from number `first` on, at most 2^21, packed: the box of their row comes in their place.
+    ///
+    /// Refused with `Overflow` of the first of width, height and depth that is out of range, and with `OutOfMemory`.
+    pub fn pack(&mut self, first: usize) -> Result<(), PackError>
+        requires few { length (drop first self.old) ≤ 2 ^ 21 }
+        ensures { PacksPieces result self.new (boxed_on (take first self.old) (pack_row (drop first self.old))) }
+    {
+        let made = pack_layers(&mut self.marks, parts_from(&self.parts, first));
+        settle_packed(&mut self.marks, &mut self.parts, first, made)
+    }
+
+    /// The pieces from number `first` on, at most 2^21, as a row set to a width that is at most its own, as by
+    /// `mt_box::hpack_to` (tex.web §664, §665). The width is at most 2^62 scaled points in size.
+    ///
+    /// Refused as by [`Pieces::pack`].
+    pub fn pack_to(&mut self, first: usize, width: Length) -> Result<(), PackError>
+        requires few { length (drop first self.old) ≤ 2 ^ 21 }
+        requires small { Within (2 ^ 62) width.sp }
+        requires narrow { width.sp ≤ℤ row_width (drop first self.old) }
+        ensures { PacksPieces result self.new
+            (boxed_on (take first self.old) (make_box (pack_to (drop first self.old) width.sp))) }
+    {
+        let made = set_layers(&mut self.marks, parts_from(&self.parts, first), width);
+        settle_packed(&mut self.marks, &mut self.parts, first, made)
+    }
+
+    /// The clean box of the pieces from number `first` on, at most 2^21 (tex.web §720): a lone box that is not raised
+    /// stays, and others are packed as by [`Pieces::pack`]. A character is no box here.
+    pub fn clean(&mut self, first: usize) -> Result<(), PackError>
+        requires few { length (drop first self.old) ≤ 2 ^ 21 }
+        ensures { PacksPieces result self.new (boxed_on (take first self.old) (make_clean (drop first self.old))) }
+    {
+        if is_lone_box(parts_from(&self.parts, first)) {
+            return Ok(());
+        }
+        self.pack(first)
+    }
+}
+
+// The row of these parts becomes the layout on top, which is tested.
+fn pack_layers(marks: &mut Marks, parts: &[RowPart]) -> Result<Extents, PackError>
+    requires few { length parts.now ≤ 2 ^ 21 }
+    requires near { AllNearParts parts.now }
+    ensures is { (ms : List PieceValue) → (ls rest : List (List Place)) → AreParts ms parts.now ls → marks.old ≡ on_stack ls rest
+        → BoxSetsOn result (top marks.new) (pack_row ms) }
+    ensures rest { (ms : List PieceValue) → (ls rest : List (List Place)) → AreParts ms parts.now ls → marks.old ≡ on_stack ls rest
+        → OnOk result (marks.new ≡ top marks.new ∷ rest) }
+    ensures in_range { IfOk result ExtentsInRange }
+{
+    let extents = pack_parts(marks, parts)?;
+    tested_extents(extents)
+}
+
+// The parts from number `first` on.
+pub(crate) fn parts_from(parts: &[RowPart], first: usize) -> &[RowPart]
+    ensures { result.now ≡ drop first parts.now }
+{
+    &parts[first.min(parts.len())..]
+}
+
+// The same for a row that is set to a width.
+fn set_layers(marks: &mut Marks, parts: &[RowPart], width: Length) -> Result<Extents, PackError>
+    requires few { length parts.now ≤ 2 ^ 21 }
+    requires near { AllNearParts parts.now }
+    requires small { Within (2 ^ 62) width.sp }
+    requires narrow { width.sp ≤ℤ parts_sum part_width parts.now }
+    ensures is { (ms : List PieceValue) → (ls rest : List (List Place)) → AreParts ms parts.now ls
+        → map piece_shrink ms ≡ map part_shrink parts.now → marks.old ≡ on_stack ls rest
+        → BoxSetsOn result (top marks.new) (make_box (pack_to ms width.sp)) }
+    ensures rest { (ms : List PieceValue) → (ls rest : List (List Place)) → AreParts ms parts.now ls
+        → map piece_shrink ms ≡ map part_shrink parts.now → marks.old ≡ on_stack ls rest
+        → OnOk result (marks.new ≡ top marks.new ∷ rest) }
+    ensures in_range { IfOk result ExtentsInRange }
+{
+    let extents = pack_parts_to(marks, parts, width)?;
+    tested_extents(extents)
+}
+
+fn is_lone_box(parts: &[RowPart]) -> bool
+    ensures { result ≡ is_lone_part parts.now }
+{
+    matches!(parts, [RowPart::Layout(RowPiece { raise: 0, .. })])
+}

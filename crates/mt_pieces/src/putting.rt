@@ -1,0 +1,134 @@
+//! Parts put after others, and in place of others.
+ghost use Rattle.std.specs.Prelude.{◌≡◌, [], ◌∷◌, ◌++◌, take, pos, IsOk, IfErr, IfOk, OnOk, OnErr};
+ghost use Rattle.mt_box.specs.declared.place.Place.TheVariants.{Glyph};
+ghost use Rattle.mt_pieces.specs.inner.View.{box_part};
+
+use mt_box::{Extents, Ink, Mark, Marks, PackError, RowPart, RowPiece};
+use mt_rules::PartError;
+use std::alloc::AllocError;
+
+// The layer of a character on top.
+pub(crate) fn lay_glyph(marks: &mut Marks, font: u16, code: u8) -> Result<(), AllocError>
+    ensures { OnOk result (marks.new ≡ (Glyph font code (pos 0) (pos 0) ∷ []) ∷ marks.old) }
+{
+    marks.begin()?;
+    marks.put(Ink {
+        h: 0,
+        v: 0,
+        mark: Mark::Glyph { font, code },
+    })
+}
+
+// A part more, whose layer was laid. After a fault there are no parts and no layers.
+pub(crate) fn put_part(
+    marks: &mut Marks,
+    parts: &mut Vec<RowPart>,
+    laid: Result<(), AllocError>,
+    part: RowPart,
+) -> Result<(), AllocError>
+    ensures laid { OnOk result (IsOk laid) }
+    ensures marks { OnOk result (marks.new ≡ marks.old) }
+    ensures parts { OnOk result (parts.new.items ≡ parts.old.items ++ part ∷ []) }
+    ensures no_marks { OnErr result (marks.new ≡ []) }
+    ensures no_parts { OnErr result (parts.new.items ≡ []) }
+{
+    let put = push_part(parts, laid, part);
+    if put.is_err() {
+        marks.clear();
+        parts.clear();
+    }
+    put
+}
+
+pub(crate) fn push_part(
+    parts: &mut Vec<RowPart>,
+    laid: Result<(), AllocError>,
+    part: RowPart,
+) -> Result<(), AllocError>
+    ensures laid { OnOk result (IsOk laid) }
+    ensures parts { OnOk result (parts.new.items ≡ parts.old.items ++ part ∷ []) }
+{
+    laid?;
+    parts.push(part)?;
+    Ok(())
+}
+
+// The box that a call left on top of the layouts is the piece after the first `keep` ones. After a fault there are no
+// parts and no layers.
+pub(crate) fn settle(
+    marks: &mut Marks,
+    parts: &mut Vec<RowPart>,
+    keep: usize,
+    made: Result<Extents, PartError>,
+) -> Result<(), PartError>
+    ensures ok { OnOk result (IsOk made) }
+    ensures marks { OnOk result (marks.new ≡ marks.old) }
+    ensures parts { IfOk made (λ e. OnOk result (parts.new.items ≡ take keep parts.old.items ++ box_part e ∷ [])) }
+    ensures no_marks { OnErr result (marks.new ≡ []) }
+    ensures no_parts { OnErr result (parts.new.items ≡ []) }
+    ensures fault { IfErr made (λ fault. result ≡ Err fault) }
+    ensures memory { IfOk made (λ e. OnErr result (result ≡ Err PartError.OutOfMemory)) }
+{
+    match made {
+        Ok(extents) => {
+            put_box(marks, parts, keep, extents)?;
+            Ok(())
+        }
+        Err(fault) => {
+            marks.clear();
+            parts.clear();
+            Err(fault)
+        }
+    }
+}
+
+// The same where a row was packed.
+pub(crate) fn settle_packed(
+    marks: &mut Marks,
+    parts: &mut Vec<RowPart>,
+    keep: usize,
+    made: Result<Extents, PackError>,
+) -> Result<(), PackError>
+    ensures ok { OnOk result (IsOk made) }
+    ensures marks { OnOk result (marks.new ≡ marks.old) }
+    ensures parts { IfOk made (λ e. OnOk result (parts.new.items ≡ take keep parts.old.items ++ box_part e ∷ [])) }
+    ensures no_marks { OnErr result (marks.new ≡ []) }
+    ensures no_parts { OnErr result (parts.new.items ≡ []) }
+    ensures fault { IfErr made (λ fault. result ≡ Err fault) }
+    ensures memory { IfOk made (λ e. OnErr result (result ≡ Err PackError.OutOfMemory)) }
+{
+    match made {
+        Ok(extents) => {
+            put_box(marks, parts, keep, extents)?;
+            Ok(())
+        }
+        Err(fault) => {
+            marks.clear();
+            parts.clear();
+            Err(fault)
+        }
+    }
+}
+
+// A box that is not raised after the first `keep` parts.
+fn put_box(
+    marks: &mut Marks,
+    parts: &mut Vec<RowPart>,
+    keep: usize,
+    extents: Extents,
+) -> Result<(), AllocError>
+    ensures marks { OnOk result (marks.new ≡ marks.old) }
+    ensures parts { OnOk result (parts.new.items ≡ take keep parts.old.items ++ box_part extents ∷ []) }
+    ensures no_marks { OnErr result (marks.new ≡ []) }
+    ensures no_parts { OnErr result (parts.new.items ≡ []) }
+{
+    parts.truncate(keep);
+    put_part(marks, parts, Ok(()), box_part(extents))
+}
+
+// A box that is not raised.
+pub(crate) fn box_part(extents: Extents) -> RowPart
+    ensures { result ≡ box_part extents }
+{
+    RowPart::Layout(RowPiece { extents, raise: 0 })
+}
