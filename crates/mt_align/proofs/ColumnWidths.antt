@@ -1,15 +1,15 @@
 -- The widths of columns, as rows are gone through from the last to the first.
-use Rattle.std.proofs.Common.{◌≡◌, ℕ, suc, false, drop-cons, ◌≤◌, ◌<◌, ◌+◌, ◌-◌, ◌*◌, ◌^◌, max, List, [], ◌∷◌, ◌++◌, length, map, take, drop, get_or, set, ℤ, pos, ◌+ℤ◌, ◌-ℤ◌, refl, arith, add-one, append_assoc, length-append, sym, ◌∙◌, ap, subst, w64, to_z, of_z}
+use Rattle.std.proofs.Common.{◌≡◌, ℕ, suc, false, ◌≤◌, ◌<◌, ◌+◌, ◌-◌, ◌*◌, ◌^◌, max, List, [], ◌∷◌, ◌++◌, length, map, take, drop, get_or, set, ℤ, pos, ◌+ℤ◌, ◌-ℤ◌, refl, arith, add-one, append_assoc, length-append, sym, ◌∙◌, ap, subst, w64, to_z, of_z}
 use Rattle.std.proofs.lemmas.Int.{ints, clamps}
-use Rattle.std.proofs.lemmas.List.{take-append-drop, take-set, drop-set, length-take-le}
-use Rattle.std.proofs.lemmas.List.Elements.{All-nil, All-cons, All-head, All-tail, All-get_or}
+use Rattle.std.proofs.lemmas.List.{take-append-drop, take-set, drop-set, length-drop, length-take-le}
+use Rattle.std.proofs.lemmas.List.Elements.{All-nil, All-cons, All-head, All-tail, All-drop, All-get_or}
 use Rattle.std.proofs.lemmas.Bool.{false≢true}
 use Rattle.std.specs.Int.{int_max}
 use Rattle.std.specs.Prelude.{All, ◌==◌}
 use Rattle.mt_scaled.specs.Number.{Within, max_dimen}
 use Rattle.mt_box.specs.declared.extents.Extents.{Extents}
 use Rattle.mt_box.specs.Layout.{Layout}
-use Rattle.mt_box.proofs.Lists.{next_item}
+use Rattle.mt_box.proofs.Lists.{item_before, next_item}
 use Rattle.mt_rules.specs.Tables.{Cells, widened, column_widths, with_struts, columns_width}
 use Rattle.mt_align.specs.CellLayers.{bare, bare_rows}
 use Rattle.mt_align.specs.CellRows.{columns_reach}
@@ -134,22 +134,16 @@ struts_length [] = refl
 struts_length (w ∷ ws) = refl
 
 pub struts_few : (rows : List (List Extents)) (n : ℕ) (ws : List ℤ) → ws ≡ with_struts (column_widths (bare_rows rows)) → All (λ (cells : List Extents). length cells ≤ n) rows → length ws ≤ n
-struts_few rows n ws e h =
-    let same : length ws ≡ length (column_widths (bare_rows rows)) = ap (λ xs. length xs) e ∙ struts_length (column_widths (bare_rows rows)) in
-    omega (arith, same, no_wider rows n h)
+struts_few rows n ws e h = omega (arith, ap length e ∙ struts_length (column_widths (bare_rows rows)), no_wider rows n h)
 
 pub struts_fit : (rows : List (List Extents)) (ws : List ℤ) → ws ≡ with_struts (column_widths (bare_rows rows)) → All (λ (cells : List Extents). length cells ≤ length ws) rows
-struts_fit rows ws e =
-    let same : length ws ≡ length (column_widths (bare_rows rows)) = ap (λ xs. length xs) e ∙ struts_length (column_widths (bare_rows rows)) in
-    each_fits rows (length ws) (omega (arith, same))
+struts_fit rows ws e = each_fits rows (length ws) (omega (arith, ap length e ∙ struts_length (column_widths (bare_rows rows))))
 
 pub columns_few : (rows : List (List Extents)) (n : ℕ) (ws : List ℤ) → ws ≡ column_widths (bare_rows rows) → All (λ (cells : List Extents). length cells ≤ n) rows → length ws ≤ n
 columns_few rows n ws e h = rw e (no_wider rows n h)
 
 pub columns_fit : (rows : List (List Extents)) (ws : List ℤ) → ws ≡ column_widths (bare_rows rows) → All (λ (cells : List Extents). length cells ≤ length ws) rows
-columns_fit rows ws e =
-    let same : length ws ≡ length (column_widths (bare_rows rows)) = ap (λ xs. length xs) e in
-    each_fits rows (length ws) (omega (arith, same))
+columns_fit rows ws e = each_fits rows (length ws) (omega (arith, ap length e))
 
 -- the first width is at least that of a strut
 pub struts_set : (ws : List ℤ) (x v : ℤ) → 0 < length ws → x ≡ get_or ws 0 x → v ≡ int_max x (pos 0) → set ws 0 v ≡ with_struts ws
@@ -174,44 +168,18 @@ reach_is gap w (v ∷ ws) =
     behind : (w g c r : ℤ) → c ≡ r -ℤ g → w +ℤ (g +ℤ c) ≡ ((w +ℤ g) +ℤ r) -ℤ g
     behind w g c r e = omega (arith, ints, e)
 
-pub record Reaching (gap : ℤ) (all rest : List ℤ) (end : ℤ) : Type 0 where
-  pub sum : end +ℤ columns_reach gap rest ≡ columns_reach gap all
-  pub near : Within (2 ^ 32 * (2 ^ 20 - length rest)) end
-  pub few : length rest ≤ 2 ^ 20
+pub reach_near : (gap : ℤ) (ws : List ℤ) → All (Within max_dimen) ws → Within (2 ^ 31) gap → Within (2 ^ 32 * length ws) (columns_reach gap ws)
+reach_near gap [] h k = record { low = omega (arith, ints); high = omega (arith, ints) }
+reach_near gap (w ∷ ws) h k =
+    let first : Within max_dimen w = All-head (Within max_dimen) w ws h in
+    let others = reach_near gap ws (All-tail (Within max_dimen) w ws h) k in
+    record { low = omega (arith, ints, first.low, k.low, others.low); high = omega (arith, ints, first.high, k.high, others.high) }
 
-pub reaching_start : (gap : ℤ) (all rest : List ℤ) → rest ≡ all → length all ≤ 2 ^ 19 → Reaching gap all rest (pos 0)
-reaching_start gap all rest e few = rw e (record {
-  sum = omega (arith, ints);
-  near = record { low = omega (arith, ints); high = omega (arith, ints) };
-  few = omega (arith, few);
-})
-
-nearer : (n m : ℕ) (t w g t' : ℤ) → m ≡ n + 1 → m ≤ 2 ^ 20 → t' ≡ (t +ℤ w) +ℤ g → Within (2 ^ 32 * (2 ^ 20 - m)) t → Within max_dimen w → Within (2 ^ 31) g → Within (2 ^ 32 * (2 ^ 20 - n)) t'
-nearer n m t w g t' e few is a b c = record {
-  low = omega (arith, ints, a.low, b.low, c.low, is);
-  high = omega (arith, ints, a.high, b.high, c.high, is);
-}
-
-reach_step : (t w g r a t' : ℤ) → t' ≡ (t +ℤ w) +ℤ g → t +ℤ ((w +ℤ g) +ℤ r) ≡ a → t' +ℤ r ≡ a
-reach_step t w g r a t' is e = omega (arith, ints, is, e)
-
-pub reaching_more : (gap : ℤ) (all rest rest' : List ℤ) (w end end' : ℤ) → Reaching gap all rest end → rest ≡ w ∷ rest' → end' ≡ (end +ℤ w) +ℤ gap → Within max_dimen w → Within (2 ^ 31) gap → Reaching gap all rest' end'
-reaching_more gap all rest rest' w end end' h e is small gap_small =
-    let h' : Reaching gap all (w ∷ rest') end = subst (λ r. Reaching gap all r end) e h in
-    record {
-      sum = reach_step end w gap (columns_reach gap rest') (columns_reach gap all) end' is h'.sum;
-      near = nearer (length rest') (length (w ∷ rest')) end w gap end' (omega arith) h'.few is h'.near small gap_small;
-      few = omega (arith, h'.few);
-    }
-
-pub reaching_small : (gap : ℤ) (all rest : List ℤ) (end : ℤ) → Reaching gap all rest end → Within (2 ^ 52) end
-reaching_small gap all rest end h = record { low = omega (arith, ints, h.near.low, h.few); high = omega (arith, ints, h.near.high, h.few) }
-
-pub reaching_end : (gap : ℤ) (all rest : List ℤ) (end : ℤ) → Reaching gap all rest end → rest ≡ [] → end ≡ columns_reach gap all
-reaching_end gap all rest end h e =
-    let h' : Reaching gap all [] end = subst (λ r. Reaching gap all r end) e h in
-    let s : end +ℤ pos 0 ≡ columns_reach gap all = h'.sum in
-    omega (arith, ints, s)
+-- the columns from number i on
+pub record Reaching (gap : ℤ) (ws : List ℤ) (i : ℕ) (end : ℤ) : Type 0 where
+  pub within : i ≤ length ws
+  pub is : end ≡ columns_reach gap (drop i ws)
+  pub near : Within (2 ^ 51) end
 
 pub width_none : (gap : ℤ) (ws : List ℤ) (end : ℤ) → end ≡ columns_reach gap ws → ws ≡ [] → end ≡ columns_width gap ws
 width_none gap ws end e f = e ∙ rw f refl
@@ -220,12 +188,13 @@ pub width_some : (gap : ℤ) (ws : List ℤ) (end : ℤ) → end ≡ columns_rea
 width_some gap [] end e f = absurd (f refl)
 width_some gap (w ∷ ws) end e f = ap (λ z. z -ℤ gap) e ∙ sym (reach_is gap w ws)
 
-pub reaching_item : (gap : ℤ) (ws : List ℤ) (i : ℕ) (d end end' : ℤ) → Reaching gap ws (drop i ws) end → i < length ws → All (Within max_dimen) ws → Within (2 ^ 31) gap → end' ≡ (end +ℤ to_z w64 (of_z w64 (get_or ws i d))) +ℤ gap → Reaching gap ws (drop (i + 1) ws) end'
-reaching_item gap ws i d end end' h lt small gap_small is =
-    let w : ℤ = get_or ws i d in
-    let in_range : Within max_dimen w = All-get_or (Within max_dimen) ws i d lt small in
-    let next : drop i ws ≡ w ∷ drop (i + 1) ws = rw (add-one, drop-cons ws i d) refl in
-    reaching_more gap ws (drop i ws) (drop (i + 1) ws) w end end' h next (rw (kept w in_range) at is) in_range gap_small
+pub reaching_item : (gap : ℤ) (ws : List ℤ) (i : ℕ) (d end end' : ℤ) → Reaching gap ws i end → 0 < i → length ws ≤ 2 ^ 19 → All (Within max_dimen) ws → Within (2 ^ 31) gap → end' ≡ (end +ℤ to_z w64 (of_z w64 (get_or ws (i - 1) d))) +ℤ gap → Reaching gap ws (i - 1) end'
+reaching_item gap ws i d end end' h low few small k is =
+    let in_range : Within max_dimen (get_or ws (i - 1) d) = All-get_or (Within max_dimen) ws (i - 1) d (omega (arith, low, h.within)) small in
+    let sum : end' ≡ (get_or ws (i - 1) d +ℤ gap) +ℤ columns_reach gap (drop i ws) = omega (arith, ints, (rw (kept _ in_range) at is), h.is) in
+    let all : end' ≡ columns_reach gap (drop (i - 1) ws) = sum ∙ ap (columns_reach gap) (sym (item_before ws i d low h.within)) in
+    let near = reach_near gap (drop (i - 1) ws) (All-drop (Within max_dimen) (i - 1) ws small) k in
+    record { within = omega (arith, h.within); is = all; near = record { low = omega (arith, ints, near.low, all, length-drop (i - 1) ws, few); high = omega (arith, ints, near.high, all, length-drop (i - 1) ws, few) } }
 
 pub not_empty : (ws : List ℤ) → false ≡ (length ws == 0) → ws ≡ [] → ⊥
 not_empty [] h e = absurd (false≢true h)

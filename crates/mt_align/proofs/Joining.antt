@@ -1,8 +1,8 @@
 -- The layouts of cells that are moved to where they stand and become one, from the last one on.
-use Rattle.std.proofs.Common.{◌≡◌, ℕ, zero, suc, ◌≤◌, ◌<◌, ◌+◌, ◌-◌, ◌*◌, ◌^◌, List, [], ◌∷◌, length, take, drop, get_or, ℤ, pos, ◌+ℤ◌, ◌-ℤ◌, arith, sym, ◌∙◌, ap, subst, w64, to_z, of_z}
+use Rattle.std.proofs.Common.{◌≡◌, ℕ, zero, suc, ◌≤◌, ◌<◌, ◌+◌, ◌-◌, ◌^◌, List, [], ◌∷◌, length, take, drop, get_or, ℤ, pos, ◌+ℤ◌, ◌-ℤ◌, arith, sym, ◌∙◌, ap, subst, w64, to_z, of_z}
 use Rattle.std.proofs.lemmas.Int.{ints}
-use Rattle.std.proofs.lemmas.List.{length-take-le}
-use Rattle.std.proofs.lemmas.List.Elements.{All-head, All-tail, All-take, All-get_or}
+use Rattle.std.proofs.lemmas.List.{drop_more, length-take-le}
+use Rattle.std.proofs.lemmas.List.Elements.{All-take, All-get_or}
 use Rattle.std.specs.Prelude.{All}
 use Rattle.mt_scaled.specs.Number.{Within, max_dimen}
 use Rattle.mt_box.specs.declared.extents.Extents.{Extents}
@@ -12,8 +12,8 @@ use Rattle.mt_align.specs.declared.look.Look.{Look}
 use Rattle.mt_align.specs.Looks.{inset_of}
 use Rattle.mt_align.specs.CellRows.{columns_reach}
 use Rattle.mt_align.specs.CellsJoined.{cells_joined, rows_joined}
-use Rattle.mt_align.proofs.ColumnWidths.{kept}
-use Rattle.mt_align.proofs.Items.{item_next, same_item}
+use Rattle.mt_align.proofs.ColumnWidths.{kept, reach_near}
+use Rattle.mt_align.proofs.Items.{same_item}
 use Rattle.mt_align.proofs.Rows.{kept_drop}
 
 -- ---- the cells of a row
@@ -32,22 +32,12 @@ take_more (w ∷ ws) (suc j) d lt gap = regrouped w gap _ _ _ (take_more ws j d 
     regrouped : (w g a b c : ℤ) → a ≡ b +ℤ c → (w +ℤ g) +ℤ a ≡ ((w +ℤ g) +ℤ b) +ℤ c
     regrouped w g a b c e = omega (arith, ints, e)
 
-reach_near : (gap : ℤ) (ws : List ℤ) → All (Within max_dimen) ws → Within (2 ^ 31) gap → Within (2 ^ 32 * length ws) (columns_reach gap ws)
-reach_near gap [] h k = record { low = omega (arith, ints); high = omega (arith, ints) }
-reach_near gap (w ∷ ws) h k =
-    let first : Within max_dimen w = All-head (Within max_dimen) w ws h in
-    let others = reach_near gap ws (All-tail (Within max_dimen) w ws h) k in
-    record { low = omega (arith, ints, first.low, k.low, others.low); high = omega (arith, ints, first.high, k.high, others.high) }
-
 -- no edge is far
 pub edge_near : (look : Look) (gap y : ℤ) (ws : List ℤ) (cells : List Extents) (j : ℕ) (edge : ℤ) (old now : List (List Place)) → JoiningCells look gap y ws cells j edge old now → length cells ≤ 2 ^ 19 → length cells ≤ length ws → All (Within max_dimen) ws → Within (2 ^ 31) gap → Within (2 ^ 53) edge
 edge_near look gap y ws cells j edge old now h few fits small k =
     let n : length (take j ws) ≡ j = length-take-le j ws (omega (arith, h.far, fits)) in
     let near = reach_near gap (take j ws) (All-take (Within max_dimen) j ws small) k in
     record { low = omega (arith, ints, near.low, n, h.far, few, h.edge_is); high = omega (arith, ints, near.high, n, h.far, few, h.edge_is) }
-
-back_edge : (a b w g e : ℤ) → e ≡ b → b ≡ a +ℤ (w +ℤ g) → e -ℤ (w +ℤ g) ≡ a
-back_edge a b w g e p q = omega (arith, ints, p, q)
 
 edge_forth : (e e' w g : ℤ) → e' ≡ e -ℤ (w +ℤ g) → e' +ℤ (w +ℤ g) ≡ e
 edge_forth e e' w g p = omega (arith, ints, p)
@@ -59,13 +49,13 @@ joining_more look gap y ws cells j w c edge edge' x old now now' h low fits is_w
     let one : suc (j - 1) ≡ j = omega (arith, low) in
     let lt : j - 1 < length ws = omega (arith, low, h.far, fits) in
     let lt_c : j - 1 < length cells = omega (arith, low, h.far) in
-    let next_w : drop (j - 1) ws ≡ w ∷ drop j ws = item_next ws (j - 1) w lt ∙ (ap (λ n. get_or ws (j - 1) w ∷ drop n ws) back ∙ ap (λ z. z ∷ drop j ws) (sym is_w)) in
-    let next_c : drop (j - 1) cells ≡ c ∷ drop j cells = item_next cells (j - 1) c lt_c ∙ (ap (λ n. get_or cells (j - 1) c ∷ drop n cells) back ∙ ap (λ z. z ∷ drop j cells) (sym is_c)) in
+    let next_w : drop (j - 1) ws ≡ w ∷ drop j ws = drop_more ws (j - 1) w lt ∙ (ap (λ n. get_or ws (j - 1) w ∷ drop n ws) back ∙ ap (λ z. z ∷ drop j ws) (sym is_w)) in
+    let next_c : drop (j - 1) cells ≡ c ∷ drop j cells = drop_more cells (j - 1) c lt_c ∙ (ap (λ n. get_or cells (j - 1) c ∷ drop n cells) back ∙ ap (λ z. z ∷ drop j cells) (sym is_c)) in
     let sum : columns_reach gap (take j ws) ≡ columns_reach gap (take (j - 1) ws) +ℤ (w +ℤ gap) = ap (λ n. columns_reach gap (take n ws)) (sym one) ∙ (take_more ws (j - 1) w lt gap ∙ ap (λ z. columns_reach gap (take (j - 1) ws) +ℤ (z +ℤ gap)) (sym is_w)) in
     let others : now ≡ cells_joined look gap y ((j - 1) + 1) (edge' +ℤ (w +ℤ gap)) (drop j ws) (drop j cells) old = h.marks ∙ (ap (λ n. cells_joined look gap y n edge (drop j ws) (drop j cells) old) (sym back) ∙ ap (λ z. cells_joined look gap y ((j - 1) + 1) z (drop j ws) (drop j cells) old) (sym (edge_forth edge edge' w gap is_e))) in
     record {
       far = omega (arith, h.far);
-      edge_is = is_e ∙ back_edge (columns_reach gap (take (j - 1) ws)) (columns_reach gap (take j ws)) w gap edge h.edge_is sum;
+      edge_is = omega (arith, ints, is_e, h.edge_is, sum);
       marks =
           is
           ∙ (ap (λ z. joined (moved_layer 1 z y now)) is_x
@@ -92,8 +82,8 @@ rows_more : (look : Look) (gap y : ℤ) (ws ds : List ℤ) (rows : List (List Ex
     → d ≡ get_or ds (i - 1) d → cells ≡ get_or rows (i - 1) cells → v ≡ y -ℤ d → now' ≡ cells_joined look gap v 0 (pos 0) ws cells now → now' ≡ rows_joined look gap y ws (drop (i - 1) ds) (drop (i - 1) rows) old
 rows_more look gap y ws ds rows i d v cells old now now' h low far same is_d is_c is_v is =
     let back : (i - 1) + 1 ≡ i = omega (arith, low) in
-    let next_d : drop (i - 1) ds ≡ d ∷ drop i ds = item_next ds (i - 1) d (omega (arith, low, far, same)) ∙ (ap (λ n. get_or ds (i - 1) d ∷ drop n ds) back ∙ ap (λ z. z ∷ drop i ds) (sym is_d)) in
-    let next_c : drop (i - 1) rows ≡ cells ∷ drop i rows = item_next rows (i - 1) cells (omega (arith, low, far)) ∙ (ap (λ n. get_or rows (i - 1) cells ∷ drop n rows) back ∙ ap (λ z. z ∷ drop i rows) (sym is_c)) in
+    let next_d : drop (i - 1) ds ≡ d ∷ drop i ds = drop_more ds (i - 1) d (omega (arith, low, far, same)) ∙ (ap (λ n. get_or ds (i - 1) d ∷ drop n ds) back ∙ ap (λ z. z ∷ drop i ds) (sym is_d)) in
+    let next_c : drop (i - 1) rows ≡ cells ∷ drop i rows = drop_more rows (i - 1) cells (omega (arith, low, far)) ∙ (ap (λ n. get_or rows (i - 1) cells ∷ drop n rows) back ∙ ap (λ z. z ∷ drop i rows) (sym is_c)) in
     is
     ∙ (ap (λ z. cells_joined look gap z 0 (pos 0) ws cells now) is_v
     ∙ (ap (λ ls. cells_joined look gap (y -ℤ d) 0 (pos 0) ws cells ls) h

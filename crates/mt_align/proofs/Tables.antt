@@ -3,9 +3,11 @@ use Rattle.std.proofs.Common.{◌≡◌, ℕ, ◌≤◌, ◌+◌, ◌^◌, List,
 use Rattle.std.proofs.lemmas.Int.{ints, clamps}
 use Rattle.std.proofs.lemmas.Bool.{false≢true}
 use Rattle.std.proofs.lemmas.List.Elements.{All-head, All-tail}
+use Rattle.std.proofs.lemmas.Result.{on_ok_weaker}
 use Rattle.std.specs.Int.{int_max}
 use Rattle.std.specs.Prelude.{Result, Ok, Err, OnOk, All}
 use Rattle.mt_scaled.specs.Number.{Within, max_dimen, half_of, is_in_range}
+use Rattle.mt_scaled.proofs.Products.{kept}
 use Rattle.mt_family.specs.declared.size.Size.{Size}
 use Rattle.mt_family.specs.SetValue.{SetValue}
 use Rattle.mt_family.specs.Sets.{units_of}
@@ -78,31 +80,26 @@ open_ends gap width ws (cells ∷ rows) =
     first : (h d r : ℤ) → ((pos 0 +ℤ (pos 0 +ℤ h)) +ℤ d) +ℤ r ≡ h +ℤ (d +ℤ r)
     first h d r = omega (arith, ints)
 
-matrix_lines : (y depth : ℤ) (ls : List Layout) → lines_places Matrix y (Some depth) ls ≡ rows_places line_gap y depth ls
-matrix_lines y depth [] = refl
-matrix_lines y depth (l ∷ ls) =
-    let baseline = (y -ℤ line_gap depth l.extents.height) -ℤ l.extents.height in
-    ap (λ ps. all_moved (pos 0) baseline l.places ++ ps) (matrix_lines (baseline -ℤ l.extents.depth) l.extents.depth ls)
-
-open_lines : (y depth : ℤ) (ls : List Layout) → lines_places Equations y (Some depth) ls ≡ rows_places open_gap y depth ls
-open_lines y depth [] = refl
-open_lines y depth (l ∷ ls) =
-    let baseline = (y -ℤ open_gap depth l.extents.height) -ℤ l.extents.height in
-    ap (λ ps. all_moved (pos 0) baseline l.places ++ ps) (open_lines (baseline -ℤ l.extents.depth) l.extents.depth ls)
+look_lines : (look : Look) (gap : ℤ → ℤ → ℤ) → ((d h : ℤ) → gap_before look (Some d) h ≡ gap d h) → (y depth : ℤ) (ls : List Layout) → lines_places look y (Some depth) ls ≡ rows_places gap y depth ls
+look_lines look gap same y depth [] = refl
+look_lines look gap same y depth (l ∷ ls) =
+    let under : ℤ → List Place = λ g. all_moved (pos 0) ((y -ℤ g) -ℤ l.extents.height) l.places ++ lines_places look (((y -ℤ g) -ℤ l.extents.height) -ℤ l.extents.depth) (Some l.extents.depth) ls in
+    let baseline = (y -ℤ gap depth l.extents.height) -ℤ l.extents.height in
+    ap under (same depth l.extents.height) ∙ ap (λ ps. all_moved (pos 0) baseline l.places ++ ps) (look_lines look gap same (baseline -ℤ l.extents.depth) l.extents.depth ls)
 
 first_lines : (y : ℤ) (ls : List Layout) → lines_places Equations (y -ℤ pos 0) None ls ≡ open_places y ls
 first_lines y [] = refl
 first_lines y (l ∷ ls) =
     let first : ((y -ℤ pos 0) -ℤ pos 0) -ℤ l.extents.height ≡ y -ℤ l.extents.height = omega (arith, ints) in
     ap (λ z. all_moved (pos 0) z l.places ++ lines_places Equations (z -ℤ l.extents.depth) (Some l.extents.depth) ls) first
-    ∙ ap (λ ps. all_moved (pos 0) (y -ℤ l.extents.height) l.places ++ ps) (open_lines ((y -ℤ l.extents.height) -ℤ l.extents.depth) l.extents.depth ls)
+    ∙ ap (λ ps. all_moved (pos 0) (y -ℤ l.extents.height) l.places ++ ps) (look_lines Equations open_gap (λ d h. refl) ((y -ℤ l.extents.height) -ℤ l.extents.depth) l.extents.depth ls)
 
 -- ---- how wide they are
 
 -- without rows columns have no width
-rows_wide : (look : Look) (gap width : ℤ) (ws : List ℤ) (rows : List Cells) → (rows ≡ [] → width ≡ pos 0) → int_max (pos 0) width ≡ rows_width width (cells_rows look gap width ws rows)
-rows_wide look gap width ws [] h = ap (λ z. int_max (pos 0) z) (h refl)
-rows_wide look gap width ws (r ∷ rows) h = refl
+rows_wide : (look : Look) (gap width : ℤ) (ws : List ℤ) (rows : List Cells) (f : List Cells → List ℤ) → columns_width gap (f []) ≡ pos 0 → ws ≡ f rows → width ≡ columns_width gap ws → int_max (pos 0) width ≡ rows_width width (cells_rows look gap width ws rows)
+rows_wide look gap width ws [] f none is wide = ap (λ z. int_max (pos 0) z) (wide ∙ (ap (columns_width gap) is ∙ none))
+rows_wide look gap width ws (r ∷ rows) f none is wide = refl
 
 -- ---- a matrix
 
@@ -194,14 +191,11 @@ same_places (Err NoPackMemory) ps qs s h k = tt
 pub on_top : {l : List Place} {now rest : List (List Place)} → now ≡ l ∷ rest → now ≡ top now ∷ rest
 on_top {l} {now} {rest} e = e ∙ ap (λ t. t ∷ rest) (sym (ap top e))
 
-pub on_ok : {T E : Type 0} {P Q : Type 0} (r : Result T E) → (P → Q) → OnOk r P → OnOk r Q
-on_ok (Ok x) f p = f p
-on_ok (Err e) f p = tt
+pub answered : (r : Result Extents PackError) (l : Layout) (e : Extents) (table : Setting Layout) (now all rest : List (List Place)) → all ≡ l.places ∷ rest → layout_with e l.places ≡ l → table ≡ make_box l → ((ps : List Place) → BoxSetsOn r ps (make_box (layout_with e ps))) → OnOk r (now ≡ all) → BoxSetsOn r (top now) table
+answered r l e table now all rest stack reach is made marks =
+    same_places r (top now) l.places table (on_ok_weaker r (λ p. ap top (p ∙ stack)) marks) (subst (λ s. BoxSetsOn r l.places s) (ap (λ m. make_box m) reach ∙ sym is) (made l.places))
 
 -- ---- a matrix on marks
-
-bare_matrix_end : (strut : Extents) (cells : List Cells) → matrix_end strut (bare_rows (table_extents cells)) ≡ matrix_end strut cells
-bare_matrix_end strut cells = rw (bare_end Matrix (strut_drop strut) (Some strut.depth) cells, bare_last Matrix (Some strut.depth) cells) refl
 
 -- what is known of a matrix whose cells are placed
 pub record MatrixPlaced (fonts : SetValue) (strut : Extents) (cells : List Cells) (ws ds : List ℤ) (width total : ℤ) : Type 0 where
@@ -216,7 +210,7 @@ matrix_placed fonts strut rows cells ws ds width total e is wide d t = record {
   widths = is ∙ (ap (λ rs. with_struts (column_widths (bare_rows rs))) e ∙ ap (λ xs. with_struts xs) (bare_widths cells));
   wide = wide;
   drops = d ∙ (ap (λ rs. line_drops Matrix (strut_drop strut) (Some strut.depth) (bare_rows rs)) e ∙ bare_drops Matrix (strut_drop strut) (Some strut.depth) cells);
-  ends = t ∙ (ap (λ rs. matrix_end strut (bare_rows rs)) e ∙ (bare_matrix_end strut cells ∙ matrix_ends (units_of fonts).em width ws strut cells));
+  ends = t ∙ (ap (λ rs. matrix_end strut (bare_rows rs)) e ∙ (rw (bare_end Matrix (strut_drop strut) (Some strut.depth) cells, bare_last Matrix (Some strut.depth) cells) refl ∙ matrix_ends (units_of fonts).em width ws strut cells));
 }
 
 abbrev pub matrix_is : SetValue → Size → Extents → List Cells → List ℤ → ℤ → Layout
@@ -234,18 +228,15 @@ matrix_stack fonts size strut rows cells ws ds width total old rest h e fit o =
     ∙ (ap (λ xs. rows_joined Matrix em height ws xs (table_extents cells) ([] ∷ old)) h.drops
     ∙ (ap (λ ls. rows_joined Matrix em height ws (line_drops Matrix (strut_drop strut) (Some strut.depth) cells) (table_extents cells) ([] ∷ ls)) o
     ∙ (rows_placed Matrix em width height ws (strut_drop strut) (Some strut.depth) cells [] rest fits
-    ∙ (ap (λ ps. ps ∷ rest) (nil_right _ ∙ matrix_lines (height -ℤ strut_drop strut) strut.depth made)
+    ∙ (ap (λ ps. ps ∷ rest) (nil_right _ ∙ look_lines Matrix line_gap (λ d h. refl) (height -ℤ strut_drop strut) strut.depth made)
     ∙ ap (λ z. rows_places line_gap ((axis +ℤ half_of z) -ℤ strut_drop strut) strut.depth made ∷ rest) h.ends))))
-
-no_rows_wide : (gap : ℤ) (ws : List ℤ) (width : ℤ) (cells : List Cells) → ws ≡ with_struts (column_widths cells) → width ≡ columns_width gap ws → cells ≡ [] → width ≡ pos 0
-no_rows_wide gap ws width cells is wide e = wide ∙ (ap (λ xs. columns_width gap xs) is ∙ ap (λ cs. columns_width gap (with_struts (column_widths cs))) e)
 
 matrix_reach : (fonts : SetValue) (size : Size) (strut : Extents) (cells : List Cells) (ws ds : List ℤ) (width total : ℤ) → MatrixPlaced fonts strut cells ws ds width total → layout_with (table_reach fonts size width total) (matrix_is fonts size strut cells ws width).places ≡ matrix_is fonts size strut cells ws width
 matrix_reach fonts size strut cells ws ds width total h =
     let axis = axis_height fonts size in
     let high = ap (λ z. axis +ℤ half_of z) h.ends in
     layout_eq
-    (extents_eq (rows_wide Matrix (units_of fonts).em width ws cells (no_rows_wide (units_of fonts).em ws width cells h.widths h.wide)) high (ap (λ z. z -ℤ (axis +ℤ half_of z)) h.ends))
+    (extents_eq (rows_wide Matrix (units_of fonts).em width ws cells (λ cs. with_struts (column_widths cs)) refl h.widths h.wide) high (ap (λ z. z -ℤ (axis +ℤ half_of z)) h.ends))
     refl
 
 matrix_table_is : (fonts : SetValue) (size : Size) (strut : Extents) (cells : List Cells) (ws ds : List ℤ) (width total : ℤ) → MatrixPlaced fonts strut cells ws ds width total → Within max_dimen width → All (All ExtentsInRange) (table_extents cells) → matrix_table fonts size strut cells ≡ make_box (matrix_is fonts size strut cells ws width)
@@ -267,26 +258,19 @@ pub matrix_answers : (fonts : SetValue) (size : Size) (strut : Extents) (rows : 
     → ((ps : List Place) → BoxSetsOn r ps (make_box (layout_with (table_reach fonts size width total) ps))) → OnOk r (now ≡ rows_joined Matrix (units_of fonts).em (table_reach fonts size width total).height ws ds rows ([] ∷ old))
     → BoxSetsOn r (top now) (matrix_table fonts size strut cells)
 matrix_answers fonts size strut rows cells ws ds width total old now rest r h e fit o w range made marks =
-    let l : Layout = matrix_is fonts size strut cells ws width in
-    let table : make_box (layout_with (table_reach fonts size width total) l.places) ≡ matrix_table fonts size strut cells =
-    ap (λ m. make_box m) (matrix_reach fonts size strut cells ws ds width total h) ∙ sym (matrix_table_is fonts size strut cells ws ds width total h w (subst (λ rs. All (All ExtentsInRange) rs) e range)) in
-    same_places r (top now) l.places (matrix_table fonts size strut cells) (on_ok r (λ p. ap top (p ∙ matrix_stack fonts size strut rows cells ws ds width total old rest h e fit o)) marks)
-    (subst (λ s. BoxSetsOn r l.places s) table (made l.places))
+    answered r (matrix_is fonts size strut cells ws width) (table_reach fonts size width total) (matrix_table fonts size strut cells) now _ rest (matrix_stack fonts size strut rows cells ws ds width total old rest h e fit o)
+    (matrix_reach fonts size strut cells ws ds width total h) (matrix_table_is fonts size strut cells ws ds width total h w (subst (λ rs. All (All ExtentsInRange) rs) e range)) made marks
 
--- without rows the columns have no width
-some_rows : (gap : ℤ) (ws : List ℤ) (width : ℤ) (cells : List Cells) → ws ≡ with_struts (column_widths cells) → width ≡ columns_width gap ws → is_in_range width ≡ false → cells ≡ [] → ⊥
-some_rows gap ws width cells is wide out e = false≢true (sym out ∙ ap is_in_range (no_rows_wide gap ws width cells is wide e))
-
-wide_matrix : (gap : ℤ) (ws : List ℤ) (width : ℤ) (cells : List Cells) → width ≡ columns_width gap ws → is_in_range width ≡ false → (cells ≡ [] → ⊥) → make_rows (matrix_rows gap ws cells) ≡ Err (Overflow width)
-wide_matrix gap ws width [] wide out h = absurd (h refl)
-wide_matrix gap ws width (c ∷ cells) wide out h = wide_row (matrix_row gap ws c) (matrix_rows gap ws cells) width (sym wide) out
+wide_matrix : (gap : ℤ) (ws : List ℤ) (width : ℤ) (cells : List Cells) → ws ≡ with_struts (column_widths cells) → width ≡ columns_width gap ws → is_in_range width ≡ false → make_rows (matrix_rows gap ws cells) ≡ Err (Overflow width)
+wide_matrix gap ws width [] is wide out = absurd (false≢true (sym out ∙ ap is_in_range (wide ∙ ap (columns_width gap) is)))
+wide_matrix gap ws width (c ∷ cells) is wide out = wide_row (matrix_row gap ws c) (matrix_rows gap ws cells) width (sym wide) out
 
 pub matrix_wide : (fonts : SetValue) (size : Size) (strut : Extents) (rows : List (List Extents)) (cells : List Cells) (ws : List ℤ) (width : ℤ) → rows ≡ table_extents cells → ws ≡ with_struts (column_widths (bare_rows rows)) → width ≡ columns_width (units_of fonts).em ws → is_in_range width ≡ false → matrix_table fonts size strut cells ≡ Err (Overflow width)
 unfolding matrix_table
 matrix_wide fonts size strut rows cells ws width e is' wide out =
     let em = (units_of fonts).em in
     let is : ws ≡ with_struts (column_widths cells) = is' ∙ (ap (λ rs. with_struts (column_widths (bare_rows rs))) e ∙ ap (λ xs. with_struts xs) (bare_widths cells)) in
-    let rows_out = wide_matrix em ws width cells wide out (some_rows em ws width cells is wide out) in
+    let rows_out = wide_matrix em ws width cells is wide out in
     rw (← is) (then_err (make_rows (matrix_rows em ws cells)) (Overflow width) (λ ls. make_box (matrix_layout (axis_height fonts size) strut (columns_width em ws) ls)) rows_out)
 
 -- ---- equations on marks
@@ -324,14 +308,11 @@ equations_stack fonts size rows cells ws ds width total old rest h e fit o =
     ∙ (ap (λ ps. ps ∷ rest) (nil_right _ ∙ first_lines height made)
     ∙ ap (λ z. open_places (axis +ℤ half_of z) made ∷ rest) h.ends))))
 
-no_equations_wide : (ws : List ℤ) (width : ℤ) (cells : List Cells) → ws ≡ column_widths cells → width ≡ columns_width (pos 0) ws → cells ≡ [] → width ≡ pos 0
-no_equations_wide ws width cells is wide e = wide ∙ (ap (λ xs. columns_width (pos 0) xs) is ∙ ap (λ cs. columns_width (pos 0) (column_widths cs)) e)
-
 equations_reach : (fonts : SetValue) (size : Size) (cells : List Cells) (ws ds : List ℤ) (width total : ℤ) → EquationsPlaced cells ws ds width total → layout_with (table_reach fonts size width total) (equations_are fonts size cells ws width).places ≡ equations_are fonts size cells ws width
 equations_reach fonts size cells ws ds width total h =
     let axis = axis_height fonts size in
     layout_eq
-    (extents_eq (rows_wide Equations (pos 0) width ws cells (no_equations_wide ws width cells h.widths h.wide)) (ap (λ z. axis +ℤ half_of z) h.ends) (ap (λ z. z -ℤ (axis +ℤ half_of z)) h.ends))
+    (extents_eq (rows_wide Equations (pos 0) width ws cells column_widths refl h.widths h.wide) (ap (λ z. axis +ℤ half_of z) h.ends) (ap (λ z. z -ℤ (axis +ℤ half_of z)) h.ends))
     refl
 
 equations_table_is : (fonts : SetValue) (size : Size) (cells : List Cells) (ws ds : List ℤ) (width total : ℤ) → EquationsPlaced cells ws ds width total → Within max_dimen width → length ws ≤ 2 → All (Fits (length ws)) (table_extents cells) → All (Fits 2) (table_extents cells) → All (All ExtentsInRange) (table_extents cells)
@@ -359,15 +340,12 @@ pub equations_answers : (fonts : SetValue) (size : Size) (rows : List (List Exte
     → ((ps : List Place) → BoxSetsOn r ps (make_box (layout_with (table_reach fonts size width total) ps))) → OnOk r (now ≡ rows_joined Equations (pos 0) (table_reach fonts size width total).height ws ds rows ([] ∷ old))
     → BoxSetsOn r (top now) (equations_table fonts size cells)
 equations_answers fonts size rows cells ws ds width total old now rest r h e few fit two o w range made marks =
-    let l : Layout = equations_are fonts size cells ws width in
-    let same = equations_table_is fonts size cells ws ds width total h w few (subst (λ rs. All (Fits (length ws)) rs) e fit) (subst (λ rs. All (Fits 2) rs) e two) (subst (λ rs. All (All ExtentsInRange) rs) e range) in
-    let table : make_box (layout_with (table_reach fonts size width total) l.places) ≡ equations_table fonts size cells = ap (λ m. make_box m) (equations_reach fonts size cells ws ds width total h) ∙ sym same in
-    same_places r (top now) l.places (equations_table fonts size cells) (on_ok r (λ p. ap top (p ∙ equations_stack fonts size rows cells ws ds width total old rest h e fit o)) marks)
-    (subst (λ s. BoxSetsOn r l.places s) table (made l.places))
+    answered r (equations_are fonts size cells ws width) (table_reach fonts size width total) (equations_table fonts size cells) now _ rest (equations_stack fonts size rows cells ws ds width total old rest h e fit o)
+    (equations_reach fonts size cells ws ds width total h) (equations_table_is fonts size cells ws ds width total h w few (subst (λ rs. All (Fits (length ws)) rs) e fit) (subst (λ rs. All (Fits 2) rs) e two) (subst (λ rs. All (All ExtentsInRange) rs) e range)) made marks
 
-wide_equations : (first second width : ℤ) (cells : List Cells) → first +ℤ second ≡ width → is_in_range width ≡ false → (cells ≡ [] → ⊥) → make_rows (equations_rows first second cells) ≡ Err (Overflow width)
-wide_equations first second width [] wide out h = absurd (h refl)
-wide_equations first second width (c ∷ cells) wide out h = wide_row (equations_row first second c) (equations_rows first second cells) width wide out
+wide_equations : (ws : List ℤ) (first second width : ℤ) (cells : List Cells) → ws ≡ column_widths cells → width ≡ columns_width (pos 0) ws → first +ℤ second ≡ width → is_in_range width ≡ false → make_rows (equations_rows first second cells) ≡ Err (Overflow width)
+wide_equations ws first second width [] is wide sum out = absurd (false≢true (sym out ∙ ap is_in_range (wide ∙ ap (columns_width (pos 0)) is)))
+wide_equations ws first second width (c ∷ cells) is wide sum out = wide_row (equations_row first second c) (equations_rows first second cells) width sum out
 
 pub equations_wide : (fonts : SetValue) (size : Size) (rows : List (List Extents)) (cells : List Cells) (ws : List ℤ) (width : ℤ) → rows ≡ table_extents cells → ws ≡ column_widths (bare_rows rows) → width ≡ columns_width (pos 0) ws → length ws ≤ 2 → is_in_range width ≡ false → equations_table fonts size cells ≡ Err (Overflow width)
 unfolding equations_table
@@ -376,23 +354,20 @@ equations_wide fonts size rows cells ws width e is' wide few out =
     let second : ℤ = get_or ws 1 (pos 0) in
     let is : ws ≡ column_widths cells = is' ∙ (ap (λ rs. column_widths (bare_rows rs)) e ∙ bare_widths cells) in
     let sum : first +ℤ second ≡ width = sym (both_wide ws few) ∙ sym wide in
-    let rows_out = wide_equations first second width cells sum out (λ none. false≢true (sym out ∙ ap is_in_range (no_equations_wide ws width cells is wide none))) in
+    let rows_out = wide_equations ws first second width cells is wide sum out in
     rw (← is) (then_err (make_rows (equations_rows first second cells)) (Overflow width) (λ ls. make_box (equations_layout (axis_height fonts size) (first +ℤ second) ls)) rows_out)
 
 -- ---- numbers that come through unchanged
-
-kept_wide : (x : ℤ) → Within (2 ^ 53) x → to_z w64 (of_z w64 x) ≡ x
-kept_wide x h = omega (arith, ints, h.low, h.high)
 
 -- a width that was tested
 pub tested_width : (w : ℤ) (passes : Bool) → Within (2 ^ 53) w → passes ≡ is_in_range (to_z w64 (of_z w64 w)) → passes ≡ true → Within max_dimen w
 tested_width w passes small is e =
     let within : is_in_range (to_z w64 (of_z w64 w)) ≡ true = sym is ∙ e in
-    in_range w (rw (kept_wide w small) at within)
+    in_range w (rw (kept (2 ^ 53) w small (omega arith)) at within)
 
 -- and is refused
 pub refused_width : (w : ℤ) (passes : Bool) → Within (2 ^ 53) w → passes ≡ is_in_range (to_z w64 (of_z w64 w)) → passes ≡ false → (is_in_range w ≡ false) × (to_z w64 (of_z w64 w) ≡ w)
 refused_width w passes small is e =
-    let same : to_z w64 (of_z w64 w) ≡ w = kept_wide w small in
+    let same : to_z w64 (of_z w64 w) ≡ w = kept (2 ^ 53) w small (omega arith) in
     let out : is_in_range (to_z w64 (of_z w64 w)) ≡ false = sym is ∙ e in
     (rw same at out, same)

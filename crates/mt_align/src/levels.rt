@@ -11,9 +11,10 @@ pub(crate) fn level_of_table(rows: &CellRows) -> u32
     ensures low { 1 ≤ result }
     ensures small { result ≤ 2 ^ 20 }
 {
+    let rows = rows.as_slice();
     let mut level = 1;
-    for cells in rows.as_slice() {
-        level = level.max(level_of_row(cells) + 1);
+    for i in (0..rows.len()).rev() {
+        level = level.max(level_of_row(&rows[i]) + 1);
     }
     level
 }
@@ -24,9 +25,10 @@ fn level_of_row(cells: &CellRow) -> u32
     ensures is { result ≡ boxes_level cells.now }
     ensures small { result < 2 ^ 20 }
 {
+    let cells = cells.as_slice();
     let mut level = 1;
-    for cell in cells.as_slice() {
-        level = level.max(cell.level() + 1);
+    for i in (0..cells.len()).rev() {
+        level = level.max(cells[i].level() + 1);
     }
     level
 }

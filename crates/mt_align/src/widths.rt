@@ -84,8 +84,8 @@ pub(crate) fn columns_reach(gap: Length, widths: &[i64]) -> Length
     ensures small { Within (2 ^ 52) result.sp }
 {
     let mut end = Length { sp: 0 };
-    for width in widths {
-        end = end.plus(Length { sp: *width }).plus(gap);
+    for i in (0..widths.len()).rev() {
+        end = end.plus(Length { sp: widths[i] }).plus(gap);
     }
     end
 }

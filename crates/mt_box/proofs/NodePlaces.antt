@@ -1,7 +1,6 @@
 -- The places of nodes, and of nodes moved.
-use Rattle.std.proofs.Common.{◌≡◌, ℕ, zero, suc, ◌<◌, ◌+◌, List, [], ◌∷◌, ◌++◌, length, take, drop, set, get_or, ℤ, pos, ◌+ℤ◌, ◌-ℤ◌, refl, arith, append_assoc, sym, ◌∙◌, ap, subst}
+use Rattle.std.proofs.Common.{◌≡◌, ℕ, zero, suc, List, [], ◌∷◌, ◌++◌, length, take, drop, ℤ, pos, ◌+ℤ◌, ◌-ℤ◌, refl, arith, append_assoc, sym, ◌∙◌, ap, subst}
 use Rattle.std.proofs.lemmas.Int.{ints}
-use Rattle.std.proofs.lemmas.List.{length-take-le, drop_more, take_more, get_or_at, set_at}
 use Rattle.std.proofs.lemmas.List.Elements.{All-append, All-take, All-drop}
 use Rattle.mt_box.specs.Layout.{all_moved}
 use Rattle.mt_box.specs.Placing.{lowered, all_lowered}
@@ -11,7 +10,7 @@ use Rattle.mt_box.specs.declared.node.Node.{Node}
 use Rattle.mt_box.specs.declared.node.Mark.{Mark}
 use Rattle.mt_box.specs.declared.node.Mark.TheVariants as mark
 use Rattle.mt_box.specs.Unfold.{marks, stacked}
-use Rattle.mt_box.specs.inner.Nodes.{node_places, node_moved, nodes_moved, HasMark, AreMarks}
+use Rattle.mt_box.specs.inner.Nodes.{node_places, nodes_moved, HasMark, AreMarks}
 use Rattle.mt_box.proofs.Moved.{moved_append}
 
 -- ---- the places of a mark, moved

@@ -10,3 +10,5 @@ pub mod Centred
 pub mod RowSums
 -- rows of layouts and gaps
 pub mod RowLayers
+-- a run of them copied
+pub mod CopiedRuns

@@ -1,6 +1,5 @@
 //! Layouts that are being made: their marks, on one list.
 mod centring;
-mod ink;
 mod moves;
 mod numbering;
 mod row;
@@ -8,7 +7,6 @@ mod stack;
 mod starts;
 
 pub use centring::recentre_layer;
-pub use ink::Ink;
 pub use moves::Move;
 pub(crate) use row::RowReach;
 pub use row::{RowPart, RowPiece, pack_parts, pack_parts_to, parts_extents};

@@ -6,7 +6,7 @@ use Rattle.mt_scaled.specs.Number.{Within}
 use Rattle.mt_tfm.specs.Font.{Metrics, height_of}
 use Rattle.mt_box.specs.declared.place.Place.{Place}
 use Rattle.mt_box.specs.declared.node.Mark.TheVariants as mark
-use Rattle.mt_box.specs.declared.marks.ink.Ink.{Ink}
+use Rattle.mt_box.specs.declared.marks.moves.Move.{Move}
 use Rattle.mt_box.specs.Limits.{max_repeats}
 use Rattle.mt_box.specs.Unfold.{marks, stacked}
 use Rattle.mt_box.specs.marks.Layers.{put_on}
@@ -23,26 +23,18 @@ place_first e f = cc
 
 -- ---- the mark of a run
 
--- a mark whose first glyph has its top y above the baseline
-pub record StandsAt (m : Metrics) (c : ℕ) (y : ℤ) (i : Ink) : Type 0 where
-  pub h : i.h ≡ pos 0
-  pub v : i.v ≡ height_of m c -ℤ y
-
-pub stands_at : (m : Metrics) (c : ℕ) (depth : ℤ) (i : Ink) → i.h ≡ pos 0 → i.v ≡ depth +ℤ height_of m c → StandsAt m c (neg_ℤ depth) i
-stands_at m c depth i h v = record { h = h; v = omega (arith, ints, v) }
-
-pub piece_marks : (number : ℕ) (m : Metrics) (c : ℕ) (y : ℤ) (i : Ink) → (c ≡ 0 → ⊥) → StandsAt m c y i → i.mark ≡ mark.Glyph number c → marks i.mark i.h i.v ≡ glyphs_places number m y (recipe_piece c)
-piece_marks number m c y i some at e =
-    ap (λ k. marks k i.h i.v) e ∙ (place_first (glyph_eq at.h at.v) refl ∙ ap (λ cs. glyphs_places number m y cs) (sym (one_piece c some)))
+-- its first glyph has its top so far below the baseline
+pub piece_marks : (number : ℕ) (m : Metrics) (c : ℕ) (depth : ℤ) (at : Move) → (c ≡ 0 → ⊥) → at.right ≡ pos 0 → pos 0 -ℤ at.up ≡ depth +ℤ height_of m c → marks (mark.Glyph number c) at.right (pos 0 -ℤ at.up) ≡ glyphs_places number m (neg_ℤ depth) (recipe_piece c)
+piece_marks number m c depth at some h v =
+    place_first (glyph_eq h (omega (arith, ints, v))) refl ∙ ap (λ cs. glyphs_places number m (neg_ℤ depth) cs) (sym (one_piece c some))
 
 repeats_places : (number : ℕ) (m : Metrics) (n c : ℕ) (step h v y : ℤ) → step ≡ height_plus_depth m c → h ≡ pos 0 → v ≡ height_of m c -ℤ y → stacked number c step n h v ≡ glyphs_places number m y (replicate n c)
 repeats_places number m zero c step h v y s e f = refl
 repeats_places number m (suc n) c step h v y s e f =
     place_first (glyph_eq e f) (repeats_places number m n c step h (v +ℤ step) (y -ℤ height_plus_depth m c) s e (omega (arith, ints, s, f)))
 
-pub repeats_marks : (number : ℕ) (m : Metrics) (n c : ℕ) (step y : ℤ) (i : Ink) → StandsAt m c y i → step ≡ height_plus_depth m c → i.mark ≡ mark.Stack number c step n → marks i.mark i.h i.v ≡ glyphs_places number m y (replicate n c)
-repeats_marks number m n c step y i at s e =
-    ap (λ k. marks k i.h i.v) e ∙ repeats_places number m n c step i.h i.v y s at.h at.v
+pub repeats_marks : (number : ℕ) (m : Metrics) (n c : ℕ) (step depth : ℤ) (at : Move) → at.right ≡ pos 0 → pos 0 -ℤ at.up ≡ depth +ℤ height_of m c → step ≡ height_plus_depth m c → marks (mark.Stack number c step n) at.right (pos 0 -ℤ at.up) ≡ glyphs_places number m (neg_ℤ depth) (replicate n c)
+repeats_marks number m n c step depth at h v s = repeats_places number m n c step at.right (pos 0 -ℤ at.up) (neg_ℤ depth) s h (omega (arith, ints, v))
 
 -- ---- how far it reaches downward
 

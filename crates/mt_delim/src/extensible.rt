@@ -15,7 +15,7 @@ ghost use Rattle.mt_delim.specs.inner.Runs.{run_glyphs, glyphs_of, IsFew, AreFew
 
 use crate::repeats::repeats;
 use crate::search::height_plus_depth;
-use mt_box::{Extents, Ink, MAX_REPEATS, Mark, Marks, first_out};
+use mt_box::{Extents, MAX_REPEATS, Mark, Marks, Move, first_out};
 use mt_rules::{PartError, extents_without_italic, tested_part, width_with_italic};
 use mt_scaled::Length;
 use mt_tfm::{Font, Recipe};
@@ -241,7 +241,7 @@ fn put_piece(
         return Ok(depth);
     }
     let mark = Mark::Glyph { font: number, code };
-    marks.put(ink_below(font, code, mark, depth))?;
+    marks.put(way_below(font, code, depth), mark)?;
     Ok(depth.plus(height_plus_depth(font, code)))
 }
 
@@ -272,23 +272,21 @@ fn put_repeats(
         step: step.sp,
         count,
     };
-    marks.put(ink_below(font, code, mark, depth))?;
+    marks.put(way_below(font, code, depth), mark)?;
     Ok(depth.plus(times(step, count)))
 }
 
-// A mark whose first glyph has its top so far below the baseline.
+// To where a glyph stands whose top is so far below the baseline.
 #[tactic(auto, using(std::proofs::lemmas::Int::ints))]
-fn ink_below(font: &Font, code: u8, mark: Mark, depth: Length) -> Ink
+fn way_below(font: &Font, code: u8, depth: Length) -> Move
     requires there { IsTrue (exists font.now code) }
     requires depth { Within (2 ^ 50) depth.sp }
-    ensures h { result.h ≡ pos 0 }
-    ensures v { result.v ≡ depth.sp +ℤ height_of font.now code }
-    ensures mark { result.mark ≡ mark }
+    ensures right { result.right ≡ pos 0 }
+    ensures down { pos 0 -ℤ result.up ≡ depth.sp +ℤ height_of font.now code }
 {
-    Ink {
-        h: 0,
-        v: depth.plus(height_of_glyph(font, code)).sp,
-        mark,
+    Move {
+        right: 0,
+        up: depth.plus(height_of_glyph(font, code)).negated().sp,
     }
 }
 

@@ -1,5 +1,5 @@
 -- Lines that are given as boxes: their level, and their layouts on marks.
-use Rattle.std.proofs.Common.{◌≡◌, ℕ, ◌≤◌, ◌+◌, ◌^◌, max, List, [], ◌∷◌, ◌++◌, map, length, suc, refl, arith, append_assoc, ◌∙◌, ap, subst}
+use Rattle.std.proofs.Common.{◌≡◌, ◌≤◌, ◌+◌, ◌^◌, List, [], ◌∷◌, ◌++◌, map, length, suc, refl, arith, append_assoc, ◌∙◌, ap, subst}
 use Rattle.std.proofs.lemmas.List.Elements.{All-head, All-tail, All-nil, All-append}
 use Rattle.std.specs.Prelude.{All}
 use Rattle.mt_box.specs.declared.place.Place.{Place}
@@ -12,39 +12,13 @@ use Rattle.mt_parts.specs.LineLayers.{all_extents, all_places}
 
 -- ---- their level
 
-pub record Leveled (rows rest : List BoxValue) (level : ℕ) : Type 0 where
-  pub is : max level (boxes_level rest) ≡ boxes_level rows
-  pub low : 1 ≤ level
-  pub small : level ≤ 2 ^ 20
-  pub levels : All (λ (b : BoxValue). b.level + 4 ≤ 2 ^ 20) rest
-
-boxes_level-low : (bs : List BoxValue) → 1 ≤ boxes_level bs
+pub boxes_level-low : (bs : List BoxValue) → 1 ≤ boxes_level bs
 boxes_level-low [] = omega arith
 boxes_level-low (b ∷ bs) = omega (arith, boxes_level-low bs)
 
-pub leveled_start : (rows : List BoxValue) → All (λ (b : BoxValue). b.level + 4 ≤ 2 ^ 20) rows → Leveled rows rows 1
-leveled_start rows levels = record {
-  is = omega (arith, boxes_level-low rows);
-  low = omega arith;
-  small = omega arith;
-  levels = levels;
-}
-
-pub leveled_step : (rows rest rest' : List BoxValue) (b : BoxValue) (level level' : ℕ) → Leveled rows rest level → rest ≡ b ∷ rest' → level' ≡ max level (b.level + 1) → Leveled rows rest' level'
-leveled_step rows rest rest' b level level' h is e =
-    let h' : Leveled rows (b ∷ rest') level = subst (λ z. Leveled rows z level) is h in
-    let modest : b.level + 4 ≤ 2 ^ 20 = All-head (λ (c : BoxValue). c.level + 4 ≤ 2 ^ 20) b rest' h'.levels in
-    record {
-      is = omega (arith, e, h'.is);
-      low = omega (arith, e, h'.low);
-      small = omega (arith, e, h'.small, modest);
-      levels = All-tail (λ (c : BoxValue). c.level + 4 ≤ 2 ^ 20) b rest' h'.levels;
-    }
-
-pub leveled_end : (rows rest : List BoxValue) (level : ℕ) → Leveled rows rest level → rest ≡ [] → level ≡ boxes_level rows
-leveled_end rows rest level h e =
-    let h' : Leveled rows [] level = subst (λ z. Leveled rows z level) e h in
-    omega (arith, h'.is, h'.low)
+pub boxes_level-small : (bs : List BoxValue) → All (λ (b : BoxValue). b.level + 4 ≤ 2 ^ 20) bs → boxes_level bs ≤ 2 ^ 20
+boxes_level-small [] h = omega arith
+boxes_level-small (b ∷ bs) h = omega (arith, All-head (λ (c : BoxValue). c.level + 4 ≤ 2 ^ 20) b bs h, boxes_level-small bs (All-tail (λ (c : BoxValue). c.level + 4 ≤ 2 ^ 20) b bs h))
 
 -- ---- their layouts
 

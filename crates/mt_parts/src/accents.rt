@@ -14,7 +14,7 @@ ghost use Rattle.mt_rules.specs.Symbols.{find_symbol};
 ghost use Rattle.mt_rules.specs.Accents;
 
 use crate::boxed::boxed;
-use mt_box::{Extents, Ink, Mark, Marks, Packed};
+use mt_box::{Extents, Mark, Marks, Move, Packed};
 use mt_family::{FontSet, Size};
 use mt_rules::{PartError, Symbol, extents_without_italic, tested_extents, width_with_italic};
 use mt_scaled::Length;
@@ -136,11 +136,11 @@ fn put_first(
     ensures { OnOk result (marks.new ≡ joined (swapped_layers 0 (put_on (Glyph number code x.sp (neg_ℤ y.sp) ∷ []) (begun marks.old)))) }
 {
     marks.begin()?;
-    marks.put(Ink {
-        h: x.sp,
-        v: -y.sp,
-        mark: Mark::Glyph { font: number, code },
-    })?;
+    let at = Move {
+        right: x.sp,
+        up: y.sp,
+    };
+    marks.put(at, Mark::Glyph { font: number, code })?;
     marks.swap(0);
     marks.join();
     Ok(())

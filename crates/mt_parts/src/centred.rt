@@ -60,8 +60,8 @@ fn level_over(rows: &[Packed]) -> u32
     ensures small { result ≤ 2 ^ 20 }
 {
     let mut level = 1;
-    for row in rows {
-        level = level.max(row.level() + 1);
+    for i in (0..rows.len()).rev() {
+        level = level.max(rows[i].level() + 1);
     }
     level
 }

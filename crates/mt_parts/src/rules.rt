@@ -11,7 +11,8 @@ ghost use Rattle.mt_rules.specs.OnMarks.{SetsOn, layout_with};
 ghost use Rattle.mt_rules.specs.Setting.{test_rule as rule_test};
 ghost use Rattle.mt_parts.specs.RuledBodies.{ruled_body};
 
-use mt_box::{Extents, Ink, Mark, Marks};
+use crate::rows::up_by;
+use mt_box::{Extents, Mark, Marks};
 use mt_rules::{PartError, test_rule, tested_extents};
 use mt_scaled::Length;
 use std::alloc::AllocError;
@@ -23,18 +24,14 @@ pub(crate) fn rule_on_marks(
     height: Length,
     width: Length,
 ) -> Result<(), AllocError>
-    requires { Within (2 ^ 60) bottom.sp }
     ensures { OnOk result (marks.new ≡ put_on (rule_places (pos 0) bottom.sp height.sp width.sp) marks.old) }
 {
     if height.is_positive() && width.is_positive() {
-        marks.put(Ink {
-            h: 0,
-            v: -bottom.sp,
-            mark: Mark::Rule {
-                height: height.sp,
-                width: width.sp,
-            },
-        })
+        let mark = Mark::Rule {
+            height: height.sp,
+            width: width.sp,
+        };
+        marks.put(up_by(bottom), mark)
     } else {
         Ok(())
     }

@@ -1,10 +1,10 @@
 -- What is told of each piece and of its part.
-use Rattle.std.proofs.Common.{◌≡◌, ℕ, Bool, true, false, ℤ, List, [], ◌∷◌, ◌++◌, map, reverse, take, drop, refl, sym, ◌∙◌, ap}
+use Rattle.std.proofs.Common.{◌≡◌, ℕ, Bool, false, List, [], ◌∷◌, ◌++◌, map, reverse, drop, refl, sym, ◌∙◌, ap}
 use Rattle.std.proofs.lemmas.List.{drop-map, map-append, reverse-append, reverse-reverse}
 use Rattle.mt_box.specs.declared.place.Place.{Place}
 use Rattle.mt_box.specs.declared.marks.row.RowPart.{RowPart}
 use Rattle.mt_box.specs.declared.marks.row.RowPart.TheVariants as part
-use Rattle.mt_box.specs.Rows.{PieceValue, PieceGlyph, PieceBox, PieceKern, PieceSpace, piece_shrink}
+use Rattle.mt_box.specs.Rows.{PieceValue, piece_shrink}
 use Rattle.mt_box.specs.marks.Layers.{top}
 use Rattle.mt_box.specs.marks.RowParts.{part_shrink}
 use Rattle.mt_rules.specs.Scripts.{begins_with_glyph, is_glyph}

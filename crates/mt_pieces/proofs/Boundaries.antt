@@ -1,6 +1,6 @@
 -- A delimiter raised onto the axis.
 use Rattle.std.specs.Prelude.{⊤}
-use Rattle.std.proofs.Common.{◌≡◌, ℤ, ◌-ℤ◌, pos, List, [], ◌∷◌, ◌++◌, Result, Ok, Err, refl, sym, ◌∙◌, ap}
+use Rattle.std.proofs.Common.{◌≡◌, ℤ, ◌-ℤ◌, pos, List, [], ◌∷◌, ◌++◌, Result, Ok, Err, sym, ◌∙◌, ap}
 use Rattle.mt_scaled.specs.Number.{half_of}
 use Rattle.mt_family.specs.declared.size.Size.{Size}
 use Rattle.mt_family.specs.SetValue.{SetValue}

@@ -61,7 +61,7 @@ pub record SameCells (cs : Cells) (es : List Extents) (ls : List (List Place)) :
   pub extents : es ≡ cell_extents cs
   pub stack : (rest : List (List Place)) → on_stack ls rest ≡ cells_on cs rest
 
-same_cells : (cs : Cells) (qs : List RowPart) (es : List Extents) (ls : List (List Place)) → AreBoxes qs es → AreParts (map flat_box cs) qs ls → SameCells cs es ls
+pub same_cells : (cs : Cells) (qs : List RowPart) (es : List Extents) (ls : List (List Place)) → AreBoxes qs es → AreParts (map flat_box cs) qs ls → SameCells cs es ls
 same_cells [] [] [] [] h k = record { extents = refl; stack = λ rest. refl }
 same_cells [] [] [] (l ∷ ls) h k = absurd k
 same_cells [] [] (e ∷ es) ls h k = absurd h
@@ -91,16 +91,16 @@ table_is cells t qs ls h n k =
 
 -- ---- some cells with these parts
 
-abbrev cells_from : List Extents → List (List Place) → Cells
+abbrev pub cells_from : List Extents → List (List Place) → Cells
 cells_from [] ls = []
 cells_from (e ∷ es) [] = []
 cells_from (e ∷ es) (l ∷ ls) = layout_with e l ∷ cells_from es ls
 
-record CellsThere (cs : Cells) (qs : List RowPart) (es : List Extents) (ls : List (List Place)) : Type 0 where
+pub record CellsThere (cs : Cells) (qs : List RowPart) (es : List Extents) (ls : List (List Place)) : Type 0 where
   pub are : AreParts (map flat_box cs) qs ls
   pub many : length cs ≡ length es
 
-some_cells : (ms : List PieceValue) (qs : List RowPart) (es : List Extents) (ls : List (List Place)) → AreBoxes qs es → AreParts ms qs ls → CellsThere (cells_from es ls) qs es ls
+pub some_cells : (ms : List PieceValue) (qs : List RowPart) (es : List Extents) (ls : List (List Place)) → AreBoxes qs es → AreParts ms qs ls → CellsThere (cells_from es ls) qs es ls
 some_cells [] [] [] [] h k = record { are = tt; many = refl }
 some_cells [] [] [] (l ∷ ls) h k = absurd k
 some_cells [] [] (e ∷ es) ls h k = absurd h

@@ -47,7 +47,7 @@ boxes_more (part.Layout p ∷ ps) qs (e ∷ es) fs h k = (h.0, boxes_more ps qs 
 boxes_more (part.Gap w ∷ ps) qs (e ∷ es) fs h k = absurd h
 boxes_more (part.Space w s ∷ ps) qs (e ∷ es) fs h k = absurd h
 
-boxes_length : (ps : List RowPart) (es : List Extents) → AreBoxes ps es → length es ≡ length ps
+pub boxes_length : (ps : List RowPart) (es : List Extents) → AreBoxes ps es → length es ≡ length ps
 boxes_length [] [] h = refl
 boxes_length [] (e ∷ es) h = absurd h
 boxes_length (p ∷ ps) [] h = absurd h

@@ -1,14 +1,13 @@
 -- A lone box is clean.
-use Rattle.std.proofs.Common.{◌≡◌, ℕ, ℤ, zero, suc, pos, negsuc, Bool, true, false, Ok, List, [], ◌∷◌, ◌++◌, length, reverse, take, drop, refl, sym, ◌∙◌, ap, subst, if◌then◌else◌}
+use Rattle.std.proofs.Common.{◌≡◌, ℕ, ℤ, zero, suc, pos, negsuc, true, false, Ok, List, [], ◌∷◌, ◌++◌, reverse, take, drop, refl, sym, ◌∙◌, ap, subst, if◌then◌else◌}
 use Rattle.std.proofs.lemmas.List.{reverse-reverse, take-append-drop}
 use Rattle.mt_box.specs.declared.place.Place.{Place}
 use Rattle.mt_box.specs.declared.marks.row.RowPiece.{RowPiece}
 use Rattle.mt_box.specs.declared.marks.row.RowPart.{RowPart}
 use Rattle.mt_box.specs.declared.marks.row.RowPart.TheVariants as part
 use Rattle.mt_box.specs.Boxes.{clean_row, is_unraised}
-use Rattle.mt_box.specs.Layout.{Layout}
 use Rattle.mt_box.specs.Rows.{PieceValue, PieceBox, pack}
-use Rattle.mt_box.specs.marks.Layers.{dropped, top}
+use Rattle.mt_box.specs.marks.Layers.{top}
 use Rattle.mt_rules.specs.Nuclei.{make_clean}
 use Rattle.mt_rules.specs.OnMarks.{layout_with}
 use Rattle.mt_rules.specs.Setting.{Setting, make_box, pack_row}
@@ -16,7 +15,7 @@ use Rattle.mt_rules.proofs.Answering.{first_out-none, make_box-ok}
 use Rattle.mt_pieces.specs.Putting.{boxed_on}
 use Rattle.mt_pieces.specs.inner.LastParts.{is_lone_part}
 use Rattle.mt_pieces.specs.inner.View.{AreLaid, IsBoxLaid, IsLaid, piece_of, pieces_back, under}
-use Rattle.mt_pieces.proofs.Split.{Split, split_at}
+use Rattle.mt_pieces.proofs.Split.{split_at}
 
 unraised : (r : ℤ) → is_unraised r ≡ true → r ≡ pos 0
 unraised (pos zero) h = refl

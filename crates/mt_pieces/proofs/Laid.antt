@@ -1,5 +1,5 @@
 -- Parts and their layers, with one more and with none.
-use Rattle.std.proofs.Common.{◌≡◌, ℤ, pos, ◌^◌, List, [], ◌∷◌, ◌++◌, length, length-append, reverse, Result, Ok, Err, OnOk, OnErr, IfOk, IfErr, IsOk, refl, sym, ◌∙◌, ap, subst, arith}
+use Rattle.std.proofs.Common.{◌≡◌, List, [], ◌∷◌, ◌++◌, length, length-append, reverse, Result, Ok, Err, OnOk, OnErr, IsOk, refl, sym, ◌∙◌, ap, subst, arith}
 use Rattle.std.proofs.lemmas.List.{reverse-append}
 use Rattle.std.specs.Prelude.{⊤}
 use Rattle.std.specs.declared.alloc.AllocError.{AllocError}

@@ -1,5 +1,5 @@
 -- The last piece.
-use Rattle.std.proofs.Common.{◌≡◌, ℕ, ◌+◌, ◌-◌, ◌≤◌, ◌<◌, suc, ℤ, List, [], ◌∷◌, ◌++◌, Option, Some, None, length, length-append, append_assoc, reverse, take, drop, set, get_or, refl, sym, ◌∙◌, ap, subst, arith}
+use Rattle.std.proofs.Common.{◌≡◌, ℕ, ◌+◌, ◌-◌, ◌≤◌, ◌<◌, suc, ℤ, List, [], ◌∷◌, ◌++◌, Some, None, length, length-append, append_assoc, reverse, take, drop, set, get_or, refl, sym, ◌∙◌, ap, subst, arith}
 use Rattle.std.proofs.lemmas.List.{drop_all, length-reverse, reverse-append, reverse-reverse, set_split, length-take-le, take-take, take_all, take_at, take_more}
 use Rattle.std.proofs.lemmas.Option.{none-some, same_Some}
 use Rattle.mt_box.specs.declared.place.Place.{Place}
@@ -12,7 +12,7 @@ use Rattle.mt_box.specs.marks.Layers.{dropped, top}
 use Rattle.mt_rules.specs.OnMarks.{layout_with}
 use Rattle.mt_pieces.specs.declared.last.TwoBoxes.{TwoBoxes}
 use Rattle.mt_pieces.specs.inner.LastParts.{last_box, last_two}
-use Rattle.mt_pieces.specs.inner.View.{AreLaid, IsBoxLaid, IsLaid, piece_of, pieces_back, under}
+use Rattle.mt_pieces.specs.inner.View.{AreLaid, IsBoxLaid, IsLaid, piece_of, pieces_back}
 use Rattle.mt_pieces.proofs.Laid.{last_first}
 
 -- ---- the last item of a list

@@ -28,7 +28,13 @@ pub mod Limited
 pub mod Celled
 -- their extents, found one by one
 pub mod Celling
--- pieces copied and taken out
+-- pieces taken out
 pub mod Moved
+-- runs of pieces copied
+pub mod Copied
+-- places among pieces
+pub mod Placed
+-- rows one below another
+pub mod Lined
 -- pieces taken one after another, from the last one
 pub mod Taking

@@ -1,6 +1,6 @@
 -- Parts of formulas in place of the last pieces.
 use Rattle.std.specs.Prelude.{⊤}
-use Rattle.std.proofs.Common.{◌≡◌, ℕ, ◌-◌, pos, List, [], ◌∷◌, ◌++◌, Some, length, reverse, take, Result, Err, OnOk, OnErr, IfOk, IfErr, IsOk, sym, ◌∙◌, subst}
+use Rattle.std.proofs.Common.{◌≡◌, ℕ, ◌-◌, pos, List, [], ◌∷◌, ◌++◌, Some, length, reverse, take, Result, Err, OnOk, OnErr, IfOk, IfErr, IsOk, subst}
 use Rattle.mt_box.specs.declared.place.Place.{Place}
 use Rattle.mt_box.specs.declared.extents.Extents.{Extents}
 use Rattle.mt_box.specs.declared.marks.row.RowPiece.{RowPiece}

@@ -1,11 +1,10 @@
 -- The row of a root in place of the last two pieces.
 use Rattle.std.specs.Prelude.{⊤}
-use Rattle.std.proofs.Common.{◌≡◌, ℕ, ℤ, ◌^◌, ◌-◌, pos, List, [], ◌∷◌, ◌++◌, length, reverse, take, Result, Ok, Err, OnOk, OnErr, refl, arith, sym, ◌∙◌, ap, subst}
+use Rattle.std.proofs.Common.{◌≡◌, ℕ, ℤ, ◌^◌, pos, List, [], ◌∷◌, ◌++◌, reverse, take, Result, Ok, Err, OnOk, OnErr, refl, arith, sym, ◌∙◌, ap, subst}
 use Rattle.std.proofs.lemmas.Int.{ints}
 use Rattle.std.proofs.lemmas.List.{reverse-append}
 use Rattle.std.specs.declared.alloc.AllocError.{AllocError}
 use Rattle.mt_scaled.specs.Number.{Within, max_dimen}
-use Rattle.mt_family.specs.SetValue.{SetValue}
 use Rattle.mt_box.specs.declared.place.Place.{Place}
 use Rattle.mt_box.specs.declared.error.PackError.{PackError}
 use Rattle.mt_box.specs.declared.error.PackError.TheVariants.{Overflow as PackOverflow, OutOfMemory as NoPackMemory}
@@ -14,7 +13,6 @@ use Rattle.mt_box.specs.Layout.{Layout}
 use Rattle.mt_box.specs.Rows.{PieceValue, PieceBox, PieceKern}
 use Rattle.mt_box.specs.marks.Layers.{dropped, top}
 use Rattle.mt_rules.specs.declared.part_error.PartError.{PartError}
-use Rattle.mt_rules.specs.declared.style.Style.{Style}
 use Rattle.mt_rules.specs.Calls.{RowAnswers}
 use Rattle.mt_rules.specs.OnMarks.{layout_with}
 use Rattle.mt_rules.specs.PartErrors.{FromPacking}

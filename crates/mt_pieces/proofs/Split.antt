@@ -1,5 +1,5 @@
 -- The last pieces, and those before them.
-use Rattle.std.proofs.Common.{◌≡◌, ℕ, ℤ, pos, ◌+ℤ◌, ◌-ℤ◌, ◌^◌, ◌≤◌, List, [], ◌∷◌, ◌++◌, length, reverse, take, drop, append_assoc, inl, inr, refl, sym, ◌∙◌, ap, subst, arith}
+use Rattle.std.proofs.Common.{◌≡◌, ℕ, ℤ, pos, ◌+ℤ◌, ◌^◌, ◌≤◌, List, [], ◌∷◌, ◌++◌, length, reverse, take, drop, append_assoc, inl, inr, refl, sym, ◌∙◌, ap, subst, arith}
 use Rattle.std.proofs.lemmas.List.{append-nil, reverse-append, reverse-reverse, take-append-drop, length-take-le, length-drop, length-reverse, take_all, drop_all, take_at, drop_at}
 use Rattle.std.proofs.lemmas.Bool.{cases_lt}
 use Rattle.std.proofs.lemmas.Int.{ints}
@@ -13,9 +13,9 @@ use Rattle.mt_box.specs.declared.marks.row.RowPart.TheVariants as part
 use Rattle.mt_box.specs.Layout.{all_moved}
 use Rattle.mt_box.specs.Rows.{PieceValue, PieceGlyph, PieceBox, PieceKern, PieceSpace}
 use Rattle.mt_box.specs.marks.Layers.{top}
-use Rattle.mt_box.specs.marks.RowParts.{AreParts, IsPieceOf, IsGapOf, IsNear, IsNearPart, AllNearParts, glyph_piece, on_stack}
+use Rattle.mt_box.specs.marks.RowParts.{AreParts, IsPieceOf, IsGapOf, IsNear, AllNearParts, glyph_piece, on_stack}
 use Rattle.mt_rules.specs.OnMarks.{layout_with}
-use Rattle.mt_pieces.specs.inner.View.{AreLaid, IsGlyphLaid, IsBoxLaid, IsLaid, piece_of, pieces_back, under}
+use Rattle.mt_pieces.specs.inner.View.{AreLaid, IsGlyphLaid, IsBoxLaid, piece_of, pieces_back, under}
 use Rattle.mt_pieces.proofs.Laid.{length_back}
 
 are_more : (ms ns : List PieceValue) (ps qs : List RowPart) (ls ks : List (List Place)) → AreParts ms ps ls → AreParts ns qs ks → AreParts (ms ++ ns) (ps ++ qs) (ls ++ ks)
@@ -210,6 +210,6 @@ split_at ps n ls now h e = elim (cases_lt n (length ps)) [ inl few ↦ split_wit
         }
 
 -- so many parts as pieces
-pub few_parts : (ps qs : List RowPart) (n : ℕ) (ls : List (List Place)) (now : List PieceValue) → pieces_back (reverse ps) ls ≡ now → qs ≡ drop n ps → length (drop n now) ≤ 2 ^ 21 → length qs ≤ 2 ^ 21
-few_parts ps qs n ls now e q few =
+pub few_parts : {most : ℕ} (ps qs : List RowPart) (n : ℕ) (ls : List (List Place)) (now : List PieceValue) → pieces_back (reverse ps) ls ≡ now → qs ≡ drop n ps → length (drop n now) ≤ most → length qs ≤ most
+few_parts {most} ps qs n ls now e q few =
     omega (arith, ap length q, length-drop n ps, length-drop n now, sym (ap length e) ∙ (length_back (reverse ps) ls ∙ length-reverse ps), few)

@@ -1,8 +1,8 @@
 -- The last parts taken off, where they are boxes, and the pieces that are left.
-use Rattle.std.proofs.Common.{◌≡◌, pos, ◌≤◌, List, [], ◌∷◌, ◌++◌, append_assoc, drop, length, reverse, Option, Some, None, is_some, refl, sym, ◌∙◌, ap, subst, arith}
+use Rattle.std.proofs.Common.{◌≡◌, pos, ◌≤◌, List, [], ◌∷◌, ◌++◌, append_assoc, length, reverse, Option, Some, None, is_some, refl, sym, ◌∙◌, ap, subst, arith}
 use Rattle.std.specs.Prelude.{⊤}
 use Rattle.std.specs.Option.{ForSome}
-use Rattle.std.proofs.lemmas.List.{append-nil, length-reverse, reverse-append, reverse-reverse}
+use Rattle.std.proofs.lemmas.List.{append-nil, length-reverse}
 use Rattle.mt_box.specs.declared.place.Place.{Place}
 use Rattle.mt_box.specs.declared.marks.row.RowPiece.{RowPiece}
 use Rattle.mt_box.specs.declared.marks.row.RowPart.{RowPart}

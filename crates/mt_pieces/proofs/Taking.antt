@@ -1,19 +1,22 @@
 -- Pieces taken one after another, from the last one.
-use Rattle.std.proofs.Common.{◌≡◌, ℕ, ◌+◌, ◌-◌, ◌≤◌, ◌<◌, suc, List, [], ◌∷◌, ◌++◌, ◌⊎◌, length, length-append, reverse, take, drop, append_assoc, refl, arith, inl, inr, sym, ◌∙◌, ap, subst}
+use Rattle.std.proofs.Common.{◌≡◌, ℕ, ◌+◌, ◌≤◌, ◌<◌, max, List, [], ◌∷◌, ◌++◌, ◌⊎◌, length, length-append, reverse, take, drop, append_assoc, refl, arith, inl, inr, sym, ◌∙◌, ap, subst}
 use Rattle.std.proofs.lemmas.List.{append-nil, drop_all, drop_at, reverse-append, take_all, take_at}
 use Rattle.mt_box.specs.declared.piece.Piece.{Piece}
-use Rattle.mt_box.specs.Rows.{PieceValue, piece_value, piece_values, AllModest, IsModest}
+use Rattle.mt_box.specs.declared.piece.Piece.TheVariants as piece
+use Rattle.mt_box.specs.Rows.{PieceValue, piece_value, piece_values, AllMeasurable, AllModest, IsMeasurable, IsModest, level_of_piece, row_level}
 
 -- what is left, and the row so far from its end
 pub record TakenSoFar (first : ℕ) (old now : List PieceValue) (row : List Piece) : Type 0 where
   pub whole : old ≡ now ++ reverse (piece_values row)
   pub modest : AllModest row
+  pub levels : row_level row ≤ 2
   pub left : (first ≤ length now) ⊎ (row ≡ [])
 
 pub taking_start : (first : ℕ) (now : List PieceValue) (row : List Piece) → row ≡ [] → TakenSoFar first now now row
 taking_start first now row e = record {
   whole = sym (ap (λ z. now ++ reverse (piece_values z)) e ∙ append-nil now);
   modest = subst AllModest (sym e) tt;
+  levels = rw (e) (omega arith);
   left = inr e;
 }
 
@@ -24,6 +27,10 @@ values_more (q ∷ row) p = ap (λ z. piece_value q ∷ z) (values_more row p)
 modest_more : (row : List Piece) (p : Piece) → AllModest row → IsModest p → AllModest (row ++ p ∷ [])
 modest_more [] p h k = (k, tt)
 modest_more (q ∷ row) p h k = (h.0, modest_more row p h.1 k)
+
+level_more : (row : List Piece) (p : Piece) → row_level (row ++ p ∷ []) ≡ max (row_level row) (level_of_piece p + 1)
+level_more [] p = omega arith
+level_more (q ∷ row) p = omega (arith, level_more row p)
 
 -- all but the last one, and the last one
 pub record LastApart (now : List PieceValue) : Type 0 where
@@ -38,14 +45,15 @@ last_apart (m ∷ n ∷ ms) h =
     let a = last_apart (n ∷ ms) (omega arith) in
     record { rest = m ∷ a.rest; last = a.last; whole = ap (λ z. m ∷ z) a.whole }
 
-pub taking_step : (first : ℕ) (old now now' : List PieceValue) (row row' : List Piece) (p : Piece) (m : PieceValue) → TakenSoFar first old now row → first < length now → now ≡ now' ++ m ∷ [] → piece_value p ≡ m → IsModest p → row' ≡ row ++ p ∷ []
+pub taking_step : (first : ℕ) (old now now' : List PieceValue) (row row' : List Piece) (p : Piece) (m : PieceValue) → TakenSoFar first old now row → first < length now → now ≡ now' ++ m ∷ [] → piece_value p ≡ m → IsModest p → level_of_piece p ≤ 1 → row' ≡ row ++ p ∷ []
     → TakenSoFar first old now' row'
-taking_step first old now now' row row' p m h lt e same modest more =
+taking_step first old now now' row row' p m h lt e same modest level more =
     let r : reverse (piece_values row') ≡ m ∷ reverse (piece_values row) =
     ap (λ z. reverse (piece_values z)) more ∙ (ap reverse (values_more row p) ∙ (reverse-append (piece_values row) (piece_value p ∷ []) ∙ ap (λ z. z ∷ reverse (piece_values row)) same)) in
     record {
       whole = h.whole ∙ (ap (λ z. z ++ reverse (piece_values row)) e ∙ (append_assoc now' (m ∷ []) (reverse (piece_values row)) ∙ ap (λ z. now' ++ z) (sym r)));
       modest = subst AllModest (sym more) (modest_more row p h.modest modest);
+      levels = rw (more, level_more row p) (omega (arith, h.levels, level));
       left = inl (omega (arith, lt, ap length e, length-append now' (m ∷ [])));
     }
 
@@ -78,3 +86,17 @@ values_turned (p ∷ row) =
 pub modest_turned : (row : List Piece) → AllModest row → AllModest (reverse row)
 modest_turned [] h = tt
 modest_turned (p ∷ row) h = subst AllModest (sym (reverse-append (p ∷ []) row)) (modest_more (reverse row) p (modest_turned row h.1) h.0)
+
+pub levels_turned : (row : List Piece) → row_level (reverse row) ≡ row_level row
+levels_turned [] = refl
+levels_turned (p ∷ row) = ap row_level (reverse-append (p ∷ []) row) ∙ (level_more (reverse row) p ∙ omega (arith, levels_turned row))
+
+pub modest_measured : (row : List Piece) → AllModest row → AllMeasurable row
+modest_measured [] h = tt
+modest_measured (p ∷ row) h = (one p h.0, modest_measured row h.1)
+  where
+    one : (p : Piece) → IsModest p → IsMeasurable p
+    one (piece.Glyph f c e) h = h
+    one (piece.Boxed r b) h = h.0
+    one (piece.Kern k) h = h
+    one (piece.Space w s) h = h

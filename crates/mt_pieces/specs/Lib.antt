@@ -6,3 +6,5 @@ pub mod inner
 pub mod Attaching
 -- the cells of tables as pieces
 pub mod Celled
+-- places from which runs are copied
+pub mod Runs

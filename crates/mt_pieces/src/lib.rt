@@ -3,14 +3,18 @@
 
 mod last;
 mod limits;
-mod moving;
+mod lines;
 mod packing;
 mod parts;
 mod pieces;
 mod putting;
 mod rows;
+mod runs;
 mod scripts;
 mod tables;
+#[cfg(test)]
+mod tests;
 
 pub use pieces::{Pieces, Space};
+pub use runs::PieceAt;
 pub use scripts::Scripts;

@@ -1,11 +1,11 @@
 //! The type, and the calls that put pieces.
-ghost use Rattle.std.specs.Prelude.{◌≡◌, ◌^◌, [], ◌∷◌, ◌++◌, length, pos, OnOk};
+ghost use Rattle.std.specs.Prelude.{◌≡◌, ◌^◌, [], ◌∷◌, ◌++◌, length, pos, IfOk, OnOk};
 ghost use Rattle.mt_scaled.specs.Number.{Within};
 ghost use Rattle.mt_box.specs.Extents.{ExtentsInRange};
 ghost use Rattle.mt_box.specs.Rows.{PieceGlyph, PieceBox, PieceKern, PieceSpace};
 ghost use Rattle.mt_rules.specs.Setting.{empty_layout};
 
-use crate::putting::{box_part, lay_glyph, put_part};
+use crate::putting::{box_part, put_part};
 use mt_box::{Extents, Marks, RowPart};
 use mt_scaled::Length;
 use std::alloc::{AllocError, Global};
@@ -54,6 +54,16 @@ impl Pieces {
         }
     }
 
+    /// No piece, with room for so many pieces.
+    pub fn with_capacity(alloc: Global, pieces: usize) -> Result<Pieces, AllocError>
+        ensures { IfOk result (λ p. p ≡ []) }
+    {
+        Ok(Pieces {
+            marks: Marks::with_capacity(alloc, pieces, pieces)?,
+            parts: Vec::with_capacity(alloc, pieces)?,
+        })
+    }
+
     /// How many pieces there are.
     pub fn len(&self) -> usize
         ensures { result ≡ length self.now }
@@ -74,7 +84,7 @@ impl Pieces {
         requires { ExtentsInRange extents }
         ensures { OnOk result (self.new ≡ self.old ++ PieceGlyph font code extents ∷ []) }
     {
-        let laid = lay_glyph(&mut self.marks, font, code);
+        let laid = self.marks.push_glyph(font, code);
         let part = RowPart::Glyph {
             font,
             code,

@@ -1,23 +1,10 @@
 //! Parts put after others, and in place of others.
-ghost use Rattle.std.specs.Prelude.{◌≡◌, [], ◌∷◌, ◌++◌, take, pos, IsOk, IfErr, IfOk, OnOk, OnErr};
-ghost use Rattle.mt_box.specs.declared.place.Place.TheVariants.{Glyph};
+ghost use Rattle.std.specs.Prelude.{◌≡◌, [], ◌∷◌, ◌++◌, take, IsOk, IfErr, IfOk, OnOk, OnErr};
 ghost use Rattle.mt_pieces.specs.inner.View.{box_part};
 
-use mt_box::{Extents, Ink, Mark, Marks, PackError, RowPart, RowPiece};
+use mt_box::{Extents, Marks, PackError, RowPart, RowPiece};
 use mt_rules::PartError;
 use std::alloc::AllocError;
-
-// The layer of a character on top.
-pub(crate) fn lay_glyph(marks: &mut Marks, font: u16, code: u8) -> Result<(), AllocError>
-    ensures { OnOk result (marks.new ≡ (Glyph font code (pos 0) (pos 0) ∷ []) ∷ marks.old) }
-{
-    marks.begin()?;
-    marks.put(Ink {
-        h: 0,
-        v: 0,
-        mark: Mark::Glyph { font, code },
-    })
-}
 
 // A part more, whose layer was laid. After a fault there are no parts and no layers.
 pub(crate) fn put_part(

@@ -1,13 +1,13 @@
 //! Pieces of rows that are made of boxes, put and taken.
 ghost use Rattle.std.specs.Prelude.{◌≡◌, ◌≤◌, ◌++◌, ◌∷◌, [], length, reverse, take, drop, List, IfOk, OnOk};
-ghost use Rattle.mt_box.specs.Rows.{PieceValue, piece_value, piece_values, AllModest, IsMeasurable, IsModest};
+ghost use Rattle.mt_box.specs.Rows.{PieceValue, piece_value, piece_values, AllMeasurable, AllModest, IsMeasurable, IsModest, level_of_piece, row_level};
 ghost use Rattle.mt_box.specs.marks.Layers.{top};
 ghost use Rattle.mt_pieces.specs.inner.LastParts.{first_part};
 ghost use Rattle.mt_pieces.specs.inner.View.{piece_of, under, IsLaid};
 
-use crate::moving::has_layer;
 use crate::pieces::Pieces;
 use crate::putting::put_part;
+use crate::runs::has_layer;
 use mt_box::{Marks, Piece, Row, RowPart, part_of, push_piece};
 use std::alloc::{AllocError, Global};
 
@@ -26,6 +26,8 @@ impl Pieces {
     pub fn take_row(&mut self, alloc: Global, first: usize) -> Result<Row, AllocError>
         ensures row { IfOk result (λ row. piece_values row ≡ drop first self.old) }
         ensures others { OnOk result (self.new ≡ take first self.old) }
+        ensures measurable { IfOk result AllMeasurable }
+        ensures levels { IfOk result (λ row. row_level row ≤ 2) }
         ensures modest { IfOk result AllModest }
     {
         let mut row = Vec::with_capacity(alloc, self.len().saturating_sub(first))?;
@@ -43,6 +45,7 @@ impl Pieces {
         ensures piece { (rest : List PieceValue) (m : PieceValue) → self.old ≡ rest ++ m ∷ [] → IfOk result (λ p. piece_value p ≡ m) }
         ensures others { (rest : List PieceValue) (m : PieceValue) → self.old ≡ rest ++ m ∷ [] → OnOk result (self.new ≡ rest) }
         ensures modest { IfOk result IsModest }
+        ensures level { IfOk result (λ p. level_of_piece p ≤ 1) }
     {
         let Some(part) = last_part(&self.parts) else {
             unreachable!();
@@ -69,6 +72,7 @@ fn taken(alloc: Global, marks: &Marks, part: RowPart) -> Result<Piece, AllocErro
     requires { IsLaid part marks.now }
     ensures is { IfOk result (λ p. piece_value p ≡ piece_of part (top marks.now)) }
     ensures modest { IfOk result IsModest }
+    ensures level { IfOk result (λ p. level_of_piece p ≤ 1) }
 {
     match part {
         RowPart::Glyph {

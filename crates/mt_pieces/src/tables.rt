@@ -146,7 +146,7 @@ fn table_extents(
 }
 
 // What the cells of a row reach.
-fn row_extents(alloc: Global, parts: &[RowPart]) -> Result<CellExtents, AllocError>
+pub(crate) fn row_extents(alloc: Global, parts: &[RowPart]) -> Result<CellExtents, AllocError>
     requires { BoxesInRange parts.now }
     ensures boxes { IfOk result (AreBoxes parts.now) }
     ensures in_range { IfOk result (All ExtentsInRange) }

@@ -1,16 +1,16 @@
 -- What the calls of `Marks` do to layouts and to where they begin.
-use Rattle.std.proofs.Common.{◌≡◌, ℕ, zero, suc, ◌<◌, ◌≤◌, ◌+◌, ◌-◌, min, List, [], ◌∷◌, ◌++◌, length, map, take, drop, set, get_or, reverse, ℤ, refl, arith, append_assoc, length-append, sym, ◌∙◌, ap}
-use Rattle.std.proofs.lemmas.List.{append-nil, map-append, take_at, drop_at, set_at, take_min, drop_min, take-append-drop, length-take-le, length-drop, length-reverse, length-map, reverse-append, reverse-reverse}
+use Rattle.std.proofs.Common.{◌≡◌, ℕ, ◌<◌, ◌≤◌, ◌+◌, ◌-◌, min, List, [], ◌∷◌, ◌++◌, length, map, take, drop, set, get_or, reverse, ℤ, refl, arith, append_assoc, length-append, sym, ◌∙◌, ap}
+use Rattle.std.proofs.lemmas.List.{map-append, take_at, drop_at, set_at, take_min, drop_min, take-append-drop, length-take-le, length-drop, length-reverse, length-map, reverse-append, reverse-reverse}
 use Rattle.std.proofs.lemmas.List.Elements.{All-append, All-take, All-drop}
 use Rattle.mt_box.specs.declared.node.Node.{Node}
 use Rattle.mt_box.specs.declared.place.Place.{Place}
 use Rattle.mt_box.specs.Layout.{all_moved}
 use Rattle.mt_box.specs.inner.Nodes.{node_places, node_moved, nodes_moved, HasMark, AreMarks}
-use Rattle.mt_box.specs.marks.Layers.{moved_layer, joined, swapped_layers, layer_at}
+use Rattle.mt_box.specs.marks.Layers.{moved_layer, joined, swapped_layers}
 use Rattle.mt_box.specs.marks.inner.View.{layers, Fall}
 use Rattle.mt_box.proofs.NodePlaces.{places_append, places_moved}
 use Rattle.mt_box.proofs.layers.Layering.{laid, begins, laid_apart, begins_apart, same_begins, lower_begins, length_begins, Are, seen, seen_at, falls, length_layers, split, lists, ends, Apart, apart}
-use Rattle.mt_box.proofs.layers.StartLists.{rest_of, pushed_view}
+use Rattle.mt_box.proofs.layers.StartLists.{rest_of}
 
 -- ---- one of them
 
@@ -55,19 +55,6 @@ moved_view is is' ns k a e x y p eq =
     } in
     seen_at p.us m p.cs now ∙ (ap (λ l. xs ++ l ∷ zs) (places_moved x y p.c) ∙ (sym (moved_at x y xs (node_places p.c) zs)
     ∙ (ap (λ j. moved_layer j x y (xs ++ node_places p.c ∷ zs)) (length-map p.us node_places ∙ p.above) ∙ ap (moved_layer k x y) (sym (seen_at p.us p.c p.cs p.are)))))
-
-at_layer : (xs : List (List Place)) (l : List Place) (zs : List (List Place)) → layer_at (length xs) (xs ++ l ∷ zs) ≡ l
-at_layer [] l zs = refl
-at_layer (a ∷ xs) l zs = at_layer xs l zs
-
-pub copied_view : (is is' : List Node) (ns ns' : List ℕ) (k n a e : ℕ) → Found is ns k a e → n ≡ length is → ns' ≡ ns ++ n ∷ [] → is' ≡ is ++ take (e - a) (drop a is)
-    → layers is' (reverse ns') ≡ layer_at k (layers is (reverse ns)) ∷ layers is (reverse ns)
-copied_view is is' ns ns' k n a e p l new more =
-    let xs = map node_places p.us in
-    let zs = map node_places p.cs in
-    let there : layer_at k (layers is (reverse ns)) ≡ node_places p.c =
-    ap (layer_at k) (seen_at p.us p.c p.cs p.are) ∙ (ap (λ j. layer_at j (xs ++ node_places p.c ∷ zs)) (sym (length-map p.us node_places ∙ p.above)) ∙ at_layer xs (node_places p.c) zs) in
-    pushed_view is is' (take (e - a) (drop a is)) ns ns' n more l new ∙ ap (λ r. r ∷ layers is (reverse ns)) (ap node_places p.cut.middle ∙ sym there)
 
 -- ---- the two on top become one
 
@@ -216,13 +203,13 @@ between is ns under count n a e l h s t =
       cut = apart is (laid p.f cs) (laid [] ms) (laid [] p.us) a e nodes start end;
     }
 
-reverse-map : (f : ℕ → ℕ) (xs : List ℕ) → reverse (map f (reverse xs)) ≡ map f xs
+pub reverse-map : (f : ℕ → ℕ) (xs : List ℕ) → reverse (map f (reverse xs)) ≡ map f xs
 reverse-map f [] = refl
 reverse-map f (x ∷ xs) =
     ap (λ z. reverse (map f z)) (reverse-append (x ∷ []) xs) ∙ (ap reverse (map-append f (reverse xs) (x ∷ [])) ∙ (reverse-append (map f (reverse xs)) (f x ∷ []) ∙ ap (λ z. f x ∷ z) (reverse-map f xs)))
 
 -- the starts below so many, and those above
-starts_cut : (ns : List ℕ) (f : List Node) (us cs : List (List Node)) (i : ℕ) → reverse ns ≡ begins f (us ++ cs) → length cs ≡ i → (take i ns ≡ reverse (begins f cs)) × (drop i ns ≡ reverse (begins (laid f cs) us))
+pub starts_cut : (ns : List ℕ) (f : List Node) (us cs : List (List Node)) (i : ℕ) → reverse ns ≡ begins f (us ++ cs) → length cs ≡ i → (take i ns ≡ reverse (begins f cs)) × (drop i ns ≡ reverse (begins (laid f cs) us))
 starts_cut ns f us cs i h l =
     let w : ns ≡ reverse (begins f cs) ++ reverse (begins (laid f cs) us) = sym (reverse-reverse ns) ∙ (ap reverse (h ∙ begins_apart f us cs) ∙ reverse-append (begins (laid f cs) us) (begins f cs)) in
     let n : length (reverse (begins f cs)) ≡ i = length-reverse (begins f cs) ∙ (length_begins f cs ∙ l) in

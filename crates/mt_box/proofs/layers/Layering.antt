@@ -1,8 +1,7 @@
 -- Layouts one on another, as lists of nodes: those of each, from the top one, after the nodes that are in none.
-use Rattle.std.proofs.Common.{◌≡◌, ℕ, zero, suc, ◌<◌, ◌≤◌, ◌+◌, ◌-◌, List, [], ◌∷◌, ◌++◌, length, map, take, drop, get_or, reverse, refl, arith, append_assoc, length-append, sym, ◌∙◌, ap, subst}
-use Rattle.std.proofs.lemmas.List.{append-nil, map-append, take_all, drop_all, take_at, drop_at, drop_more, take-append-drop, length-take-le, length-drop, length-reverse, length-map, reverse-append, reverse-reverse, get_or_past}
+use Rattle.std.proofs.Common.{◌≡◌, ℕ, zero, suc, ◌≤◌, ◌+◌, ◌-◌, List, [], ◌∷◌, ◌++◌, length, map, take, drop, get_or, reverse, refl, arith, append_assoc, length-append, sym, ◌∙◌, ap, subst}
+use Rattle.std.proofs.lemmas.List.{append-nil, map-append, take_at, drop_at, take-append-drop, length-take-le, length-drop, length-reverse, reverse-append, reverse-reverse, get_or_past}
 use Rattle.mt_box.specs.declared.node.Node.{Node}
-use Rattle.mt_box.specs.declared.place.Place.{Place}
 use Rattle.mt_box.specs.inner.Nodes.{node_places}
 use Rattle.mt_box.specs.marks.inner.View.{layers, Fall}
 
@@ -48,6 +47,13 @@ lower_begins d g h [] e = refl
 lower_begins d g h (u ∷ us) e =
     let n : length (laid g us) - d ≡ length (laid h us) = omega (arith, e, length_laid g us, length_laid h us) in
     ap (λ r. (length (laid g us) - d) ∷ r) (lower_begins d g h us e) ∙ ap (λ k. k ∷ begins h us) n
+
+-- and higher, after more
+pub raise_begins : (g h : List Node) (us : List (List Node)) → map (λ n. n - length g + length h) (begins g us) ≡ begins h us
+raise_begins g h [] = refl
+raise_begins g h (u ∷ us) =
+    let n : length (laid g us) - length g + length h ≡ length (laid h us) = omega (arith, length_laid g us, length_laid h us) in
+    ap (λ r. (length (laid g us) - length g + length h) ∷ r) (raise_begins g h us) ∙ ap (λ k. k ∷ begins h us) n
 
 -- ---- a list of nodes, and where layouts begin in it, from the top one
 

@@ -1,5 +1,5 @@
 -- The loops over the parts of a row.
-use Rattle.std.proofs.Common.{◌≡◌, ℕ, zero, suc, ◌<◌, ◌≤◌, ◌+◌, ◌-◌, ◌*◌, ◌^◌, List, [], ◌∷◌, ◌++◌, Some, None, length, take, drop, get_or, ℤ, pos, ◌+ℤ◌, ◌-ℤ◌, ◌≤ℤ◌, refl, arith, sym, ◌∙◌, ap, subst, w64, to_z, of_z}
+use Rattle.std.proofs.Common.{◌≡◌, ℕ, zero, suc, ◌<◌, ◌≤◌, ◌+◌, ◌-◌, ◌*◌, ◌^◌, List, [], ◌∷◌, ◌++◌, Some, None, length, take, drop, get_or, ℤ, pos, ◌+ℤ◌, ◌-ℤ◌, ◌≤ℤ◌, refl, arith, sym, ◌∙◌, ap, w64, to_z, of_z}
 use Rattle.std.proofs.lemmas.List.{drop_all, drop_more, take_more, take_all}
 use Rattle.std.proofs.lemmas.Int.{ints, clamps}
 use Rattle.std.proofs.lemmas.Option.{none-some, same_Some}
@@ -41,18 +41,13 @@ near_more ps qs p e h k = rw e (more ps h)
     more [] h = (k, tt)
     more (r ∷ rs) h = (h.0, more rs h.1)
 
--- ---- what a row reaches
+-- ---- what a row reaches, from the last part
 
-pub record PartsSum (ps rest : List RowPart) (i : ℕ) (e : RowReach) : Type 0 where
-  pub width : e.width +ℤ parts_sum part_width rest ≡ parts_sum part_width ps
-  pub height : int_max e.height (parts_max part_height rest) ≡ parts_max part_height ps
-  pub depth : int_max e.depth (parts_max part_depth rest) ≡ parts_max part_depth ps
-  pub shrink : e.shrink +ℤ parts_sum part_shrink rest ≡ parts_sum part_shrink ps
-  pub up : pos 0 ≤ℤ e.height
-  pub down : pos 0 ≤ℤ e.depth
-  pub wide : Within (2 ^ 40 * i) e.width
-  pub soft : Within (2 ^ 40 * i) e.shrink
-  pub few : i + length rest ≤ 2 ^ 21
+pub record PartsSummed (ps : List RowPart) (e : RowReach) : Type 0 where
+  pub width : e.width ≡ parts_sum part_width ps
+  pub height : e.height ≡ parts_max part_height ps
+  pub depth : e.depth ≡ parts_max part_depth ps
+  pub shrink : e.shrink ≡ parts_sum part_shrink ps
 
 -- what a part adds
 pub record Adds (p : RowPart) (e e' : RowReach) : Type 0 where
@@ -61,62 +56,21 @@ pub record Adds (p : RowPart) (e e' : RowReach) : Type 0 where
   pub depth : e'.depth ≡ int_max e.depth (part_depth p)
   pub shrink : e'.shrink ≡ e.shrink +ℤ part_shrink p
 
-max_low : (f : RowPart → ℤ) (ps : List RowPart) → int_max (pos 0) (parts_max f ps) ≡ parts_max f ps
-max_low f [] = omega (arith, ints, clamps)
-max_low f (p ∷ ps) = omega (arith, ints, clamps, max_low f ps)
+pub summed_none : (ps : List RowPart) → ps ≡ [] → PartsSummed ps record { width = pos 0; height = pos 0; depth = pos 0; shrink = pos 0 }
+summed_none ps none = rw none (record { width = refl; height = refl; depth = refl; shrink = refl })
 
-pub sum_start : (ps : List RowPart) → length ps ≤ 2 ^ 21 → PartsSum ps ps 0 record { width = pos 0; height = pos 0; depth = pos 0; shrink = pos 0 }
-sum_start ps few = record {
-  width = omega (arith, ints);
-  height = max_low part_height ps;
-  depth = max_low part_depth ps;
-  shrink = omega (arith, ints);
-  up = omega (arith, ints);
-  down = omega (arith, ints);
-  wide = record { low = omega (arith, ints); high = omega (arith, ints) };
-  soft = record { low = omega (arith, ints); high = omega (arith, ints) };
-  few = omega (arith, few);
-}
+pub summed_more : (ps rest : List RowPart) (p : RowPart) (e e' : RowReach) → PartsSummed rest e → ps ≡ p ∷ rest → Adds p e e' → PartsSummed ps e'
+summed_more ps rest p e e' h is a = rw is (record {
+  width = omega (arith, ints, h.width, a.width);
+  height = omega (arith, ints, clamps, h.height, a.height);
+  depth = omega (arith, ints, clamps, h.depth, a.depth);
+  shrink = omega (arith, ints, h.shrink, a.shrink);
+})
 
-sum_near : (i : ℕ) (a b d : ℤ) → d ≡ a +ℤ b → Within (2 ^ 40 * i) a → Within (2 ^ 40) b → Within (2 ^ 40 * (i + 1)) d
-sum_near i a b d e h k = record { low = omega (arith, ints, h.low, k.low); high = omega (arith, ints, h.high, k.high) }
-
-pub sum_step : (ps rest rest' : List RowPart) (p : RowPart) (i : ℕ) (e e' : RowReach) → PartsSum ps rest i e → rest ≡ p ∷ rest' → IsNearPart p → Adds p e e' → PartsSum ps rest' (i + 1) e'
-sum_step ps rest rest' p i e e' h r near a =
-    let h' : PartsSum ps (p ∷ rest') i e = subst (λ z. PartsSum ps z i e) r h in
-    record {
-      width = omega (arith, ints, h'.width, a.width);
-      height = omega (arith, ints, clamps, h'.height, a.height);
-      depth = omega (arith, ints, clamps, h'.depth, a.depth);
-      shrink = omega (arith, ints, h'.shrink, a.shrink);
-      up = omega (arith, ints, clamps, a.height, h'.up);
-      down = omega (arith, ints, clamps, a.depth, h'.down);
-      wide = sum_near i e.width (part_width p) e'.width a.width h'.wide (near_width p near);
-      soft = sum_near i e.shrink (part_shrink p) e'.shrink a.shrink h'.soft (near_shrink p near);
-      few = omega (arith, h'.few);
-    }
-
-pub sum_wide : (ps rest : List RowPart) (i : ℕ) (e : RowReach) → PartsSum ps rest i e → Within (2 ^ 61) e.width
-sum_wide ps rest i e h = record { low = omega (arith, ints, h.wide.low, h.few); high = omega (arith, ints, h.wide.high, h.few) }
-
-pub sum_soft : (ps rest : List RowPart) (i : ℕ) (e : RowReach) → PartsSum ps rest i e → Within (2 ^ 61) e.shrink
-sum_soft ps rest i e h = record { low = omega (arith, ints, h.soft.low, h.few); high = omega (arith, ints, h.soft.high, h.few) }
-
-pub record PartsSummed (ps : List RowPart) (e : RowReach) : Type 0 where
-  pub width : e.width ≡ parts_sum part_width ps
-  pub height : e.height ≡ parts_max part_height ps
-  pub depth : e.depth ≡ parts_max part_depth ps
-  pub shrink : e.shrink ≡ parts_sum part_shrink ps
-
-pub sum_end : (ps rest : List RowPart) (i : ℕ) (e : RowReach) → PartsSum ps rest i e → rest ≡ [] → PartsSummed ps e
-sum_end ps rest i e h r =
-    let h' : PartsSum ps [] i e = subst (λ z. PartsSum ps z i e) r h in
-    record {
-      width = omega (arith, ints, h'.width);
-      height = omega (arith, ints, clamps, h'.height, h'.up);
-      depth = omega (arith, ints, clamps, h'.depth, h'.down);
-      shrink = omega (arith, ints, h'.shrink);
-    }
+pub near_drop : (i : ℕ) (ps : List RowPart) → AllNearParts ps → AllNearParts (drop i ps)
+near_drop zero ps h = h
+near_drop (suc i) [] h = tt
+near_drop (suc i) (p ∷ ps) h = near_drop i ps h.1
 
 -- ---- joining, from the last part
 

@@ -4,8 +4,10 @@ use Rattle.std.proofs.lemmas.List.{append-nil, take_all, drop_all, take_at, drop
 use Rattle.mt_box.specs.declared.node.Node.{Node}
 use Rattle.mt_box.specs.Unfold.{marks}
 use Rattle.mt_box.specs.inner.Nodes.{node_places}
-use Rattle.mt_box.specs.marks.Layers.{begun, put_on, moved_layer, joined, swapped_layers, layer_at, top}
+use Rattle.mt_box.specs.marks.Layers.{begun, put_on, moved_layer, joined, swapped_layers, top}
 use Rattle.mt_box.specs.marks.inner.View.{layers, Fall}
+use Rattle.mt_box.specs.declared.place.Place.{Place}
+use Rattle.mt_box.proofs.Moved.{moved_zero}
 use Rattle.mt_box.proofs.NodePlaces.{places_append}
 
 pub top_more : (ns : List ℕ) (n : ℕ) → reverse (ns ++ n ∷ []) ≡ n ∷ reverse ns
@@ -22,9 +24,6 @@ last_apart ns h =
 -- without the last one
 pub rest_of : (ns rest : List ℕ) (s : ℕ) → 1 ≤ length ns → reverse ns ≡ s ∷ rest → reverse (take (length ns - 1) ns) ≡ rest
 rest_of ns rest s h e = let f = sym (last_apart ns h) ∙ e in cc
-
-some_there : (ns rest : List ℕ) (s : ℕ) → reverse ns ≡ s ∷ rest → 1 ≤ length ns
-some_there ns rest s e = omega (arith, length-reverse ns, ap length e)
 
 -- ---- a layout more, and a mark more
 
@@ -74,7 +73,12 @@ top_places is ns ms n s m l at =
     by_top [] = ap node_places (drop_all (length is) is (omega arith))
     by_top (t ∷ ts) = refl
 
--- ---- there is none so far below
+-- ---- it is moved by nothing, or there is none so far below
+
+pub still_layer : (k : ℕ) (ls : List (List Place)) → ls ≡ moved_layer k (pos 0) (pos 0) ls
+still_layer k [] = refl
+still_layer zero (l ∷ ls) = ap (λ z. z ∷ ls) (sym (moved_zero l))
+still_layer (suc k) (l ∷ ls) = ap (λ z. l ∷ z) (still_layer k ls)
 
 pub beyond : (x y : ℤ) (k : ℕ) (is : List Node) (ts : List ℕ) → length ts ≤ k → layers is ts ≡ moved_layer k x y (layers is ts)
 beyond x y k is [] h = refl
@@ -92,13 +96,3 @@ alone_swapped k is [] h = refl
 alone_swapped zero is (t ∷ []) h = refl
 alone_swapped zero is (t ∷ s ∷ ts) h = absurd (omega (arith, h))
 alone_swapped (suc k) is (t ∷ ts) h = ap (λ r. node_places (drop t is) ∷ r) (alone_swapped k (take t is) ts (omega (arith, h)))
-
-pub none_copied : (k : ℕ) (is : List Node) (ns ns' : List ℕ) (n : ℕ) → n ≡ length is → length ns ≤ k → ns' ≡ ns ++ n ∷ []
-    → layers is (reverse ns') ≡ layer_at k (layers is (reverse ns)) ∷ layers is (reverse ns)
-none_copied k is ns ns' n l few new =
-    pushed_view is is [] ns ns' n (sym (append-nil is)) l new ∙ ap (λ r. r ∷ layers is (reverse ns)) (sym (beyond_all k is (reverse ns) (omega (arith, few, length-reverse ns))))
-  where
-    beyond_all : (k : ℕ) (is : List Node) (ss : List ℕ) → length ss ≤ k → layer_at k (layers is ss) ≡ []
-    beyond_all k is [] h = refl
-    beyond_all zero is (s ∷ ss) h = absurd (omega (arith, h))
-    beyond_all (suc k) is (s ∷ ss) h = beyond_all k (take s is) ss (omega (arith, h))

@@ -1,5 +1,5 @@
 //! Runs of nodes, moved and turned.
-ghost use Rattle.std.specs.Prelude.{◌≡◌, ◌≤◌, ◌++◌, ◌+◌, ◌-◌, take, drop, length, OnOk, IfOk};
+ghost use Rattle.std.specs.Prelude.{◌≡◌, ◌≤◌, ◌++◌, ◌+◌, ◌-◌, take, drop, length, OnOk};
 ghost use Rattle.mt_box.specs.inner.Nodes.{node_moved, nodes_moved, AreMarks};
 
 use crate::Node;
@@ -20,15 +20,16 @@ pub(crate) fn move_all(nodes: &mut [Node], by: Move) -> Result<(), AllocError>
     ensures marks { AreMarks nodes.old → AreMarks nodes.new }
     ensures len { length nodes.new ≡ length nodes.old }
 {
-    for i in 0..nodes.len() {
-        nodes[i] = moved(nodes[i], by)?;
+    for node in nodes {
+        move_node(node, by)?;
     }
     Ok(())
 }
 
 // The node moved right and up, if its offset is one of 64 bits then.
-fn moved(node: Node, by: Move) -> Result<Node, AllocError>
-    ensures { IfOk result (λ n. n ≡ node_moved by.right by.up node) }
+fn move_node(node: &mut Node, by: Move) -> Result<(), AllocError>
+    ensures is { OnOk result (node.new ≡ node_moved by.right by.up node.old) }
+    ensures mark { node.new.mark ≡ node.old.mark }
 {
     let Some(x) = node.x.checked_add(by.right) else {
         return Err(AllocError);
@@ -36,7 +37,9 @@ fn moved(node: Node, by: Move) -> Result<Node, AllocError>
     let Some(y) = node.y.checked_add(by.up) else {
         return Err(AllocError);
     };
-    Ok(Node { x, y, ..node })
+    node.x = x;
+    node.y = y;
+    Ok(())
 }
 
 // The nodes from `middle` on before `end` come before those from `start` on before `middle`.
@@ -49,7 +52,28 @@ pub(crate) fn turn_range(nodes: &mut Vec<Node>, start: usize, middle: usize, end
         ++ take (middle - start) (take (end - start) (drop start nodes.old.items))) ++ drop end nodes.old.items) }
     ensures marks { AreMarks nodes.old.items → AreMarks nodes.new.items }
 {
-    nodes[start..end].rotate_left(middle - start);
+    turn(&mut nodes[start..end], middle - start);
+}
+
+// The nodes from `middle` on come before the others.
+fn turn(nodes: &mut [Node], middle: usize)
+    requires { middle ≤ length nodes.old }
+    ensures { nodes.new ≡ drop middle nodes.old ++ take middle nodes.old }
+{
+    nodes[..middle].reverse();
+    nodes[middle..].reverse();
+    nodes.reverse();
+}
+
+// Without the items from `start` on before `end`.
+pub(crate) fn cut<T: Copy>(items: &mut Vec<T>, start: usize, end: usize)
+    requires start { start ≤ end }
+    requires end { end ≤ length items.old.items }
+    ensures { items.new.items ≡ take start items.old.items ++ drop end items.old.items }
+{
+    let len = items.len();
+    items.copy_within(end..len, start);
+    items.truncate(len - (end - start));
 }
 
 // The nodes from `start` on before `end` moved right and up. After a refusal some are moved and some are not.

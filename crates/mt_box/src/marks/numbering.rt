@@ -1,5 +1,5 @@
 //! The nodes of a layout, as those of a box.
-ghost use Rattle.std.specs.Prelude.{◌≡◌, ◌≤◌, ◌<◌, ◌+◌, ◌^◌, drop, length, IfOk};
+ghost use Rattle.std.specs.Prelude.{◌≡◌, ◌≤◌, ◌<◌, ◌+◌, ◌^◌, IfOk};
 ghost use Rattle.mt_scaled.specs.Number.{Within};
 ghost use Rattle.mt_box.specs.Extents.{ExtentsInRange};
 ghost use Rattle.mt_box.specs.Layout.{layout_of};
@@ -7,7 +7,7 @@ ghost use Rattle.mt_box.specs.inner.Boxes.{reach};
 ghost use Rattle.mt_box.specs.inner.Nodes.{node_places, AreMarks, AreFlat};
 
 use crate::{Extents, Node, NodeId, Packed};
-use std::alloc::{AllocError, Global};
+use std::alloc::AllocError;
 
 // The greatest distance to a side at which a node of a new box stands.
 const FAR: i64 = 3 << 61;
@@ -58,28 +58,4 @@ fn with_number(node: Node, i: usize) -> Result<Node, AllocError>
         after: NodeId(i + 1),
         ..node
     })
-}
-
-// A copy of the nodes from `start` on.
-pub(crate) fn copied_from(
-    alloc: Global,
-    nodes: &[Node],
-    start: usize,
-) -> Result<Vec<Node>, AllocError>
-    requires { start ≤ length nodes.now }
-    ensures { IfOk result (λ v. v.items ≡ drop start nodes.now) }
-{
-    nodes[start..].to_vec(alloc)
-}
-
-// The nodes from `start` on.
-pub(crate) fn without_front(nodes: Vec<Node>, start: usize) -> Vec<Node>
-    requires { start ≤ length nodes.items }
-    ensures { result.items ≡ drop start nodes.items }
-{
-    let mut nodes = nodes;
-    if 0 < start {
-        nodes.drain(..start);
-    }
-    nodes
 }

@@ -222,8 +222,8 @@ fn reach_of(parts: &[RowPart]) -> RowReach
     ensures shrink { result.shrink ≡ parts_sum part_shrink parts.now }
 {
     let mut row = RowReach::NONE;
-    for part in parts {
-        row = row.with(part);
+    for i in (0..parts.len()).rev() {
+        row = row.with(&parts[i]);
     }
     row
 }

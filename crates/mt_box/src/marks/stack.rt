@@ -1,16 +1,16 @@
 //! Layouts one on another.
-ghost use Rattle.std.specs.Prelude.{◌≡◌, ◌≤◌, ◌^◌, ◌+◌, ◌-ℤ◌, ◌∷◌, [], ◌++◌, take, drop, pos, OnOk, OnErr, IfOk};
+ghost use Rattle.std.specs.Prelude.{◌≡◌, ◌≤◌, ◌^◌, ◌+◌, ◌-ℤ◌, ◌∷◌, [], ◌++◌, take, drop, length, pos, List, OnOk, OnErr, IfOk};
+ghost use Rattle.mt_box.specs.declared.place.Place.{Place};
 ghost use Rattle.mt_box.specs.declared.place.Place.TheVariants.{Glyph};
 ghost use Rattle.mt_box.specs.Extents.{ExtentsInRange};
 ghost use Rattle.mt_box.specs.Layout.{layout_of};
 ghost use Rattle.mt_box.specs.Unfold.{marks, IsMark};
-ghost use Rattle.mt_box.specs.marks.Layers.{begun, put_on, moved_layer, joined, swapped_layers, dropped, layer_at, top};
+ghost use Rattle.mt_box.specs.marks.Layers.{begun, put_on, moved_layer, joined, swapped_layers, dropped, top};
 
-use crate::marks::ink::Ink;
-use crate::marks::moves::{Move, move_range, turn_range};
-use crate::marks::numbering::{box_of_nodes, copied_from, without_front};
+use crate::marks::moves::{Move, cut, move_range, turn_range};
+use crate::marks::numbering::box_of_nodes;
 use crate::marks::starts::{
-    Bounds, bounds_of, drop_last, set_start, start_of, starts_without, top_start,
+    Bounds, bounds_of, copy_starts, set_start, start_of, starts_without, top_start,
 };
 use crate::{Extents, Mark, Node, NodeId, Packed};
 use std::alloc::{AllocError, Global};
@@ -51,16 +51,6 @@ impl Marks {
         }
     }
 
-    /// No layout, with room for so many marks and layouts.
-    pub fn with_capacity(alloc: Global, marks: usize, layouts: usize) -> Result<Marks, AllocError>
-        ensures { IfOk result (λ m. m ≡ []) }
-    {
-        Ok(Marks {
-            nodes: Vec::with_capacity(alloc, marks)?,
-            starts: Vec::with_capacity(alloc, layouts)?,
-        })
-    }
-
     /// The layout of a box alone, whose list is taken over.
     pub fn of_box(alloc: Global, body: Packed) -> Result<Marks, AllocError>
         ensures { IfOk result (λ m. m ≡ body.places ∷ []) }
@@ -73,6 +63,23 @@ impl Marks {
         })
     }
 
+    /// No layout, with room for so many marks and layouts.
+    pub fn with_capacity(alloc: Global, marks: usize, layouts: usize) -> Result<Marks, AllocError>
+        ensures { IfOk result (λ m. m ≡ []) }
+    {
+        Ok(Marks {
+            nodes: Vec::with_capacity(alloc, marks)?,
+            starts: Vec::with_capacity(alloc, layouts)?,
+        })
+    }
+
+    /// How many layouts there are.
+    pub fn len(&self) -> usize
+        ensures { result ≡ length self.now }
+    {
+        self.starts.len()
+    }
+
     /// A layout without marks on top.
     pub fn begin(&mut self) -> Result<(), AllocError>
         ensures is { OnOk result (self.new ≡ begun self.old) }
@@ -82,15 +89,14 @@ impl Marks {
         Ok(())
     }
 
-    /// A mark at the end of the top layout. A rule has a positive height and width, and a stack has at most 2,000
-    /// glyphs.
-    pub fn put(&mut self, ink: Ink) -> Result<(), AllocError>
-        requires { IsMark ink.mark }
-        ensures is { OnOk result (self.new ≡ put_on (marks ink.mark ink.h ink.v) self.old) }
+    /// A mark at the end of the top layout, so far to the right of its reference point and so far above it. A rule has a
+    /// positive height and width, and a stack has at most 2,000 glyphs.
+    pub fn put(&mut self, at: Move, mark: Mark) -> Result<(), AllocError>
+        requires { IsMark mark }
+        ensures is { OnOk result (self.new ≡ put_on (marks mark at.right (pos 0 -ℤ at.up)) self.old) }
         ensures err { OnErr result (self.new ≡ self.old) }
     {
-        let node = node_of(ink)?;
-        self.nodes.push(node)?;
+        self.nodes.push(node_at(at, mark))?;
         Ok(())
     }
 
@@ -99,6 +105,9 @@ impl Marks {
     pub fn shift(&mut self, under: usize, by: Move) -> Result<(), AllocError>
         ensures { OnOk result (self.new ≡ moved_layer under by.right by.up self.old) }
     {
+        if by.right == 0 && by.up == 0 {
+            return Ok(());
+        }
         let Some(Bounds { start, end }) = bounds_of(&self.starts, under, self.nodes.len()) else {
             return Ok(());
         };
@@ -110,10 +119,10 @@ impl Marks {
     pub fn join(&mut self)
         ensures { self.new ≡ joined self.old }
     {
-        if self.starts.len() < 2 {
-            return;
+        let count = self.starts.len();
+        if 2 <= count {
+            self.starts.truncate(count - 1);
         }
-        drop_last(&mut self.starts);
     }
 
     /// The layout under so many others and the one under it change places. Where there are not both, nothing changes.
@@ -140,11 +149,7 @@ impl Marks {
         ensures { OnOk result (self.new ≡ (Glyph font code (pos 0) (pos 0) ∷ []) ∷ self.old) }
     {
         self.begin()?;
-        self.put(Ink {
-            h: 0,
-            v: 0,
-            mark: Mark::Glyph { font, code },
-        })
+        self.put(Move { right: 0, up: 0 }, Mark::Glyph { font, code })
     }
 
     /// The layout of a box on top.
@@ -167,7 +172,7 @@ impl Marks {
         ensures level { IfOk result (λ b. b.level ≡ level) }
     {
         let start = top_start(&self.starts, self.nodes.len());
-        box_of_nodes(copied_from(alloc, &self.nodes, start)?, extents, level)
+        box_of_nodes(self.nodes[start..].to_vec(alloc)?, extents, level)
     }
 
     /// The box of the top layout, as by [`Marks::top_box`]. The other layouts are given up, and where there are none the
@@ -180,21 +185,24 @@ impl Marks {
         ensures level { IfOk result (λ b. b.level ≡ level) }
     {
         let start = top_start(&self.starts, self.nodes.len());
-        box_of_nodes(without_front(self.nodes, start), extents, level)
+        let mut nodes = self.nodes;
+        cut(&mut nodes, 0, start);
+        box_of_nodes(nodes, extents, level)
     }
 
-    /// A copy of the layout under so many others on top; an empty one where there is no such layout.
-    pub fn copy(&mut self, under: usize) -> Result<(), AllocError>
-        ensures { OnOk result (self.new ≡ layer_at under self.old ∷ self.old) }
+    /// A copy of each of so many layouts on top, in their order. The first of them has so many others below it. Where
+    /// there are not so many layouts, those that there are.
+    pub fn copy_run(&mut self, first: usize, count: usize) -> Result<(), AllocError>
+        ensures { (above run below : List (List Place)) → self.old ≡ above ++ (run ++ below) → length below ≡ first
+            → length run ≡ count → OnOk result (self.new ≡ run ++ self.old) }
     {
+        let first = first.min(self.starts.len());
+        let last = first.saturating_add(count).min(self.starts.len());
         let end_of_all = self.nodes.len();
-        let bounds = bounds_of(&self.starts, under, end_of_all);
-        self.starts.push(end_of_all)?;
-        let Some(Bounds { start, end }) = bounds else {
-            return Ok(());
-        };
+        let start = start_of(&self.starts, first, end_of_all);
+        let end = start_of(&self.starts, last, end_of_all);
         self.nodes.extend_from_within(start..end)?;
-        Ok(())
+        copy_starts(&mut self.starts, first, last, start, end_of_all)
     }
 
     /// Without so many layouts, the first of which is under so many others. Those under these stay.
@@ -206,8 +214,8 @@ impl Marks {
         let end_of_all = self.nodes.len();
         let start = start_of(&self.starts, first, end_of_all);
         let end = start_of(&self.starts, last, end_of_all);
-        self.nodes.drain(start..end);
-        starts_without(&mut self.starts, first, last, end - start);
+        cut(&mut self.nodes, start, end);
+        starts_without(&mut self.starts, first, last, end.saturating_sub(start));
     }
 
     /// Without layouts. What memory they had stays.
@@ -228,19 +236,13 @@ impl Marks {
     }
 }
 
-// The mark as a node, if its offset upward is one of 64 bits.
-fn node_of(ink: Ink) -> Result<Node, AllocError>
-    ensures x { IfOk result (λ n. n.x ≡ ink.h) }
-    ensures y { IfOk result (λ n. pos 0 -ℤ n.y ≡ ink.v) }
-    ensures mark { IfOk result (λ n. n.mark ≡ ink.mark) }
+fn node_at(at: Move, mark: Mark) -> Node
+    ensures { result ≡ record { x = at.right; y = at.up; mark = mark; after = record { 0 = 0 } } }
 {
-    let Some(y) = 0i64.checked_sub(ink.v) else {
-        return Err(AllocError);
-    };
-    Ok(Node {
-        x: ink.h,
-        y,
-        mark: ink.mark,
+    Node {
+        x: at.right,
+        y: at.up,
+        mark,
         after: NodeId(0),
-    })
+    }
 }

@@ -1,5 +1,8 @@
 //! Where layouts begin, the lowest one first.
-ghost use Rattle.std.specs.Prelude.{◌≡◌, ◌≤◌, ◌<◌, ◌+◌, ◌-◌, ◌++◌, map, take, drop, set, length, reverse, get_or, IfSome, IfNone};
+ghost use Rattle.std.specs.Prelude.{◌≡◌, ◌≤◌, ◌<◌, ◌+◌, ◌-◌, ◌++◌, ◌^◌, All, map, take, drop, set, length, reverse, get_or, IfSome, IfNone, OnErr, OnOk};
+
+use crate::marks::moves::cut;
+use std::alloc::AllocError;
 
 // From a mark on, before another.
 #[derive(Clone, Copy)]
@@ -43,12 +46,6 @@ pub(crate) fn top_start(starts: &[usize], end: usize) -> usize
     }
 }
 
-pub(crate) fn drop_last(starts: &mut Vec<usize>)
-    ensures { starts.new.items ≡ take (length starts.old.items - 1) starts.old.items }
-{
-    starts.pop();
-}
-
 // Another start of the layout under so many others.
 pub(crate) fn set_start(starts: &mut Vec<usize>, under: usize, start: usize)
     requires { under < length starts.old.items }
@@ -64,7 +61,7 @@ pub(crate) fn starts_without(starts: &mut Vec<usize>, first: usize, last: usize,
     requires last { last ≤ length starts.old.items }
     ensures { starts.new.items ≡ take first starts.old.items ++ map (λ n. n - by) (drop last starts.old.items) }
 {
-    starts.drain(first..last);
+    cut(starts, first, last);
     lower_all(&mut starts[first..], by);
 }
 
@@ -73,5 +70,36 @@ fn lower_all(starts: &mut [usize], by: usize)
 {
     for i in 0..starts.len() {
         starts[i] = starts[i].saturating_sub(by);
+    }
+}
+
+// The starts number `first` to `last` once more behind all, for marks that were copied: what began at `from` begins at `to`.
+pub(crate) fn copy_starts(
+    starts: &mut Vec<usize>,
+    first: usize,
+    last: usize,
+    from: usize,
+    to: usize,
+) -> Result<(), AllocError>
+    requires first { first ≤ last }
+    requires last { last ≤ length starts.old.items }
+    requires low { All (λ n. n ≤ to) starts.old.items }
+    requires small { to < 2 ^ 63 }
+    ensures is { OnOk result (starts.new.items ≡ starts.old.items ++ map (λ n. n - from + to) (take (last - first) (drop first starts.old.items))) }
+    ensures err { OnErr result (starts.new.items ≡ starts.old.items) }
+{
+    let count = starts.len();
+    starts.extend_from_within(first..last)?;
+    raise_all(&mut starts[count..], from, to);
+    Ok(())
+}
+
+fn raise_all(starts: &mut [usize], from: usize, to: usize)
+    requires low { All (λ n. n ≤ to) starts.old }
+    requires small { to < 2 ^ 63 }
+    ensures { starts.new ≡ map (λ n. n - from + to) starts.old }
+{
+    for i in 0..starts.len() {
+        starts[i] = starts[i].saturating_sub(from) + to;
     }
 }

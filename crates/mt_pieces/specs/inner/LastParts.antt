@@ -1,11 +1,9 @@
 -- Parts by their kinds: the last ones and the first one.
-use Rattle.std.specs.Prelude.{ℕ, List, [], ◌∷◌, Bool, true, false, Option, Some, None}
-use Rattle.mt_box.specs.declared.place.Place.{Place}
+use Rattle.std.specs.Prelude.{List, [], ◌∷◌, Bool, true, false, Option, Some, None}
 use Rattle.mt_box.specs.declared.marks.row.RowPiece.{RowPiece}
 use Rattle.mt_box.specs.declared.marks.row.RowPart.{RowPart}
 use Rattle.mt_box.specs.declared.marks.row.RowPart.TheVariants as part
 use Rattle.mt_box.specs.Boxes.{is_unraised}
-use Rattle.mt_box.specs.marks.Layers.{layer_at}
 use Rattle.mt_pieces.specs.declared.last.TwoBoxes.{TwoBoxes}
 
 -- the last part, a box; parts are taken from the last one
@@ -59,10 +57,3 @@ has_layer (part.Glyph f c e) = true
 has_layer (part.Layout p) = true
 has_layer (part.Gap w) = false
 has_layer (part.Space w s) = false
-
--- the layer of a part under so many others once more on top, if the part has one
-abbrev pub with_copy : RowPart → ℕ → List (List Place) → List (List Place)
-with_copy (part.Glyph f c e) k ls = layer_at k ls ∷ ls
-with_copy (part.Layout p) k ls = layer_at k ls ∷ ls
-with_copy (part.Gap w) k ls = ls
-with_copy (part.Space w s) k ls = ls

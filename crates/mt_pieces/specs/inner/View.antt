@@ -1,5 +1,5 @@
 -- What the fields of `Pieces` are seen as, and what holds of them. Parts are taken from the last one, and layouts from the top one.
-use Rattle.std.specs.Prelude.{◌≡◌, ℕ, ℤ, pos, ◌^◌, List, [], ◌∷◌, ◌++◌, reverse, ⊤}
+use Rattle.std.specs.Prelude.{◌≡◌, ℕ, ℤ, pos, ◌^◌, List, [], ◌∷◌, ◌++◌, reverse}
 use Rattle.mt_scaled.specs.Number.{Within}
 use Rattle.mt_box.specs.declared.place.Place.{Place}
 use Rattle.mt_box.specs.declared.place.Place.TheVariants.{Glyph}

@@ -1,9 +1,10 @@
 use Rattle.std.proofs.Common.{◌∙◌, ◌≤◌, pos, length, arith}
 use Rattle.std.specs.Prelude.{None}
+use Rattle.std.proofs.lemmas.Result.{on_ok_weaker}
 use Rattle.mt_align.specs.declared.look.Look.TheVariants.{Equations}
 use Rattle.mt_align.proofs.ColumnWidths.{columns_few, columns_fit}
 use Rattle.mt_align.proofs.Placed.{as_many_drops}
-use Rattle.mt_align.proofs.Tables.{equations_placed, equations_stack, equations_answers, equations_wide, tested_width, refused_width, on_ok, on_top}
+use Rattle.mt_align.proofs.Tables.{equations_placed, equations_stack, equations_answers, equations_wide, tested_width, refused_width, on_top}
 use Rattle.mt_align.proofs.equations.equations_on_marks.Goals as goal
 
 pub columns_width-width-requires-clause-few : goal.columns_width-width-requires-clause-few
@@ -47,6 +48,6 @@ returns-clause-rest c = λ cells rest e o.
     let ds = c.in_ok-drops.drops.baselines.items in
     let h = equations_placed c.args.rows.now cells ws ds w c.in_ok-drops.drops.total.sp e c.in_ok-widths.ensures.is
     (rw c.deref.ensures.value at c.columns_width-width.ensures.is) c.in_ok-drops.ensures.baselines c.in_ok-drops.ensures.total in
-    on_ok c.place_table.result
+    on_ok_weaker c.place_table.result
     (λ p. on_top (p ∙ equations_stack c.args.fonts.now c.args.size c.args.rows.now cells ws ds w c.in_ok-drops.drops.total.sp c.args.marks.now rest h e (columns_fit c.args.rows.now ws c.in_ok-widths.ensures.is) o))
     c.place_table.ensures.marks

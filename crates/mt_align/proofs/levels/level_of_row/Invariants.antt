@@ -1,6 +1,6 @@
-use Rattle.std.proofs.Common.{drop}
-use Rattle.mt_align.proofs.BoxLevels.{RowLevel}
+use Rattle.std.proofs.Common.{◌≡◌, ◌≤◌, drop, length}
+use Rattle.mt_align.specs.Cells.{boxes_level}
 use Rattle.mt_align.proofs.levels.level_of_row.Given as goal
 
-abbrev pub invariant-loop-cell : goal.invariant-loop-cell
-invariant-loop-cell l = RowLevel l.cells (drop l.cell-index l.cell-items) l.level
+abbrev pub invariant-loop-i : goal.invariant-loop-i
+invariant-loop-i l = record { within : l.i ≤ length l.cells; level : l.level ≡ boxes_level (drop l.i l.cells) }

@@ -1,10 +1,11 @@
 use Rattle.std.proofs.Common.{◌∙◌, ◌^◌}
 use Rattle.std.specs.Prelude.{Some}
+use Rattle.std.proofs.lemmas.Result.{on_ok_weaker}
 use Rattle.mt_rules.specs.Tables.{strut_drop}
 use Rattle.mt_align.specs.declared.look.Look.TheVariants.{Matrix}
 use Rattle.mt_align.proofs.ColumnWidths.{struts_few, struts_fit}
 use Rattle.mt_align.proofs.Placed.{as_many_drops}
-use Rattle.mt_align.proofs.Tables.{matrix_placed, matrix_stack, matrix_answers, matrix_wide, tested_width, refused_width, on_ok, on_top}
+use Rattle.mt_align.proofs.Tables.{matrix_placed, matrix_stack, matrix_answers, matrix_wide, tested_width, refused_width, on_top}
 use Rattle.mt_align.proofs.matrix.matrix_on_marks.Goals as goal
 
 pub columns_width-width-requires-clause-few : goal.columns_width-width-requires-clause-few
@@ -45,6 +46,6 @@ returns-clause-rest c = λ cells rest e o.
     let ds = c.in_ok-drops.drops.baselines.items in
     let h = matrix_placed c.args.fonts.now c.args.strut c.args.rows.now cells ws ds w c.in_ok-drops.drops.total.sp e c.in_ok-widths.ensures.is
     (rw (c.quad-gap.ensures.is, c.deref.ensures.value) at c.columns_width-width.ensures.is) c.in_ok-drops.ensures.baselines c.in_ok-drops.ensures.total in
-    on_ok c.place_table.result
+    on_ok_weaker c.place_table.result
     (λ p. on_top (p ∙ matrix_stack c.args.fonts.now c.args.size c.args.strut c.args.rows.now cells ws ds w c.in_ok-drops.drops.total.sp c.args.marks.now rest h e (struts_fit c.args.rows.now ws c.in_ok-widths.ensures.is) o))
     (rw c.quad-gap.ensures.is at c.place_table.ensures.marks)

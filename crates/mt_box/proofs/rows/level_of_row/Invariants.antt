@@ -1,6 +1,6 @@
-use Rattle.std.proofs.Common.{drop}
-use Rattle.mt_box.proofs.Packing.{Levels}
+use Rattle.std.proofs.Common.{◌≡◌, ◌≤◌, drop, length}
+use Rattle.mt_box.specs.Rows.{row_level}
 use Rattle.mt_box.proofs.rows.level_of_row.Given as goal
 
-abbrev pub invariant-loop-piece : goal.invariant-loop-piece
-invariant-loop-piece l = Levels l.row (drop l.piece-index l.piece-items) l.level
+abbrev pub invariant-loop-i : goal.invariant-loop-i
+invariant-loop-i l = record { within : l.i ≤ length l.pieces; level : l.level ≡ row_level (drop l.i l.pieces) }

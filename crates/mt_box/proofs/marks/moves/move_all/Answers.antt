@@ -4,11 +4,11 @@ use Rattle.mt_box.specs.inner.Nodes.{HasMark, node_moved}
 use Rattle.mt_box.proofs.Lists.{one_changed}
 use Rattle.mt_box.proofs.marks.moves.move_all.Goals as goal
 
-pub loop-i-preserved : goal.loop-i-preserved
-loop-i-preserved c =
-    let p = c.loop-i.invariant in
-    let low : c.loop-i.i < length c.loop-i.nodes = search rules in
+pub loop-node-preserved : goal.loop-node-preserved
+loop-node-preserved c =
+    let p = c.loop-node.invariant in
+    let low : c.loop-node.node-index < length c.loop-node.node-items = search rules in
     record {
-      moved = ap (λ n. set c.loop-i.nodes c.loop-i.i n) c.in_ok-nodes.ensures ∙ one_changed (node_moved c.args.by.right c.args.by.up) c.loop-i.i c.args.nodes.now c.loop-i.nodes _ c.loop-i-test.true p.moved;
-      marks = λ h. All-set HasMark c.loop-i.nodes c.loop-i.i c.in_ok-nodes.field-0 (rw (c.in_ok-nodes.ensures) (All-get_or HasMark c.loop-i.nodes c.loop-i.i _ low (p.marks h))) (p.marks h);
+      moved = ap (λ n. set c.loop-node.node-items c.loop-node.node-index n) c.in_ok-move_node.ensures.is ∙ one_changed (node_moved c.args.by.right c.args.by.up) c.loop-node.node-index c.args.nodes.now c.loop-node.node-items _ c.loop-node-test.true p.moved;
+      marks = λ h. All-set HasMark c.loop-node.node-items c.loop-node.node-index c.move_node.new.node (rw (c.move_node.ensures.mark) (All-get_or HasMark c.loop-node.node-items c.loop-node.node-index _ low (p.marks h))) (p.marks h);
     }

@@ -5,7 +5,7 @@ use Rattle.mt_box.specs.Rows.{piece_value}
 use Rattle.mt_box.specs.marks.Layers.{top}
 use Rattle.mt_box.specs.marks.PieceParts.{IsPartInRange, part_of, piece_layouts}
 use Rattle.mt_box.specs.marks.RowParts.{on_stack}
-use Rattle.mt_pieces.specs.inner.View.{AreLaid, IsLaid, piece_of, under}
+use Rattle.mt_pieces.specs.inner.View.{AreLaid, piece_of, under}
 use Rattle.mt_pieces.proofs.Laid.{laid_first, pushed_laid, pushed_piece, put_laid, put_view}
 use Rattle.mt_pieces.proofs.pieces.Pieces.put_piece.Goals as goal
 

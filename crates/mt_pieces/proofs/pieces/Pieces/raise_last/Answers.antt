@@ -1,7 +1,6 @@
 use Rattle.std.proofs.Common.{◌∙◌, ◌++◌, ◌∷◌, [], ap, sym, subst, refl, reverse}
 use Rattle.mt_box.specs.declared.marks.row.RowPiece.{RowPiece}
 use Rattle.mt_box.specs.Rows.{PieceBox}
-use Rattle.mt_rules.specs.OnMarks.{layout_with}
 use Rattle.mt_pieces.specs.inner.View.{IsBoxLaid}
 use Rattle.mt_pieces.specs.inner.LastParts.{last_box}
 use Rattle.mt_pieces.proofs.LastPieces.{last_of, changed_laid, raised_view}

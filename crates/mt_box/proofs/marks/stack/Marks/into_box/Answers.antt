@@ -4,4 +4,4 @@ use Rattle.mt_box.specs.inner.Nodes.{HasMark, AreMarks}
 use Rattle.mt_box.proofs.marks.stack.Marks.into_box.Goals as goal
 
 pub box_of_nodes-requires-clause-marks : goal.box_of_nodes-requires-clause-marks
-box_of_nodes-requires-clause-marks c = subst AreMarks (sym c.without_front.ensures) (All-drop HasMark _ _ c.self.invariant.marks)
+box_of_nodes-requires-clause-marks c = subst AreMarks (sym c.cut.ensures) (All-drop HasMark _ _ c.self.invariant.marks)

@@ -7,18 +7,18 @@ use Rattle.mt_box.proofs.marks.stack.Marks.join.Goals as goal
 
 pub invariant_of-self : goal.invariant_of-self
 invariant_of-self c =
-    let low : 2 ≤ length c.self.inside.starts.items = omega (arith, c.len.ensures, c.self.inside.starts.ok.0, c.if-len-lt2.false) in
+    let low : 2 ≤ length c.self.inside.starts.items = omega (arith, c.len-count.ensures, c.self.inside.starts.ok.0, c.if-count-ge2.true) in
     record {
       marks = c.self.invariant.marks;
-      starts = (join_now c.self.inside.nodes.items c.self.inside.starts.items _ low c.self.invariant.starts c.drop_last.ensures).fall;
+      starts = (join_now c.self.inside.nodes.items c.self.inside.starts.items _ low c.self.invariant.starts (c.truncate.ensures.items ∙ cc)).fall;
     }
 
-pub returns : goal.returns
-returns c =
-    let low : 2 ≤ length c.self.inside.starts.items = omega (arith, c.len.ensures, c.self.inside.starts.ok.0, c.if-len-lt2.false) in
-    (join_now c.self.inside.nodes.items c.self.inside.starts.items _ low c.self.invariant.starts c.drop_last.ensures).view_is ∙ ap joined c.self.view_is
+pub returns-then-count-ge2 : goal.returns-then-count-ge2
+returns-then-count-ge2 c =
+    let low : 2 ≤ length c.self.inside.starts.items = omega (arith, c.len-count.ensures, c.self.inside.starts.ok.0, c.if-count-ge2.true) in
+    (join_now c.self.inside.nodes.items c.self.inside.starts.items _ low c.self.invariant.starts (c.truncate.ensures.items ∙ cc)).view_is ∙ ap joined c.self.view_is
 
-pub returns-then-len-lt2 : goal.returns-then-len-lt2
-returns-then-len-lt2 c =
-    let few : length (reverse c.self.inside.starts.items) ≤ 1 = omega (arith, length-reverse c.self.inside.starts.items, c.len.ensures, c.self.inside.starts.ok.0, c.if-len-lt2.true) in
+pub returns-else-count-ge2 : goal.returns-else-count-ge2
+returns-else-count-ge2 c =
+    let few : length (reverse c.self.inside.starts.items) ≤ 1 = omega (arith, length-reverse c.self.inside.starts.items, c.len-count.ensures, c.self.inside.starts.ok.0, c.if-count-ge2.false) in
     sym c.self.view_is ∙ (alone_joined c.self.inside.nodes.items (reverse c.self.inside.starts.items) few ∙ ap joined c.self.view_is)

@@ -1,9 +1,9 @@
-use Rattle.std.proofs.Common.{ap, arith, reverse, length, sym, ◌∙◌, ◌≤◌, subst}
+use Rattle.std.proofs.Common.{◌≡◌, pos, rules, ap, arith, reverse, length, sym, ◌∙◌, ◌≤◌, subst}
 use Rattle.std.proofs.lemmas.List.{length-reverse}
 use Rattle.std.proofs.lemmas.Result.{on_ok_weaker}
 use Rattle.mt_box.specs.marks.inner.View.{Fall}
 use Rattle.mt_box.specs.marks.Layers.{moved_layer}
-use Rattle.mt_box.proofs.layers.StartLists.{beyond}
+use Rattle.mt_box.proofs.layers.StartLists.{beyond, still_layer}
 use Rattle.mt_box.proofs.layers.LayerCalls.{found, moved_view}
 use Rattle.mt_box.proofs.marks.stack.Marks.shift.Goals as goal
 
@@ -30,3 +30,9 @@ invariant_of-self c = record {
   marks = c.move_range.ensures.marks c.self.invariant.marks;
   starts = subst (λ n. Fall n (reverse c.self.inside.starts.items)) (sym c.move_range.ensures.len) c.self.invariant.starts;
 }
+
+pub returns-then-by-eq0-2 : goal.returns-then-by-eq0-2
+returns-then-by-eq0-2 c =
+    let right : c.args.by.right ≡ pos 0 = search rules in
+    let up : c.args.by.up ≡ pos 0 = search rules in
+    rw (right, up) (still_layer c.args.under c.args.self.now)
