@@ -1,16 +1,13 @@
 -- Lists made part by part, and the first fault.
 use Rattle.std.proofs.Common.{◌≡◌, List, [], ◌∷◌, ◌++◌, ap, sym, ◌∙◌, refl, append_assoc}
 use Rattle.std.specs.Prelude.{Ok, Err}
-use Rattle.mt_box.specs.declared.piece.Piece.{Piece}
-use Rattle.mt_box.specs.Rows.{PieceValue, piece_value, piece_values}
 use Rattle.mt_rules.specs.Setting.{Setting, SettingFault, ◌>>=◌}
-use Rattle.mt_rules.proofs.Appends.{piece_values-append}
 use Rattle.mt_convert.specs.declared.fault.SetFault.{SetFault}
 use Rattle.mt_convert.specs.declared.fault.SetFault.TheVariants.{MissingFamily, MissingChar, SmartLigature, Overflow, TooTall, OutOfMemory}
 use Rattle.mt_convert.specs.Calls.{SetFails}
 use Rattle.mt_convert.specs.inner.Appending.{appended_to}
 
-nil_right : {A : Type 0} (xs : List A) → xs ++ [] ≡ xs
+pub nil_right : {A : Type 0} (xs : List A) → xs ++ [] ≡ xs
 nil_right [] = refl
 nil_right (x ∷ xs) = ap (λ ys. x ∷ ys) (nil_right xs)
 
@@ -24,7 +21,7 @@ appended_nil (Err e) = refl
 pub appended_end : {A : Type 0} (there : List A) → appended_to there (Ok []) ≡ Ok there
 appended_end there = ap (λ xs. Ok xs) (nil_right there)
 
--- what is made next stands after what was made
+-- what is made next comes after what was made
 pub appended_step : {A : Type 0} (there next : List A) (s t : Setting (List A)) → appended_to there s ≡ Ok next → appended_to there (s >>= (λ xs. t >>= (λ ys. Ok (xs ++ ys)))) ≡ appended_to next t
 appended_step there next (Ok xs) (Ok ys) e = ap (λ zs. Ok zs) (sym (append_assoc there xs ys) ∙ ap (λ zs. zs ++ ys) (ok_is (there ++ xs) next e))
 appended_step there next (Ok xs) (Err f) e = refl
@@ -44,22 +41,3 @@ fails_on OutOfMemory s t h k = tt
 
 pub fails_then : {A B : Type 0} (e : SetFault) (s : Setting A) (next : A → Setting B) → SetFails e s → SetFails e (s >>= next)
 fails_then e s next h = fails_on e s (s >>= next) h (λ f k. ap (λ r. r >>= next) k)
-
--- ---- pieces pushed
-
-pub piece_pushed : (old new : List Piece) (p : Piece) (made : List PieceValue) → new ≡ old ++ p ∷ [] → piece_value p ∷ [] ≡ made → piece_values new ≡ piece_values old ++ made
-piece_pushed old new p made e f = ap piece_values e ∙ (piece_values-append old (p ∷ []) ∙ ap (λ x. piece_values old ++ x) f)
-
--- an item of one piece
-pub one_pushed : (old new : List Piece) (p : Piece) (s : Setting (List PieceValue)) → s ≡ Ok (piece_value p ∷ []) → new ≡ old ++ p ∷ [] → appended_to (piece_values old) s ≡ Ok (piece_values new)
-one_pushed old new p s e f = ap (λ r. appended_to (piece_values old) r) e ∙ ap (λ xs. Ok xs) (sym (piece_pushed old new p (piece_value p ∷ []) f refl))
-
--- a row after a space
-pub row_pushed : (old mid new more row : List Piece) (space : List PieceValue) → piece_values mid ≡ piece_values old ++ space → new ≡ mid ++ more → more ≡ row → piece_values new ≡ piece_values old ++ (space ++ piece_values row)
-row_pushed old mid new more row space e f g = ap piece_values (f ∙ ap (λ x. mid ++ x) g) ∙ (piece_values-append mid row ∙ (ap (λ x. x ++ piece_values row) e ∙ append_assoc (piece_values old) space (piece_values row)))
-
--- a boundary after a space
-pub boundary_pushed : (old mid new : List Piece) (p : Piece) (space : List PieceValue) (s : Setting PieceValue) → s ≡ Ok (piece_value p) → piece_values mid ≡ piece_values old ++ space → new ≡ mid ++ p ∷ [] → appended_to (piece_values old) (s >>= (λ m. Ok (space ++ m ∷ []))) ≡ Ok (piece_values new)
-boundary_pushed old mid new p space s e f g =
-    ap (λ r. appended_to (piece_values old) (r >>= (λ m. Ok (space ++ m ∷ [])))) e
-    ∙ ap (λ xs. Ok xs) (sym (ap piece_values g ∙ (piece_values-append mid (p ∷ []) ∙ (ap (λ x. x ++ piece_value p ∷ []) f ∙ append_assoc (piece_values old) space (piece_value p ∷ [])))))

@@ -1,13 +1,13 @@
 -- The clean box of a character is the row of its glyph and of a kern of its italic correction, packed (`clean_glyph_is`).
 use Rattle.std.proofs.Common.{◌≡◌, ℕ, ℤ, pos, ◌+ℤ◌, List, [], ◌∷◌, Bool, true, false, refl, sym, ap, subst, ◌∙◌, arith}
-use Rattle.std.specs.Prelude.{None, Result, Ok, Err, ⊤, if◌then◌else◌}
+use Rattle.std.specs.Prelude.{None, Ok, Err, ⊤, if◌then◌else◌}
 use Rattle.std.specs.Ordering.{int_eq}
 use Rattle.std.proofs.lemmas.Int.{ints}
 use Rattle.std.proofs.lemmas.Bool.Decides.{Decides-int_eq}
 use Rattle.mt_tfm.specs.Font.{Metrics, italic_of}
 use Rattle.mt_box.specs.Boxes.{clean_row}
 use Rattle.mt_box.specs.Extents.{ExtentsInRange, first_out}
-use Rattle.mt_box.specs.Layout.{BoxValue, Layout}
+use Rattle.mt_box.specs.Layout.{Layout}
 use Rattle.mt_box.specs.Rows.{PieceValue, PieceGlyph, PieceKern, pack}
 use Rattle.mt_box.specs.declared.extents.Extents.{Extents}
 use Rattle.mt_box.proofs.Equalities.{extents_eq, layout_eq}
@@ -15,8 +15,6 @@ use Rattle.mt_rules.specs.Setting.{Setting, ◌>>=◌, ◌>>◌, make_row, pack_
 use Rattle.mt_rules.specs.Symbols.{extents_without_italic}
 use Rattle.mt_rules.specs.Nuclei.{Nucleus, make_clean, nucleus_with_italic}
 use Rattle.mt_rules.proofs.Answering.{first_out-none}
-use Rattle.mt_convert.specs.declared.fault.SetFault.{SetFault}
-use Rattle.mt_convert.specs.inner.Answers.{SetsBox}
 use Rattle.mt_convert.specs.inner.Glyphs.{clean_glyph}
 
 -- the same test again
@@ -59,10 +57,10 @@ pub clean_glyph_is : (font : ℕ) (m : Metrics) (c : ℕ) → first_out (extents
     → clean_glyph font m c ≡ pack_row (PieceGlyph font c (extents_without_italic m c) ∷ PieceKern (italic_of m c) ∷ [])
 clean_glyph_is font m c e = rw e (by_italic (int_eq (italic_of m c) (pos 0)) font c (extents_without_italic m c) (italic_of m c) refl)
 
--- the box that a call packs is the clean box
-pub clean_glyph_by : (font : ℕ) (m : Metrics) (c : ℕ) (e : Extents) (k : ℤ) (r : Result BoxValue SetFault) → ExtentsInRange e → e ≡ extents_without_italic m c → k ≡ italic_of m c
-    → SetsBox r (pack_row (PieceGlyph font c e ∷ PieceKern k ∷ [])) → SetsBox r (clean_glyph font m c)
-clean_glyph_by font m c e k r in_range same italic h =
-    let packed = subst (λ z. SetsBox r (pack_row (PieceGlyph font c e ∷ PieceKern z ∷ []))) italic h in
-    subst (λ s. SetsBox r s) (sym (clean_glyph_is font m c (subst (λ x. first_out x ≡ None) same (first_out-none e in_range))))
-    (subst (λ x. SetsBox r (pack_row (PieceGlyph font c x ∷ PieceKern (italic_of m c) ∷ []))) same packed)
+-- what holds of the box that a call packs holds of the clean box
+pub clean_glyph_by : (P : Setting Layout → Type 0) (font : ℕ) (m : Metrics) (c : ℕ) (e : Extents) (k : ℤ) → ExtentsInRange e → e ≡ extents_without_italic m c → k ≡ italic_of m c
+    → P (pack_row (PieceGlyph font c e ∷ PieceKern k ∷ [])) → P (clean_glyph font m c)
+clean_glyph_by P font m c e k in_range same italic h =
+    let packed = subst (λ z. P (pack_row (PieceGlyph font c e ∷ PieceKern z ∷ []))) italic h in
+    subst P (sym (clean_glyph_is font m c (subst (λ x. first_out x ≡ None) same (first_out-none e in_range))))
+    (subst (λ x. P (pack_row (PieceGlyph font c x ∷ PieceKern (italic_of m c) ∷ []))) same packed)

@@ -15,10 +15,9 @@ use Rattle.mt_convert.specs.declared.flat.current.Current.{Current}
 use Rattle.mt_rules.specs.MathUnits.{in_points}
 use Rattle.mt_convert.specs.FirstPass.{make_kern, make_space, set_item, glue_in_points}
 use Rattle.mt_convert.specs.Halves.{HalfValue, HalfAtom, HalfKern, HalfSpace, class_to_left, class_to_right}
-use Rattle.mt_convert.specs.Halfway.{half_values}
 use Rattle.mt_convert.specs.inner.Fields.{atom_content, fraction_content}
-use Rattle.mt_convert.specs.inner.Lengths.{kern_halves}
 use Rattle.mt_convert.specs.inner.Settling.{CanFollow, AllCanFollow}
+use Rattle.mt_convert.proofs.InOrder.{kern_values}
 use Rattle.mt_convert.specs.inner.Turns.{PassedElement, PassedAtom, PassedFraction, PassedLeft, PassedMiddle, PassedRight, PassedStyle, PassedMuSpace, PassedSpace, PassedMuKern, PassedKern, flat_item, class_after_passed}
 
 -- the class that the last atom of these items counts as, or else that of the atom before them
@@ -103,17 +102,17 @@ item_follows fonts current (PassedKern amount) h e = follows_kern current.last a
 
 -- ---- with the kern after it
 
-kern_follows : (last : Option Class) (kern : Option ℤ) → AllCanFollow last (half_values (kern_halves kern))
+kern_follows : (last : Option Class) (kern : Option ℤ) → AllCanFollow last (kern_values kern)
 kern_follows last None = tt
 kern_follows last (Some amount) = (follow_none last, tt)
 
-last_kern : (last : Option Class) (kern : Option ℤ) → last_right (half_values (kern_halves kern)) last ≡ last
+last_kern : (last : Option Class) (kern : Option ℤ) → last_right (kern_values kern) last ≡ last
 last_kern last None = refl
 last_kern last (Some amount) = refl
 
-pub follow_step : (last next : Option Class) (hs : List HalfValue) (h : HalfValue) (kern : Option ℤ) → FollowSoFar last hs → FollowsNext last next h → FollowSoFar next (hs ++ h ∷ half_values (kern_halves kern))
+pub follow_step : (last next : Option Class) (hs : List HalfValue) (h : HalfValue) (kern : Option ℤ) → FollowSoFar last hs → FollowsNext last next h → FollowSoFar next (hs ++ h ∷ kern_values kern)
 follow_step last next hs h kern f n =
-    let ks = half_values (kern_halves kern) in
+    let ks = kern_values kern in
     record {
       follow = follow_append hs (h ∷ ks) None f.follow (subst (λ l. AllCanFollow l (h ∷ ks)) f.last_is (n.follow, kern_follows (option_or (class_to_right h) last) kern));
       last_is =

@@ -1,29 +1,34 @@
 -- How far the first pass has set a list (`Going`).
-use Rattle.std.proofs.Common.{◌≡◌, ℕ, zero, suc, ◌<◌, ◌≤◌, ◌+◌, ◌*◌, ◌^◌, ◌≤ℤ◌, ℤ, pos, List, [], ◌∷◌, ◌++◌, length, ap, sym, ◌∙◌, refl, arith, subst, length-append, Option, Some, None, Bool, true, false, if◌then◌else◌}
+use Rattle.std.proofs.Common.{◌≡◌, ℕ, zero, suc, ◌<◌, ◌≤◌, ◌+◌, ◌*◌, ◌^◌, ◌≤ℤ◌, ℤ, pos, List, [], ◌∷◌, ◌++◌, length, drop, ap, sym, ◌∙◌, refl, arith, subst, append_assoc, length-append, Option, Some, None, Bool, true, false, if◌then◌else◌}
 use Rattle.std.proofs.lemmas.Int.{ints, clamps}
+use Rattle.std.proofs.lemmas.List.{nil_from_length, take_all}
 use Rattle.std.specs.Prelude.{Ok, Err, ⊤}
 use Rattle.std.specs.Int.{int_max}
 use Rattle.mt_scaled.specs.Number.{Within, is_in_range, max_dimen}
+use Rattle.mt_box.specs.Rows.{PieceValue, row_height, row_depth}
 use Rattle.mt_family.specs.SetValue.{SetValue}
 use Rattle.mt_rules.specs.declared.style.Style.{Style}
 use Rattle.mt_rules.specs.Facts.{IsMathList}
-use Rattle.mt_rules.specs.Modest.{IsModestList, list_items, element_items, list_nesting, element_nesting, ListAmounts}
+use Rattle.mt_rules.specs.Modest.{IsModestList, list_items, element_items, list_nesting, ListAmounts}
 use Rattle.mt_rules.specs.Sequence.{Sequence, Element, End, More, AtomElement, FractionElement, LeftElement, MiddleElement, RightElement, StyleElement, ChoiceElement, MuSpaceElement, SpaceElement, MuKernElement, KernElement, NonscriptElement, sequence_size, element_size}
 use Rattle.mt_rules.specs.Setting.{Setting, Overflow, ◌>>=◌, test_value}
 use Rattle.mt_rules.proofs.Answering.{in_range}
 use Rattle.mt_convert.specs.declared.flat.current.Current.{Current}
 use Rattle.mt_convert.specs.declared.fault.SetFault.{SetFault}
-use Rattle.mt_convert.specs.declared.half.Half.{Half}
-use Rattle.mt_convert.specs.declared.half.Half.TheVariants as half
+use Rattle.mt_convert.specs.declared.placed.PlacedHalf.{PlacedHalf}
+use Rattle.mt_convert.specs.declared.placed.PlacedHalf.TheVariants as placed
+use Rattle.mt_convert.specs.declared.placed.PlacedHalves.{PlacedHalves}
+use Rattle.mt_convert.specs.declared.set.settle.Reach.{Reach}
 use Rattle.mt_convert.specs.declared.flat.passed.Passed.{Passed as CodePassed}
 use Rattle.mt_convert.specs.Calls.{SetFails}
 use Rattle.mt_convert.specs.Current.{opening}
 use Rattle.mt_convert.specs.FirstPass.{set_item, set_items, first_pass_of}
 use Rattle.mt_convert.specs.Flat.{flat, flat_by, current_after_items}
-use Rattle.mt_convert.specs.Halves.{HalfValue, Halves, half_height, half_depth, greatest_height, greatest_depth, settle}
-use Rattle.mt_convert.specs.Halfway.{half_value, half_values, HalfFits, HalvesFit, count_of, total_of}
+use Rattle.mt_convert.specs.Halves.{HalfValue, half_height, half_depth, greatest_height, greatest_depth, settle}
 use Rattle.mt_convert.specs.ListRow.{items_of, halves_of}
-use Rattle.mt_convert.specs.inner.Answers.{HalfReachInRange}
+use Rattle.mt_convert.specs.inner.OnPieces.{HalfOn}
+use Rattle.mt_convert.specs.inner.Placed.{AllPlacedFit, HalvesOn, PlacedFits, placed_count, placed_length, placed_value, placed_values}
+use Rattle.mt_convert.specs.inner.Settling.{CanFinish, Finishes}
 use Rattle.mt_convert.specs.inner.Appending.{appended_to}
 use Rattle.mt_convert.specs.inner.Boundaries.{Remains, RestOfList, TurnLeaves}
 use Rattle.mt_convert.specs.inner.Lengths.{kern_halves, test_kern}
@@ -31,41 +36,53 @@ use Rattle.mt_convert.specs.inner.Modest.{IsModestElement}
 use Rattle.mt_convert.specs.inner.Turns.{PassedElement, ListTurn, PassesOne, RewritesTo, element_of_passed, passed_value, turn_of, turned, turn_meaning, flat_item, flat_items, current_after_passed, kern_of}
 use Rattle.mt_convert.proofs.Appending.{appended_nil, appended_end, fails_on}
 use Rattle.mt_convert.proofs.Following.{FollowSoFar, follow_start, follow_step, item_follows}
-use Rattle.mt_convert.proofs.InOrder.{items_set, items_fail, item_err, kern_err, half_values-append}
+use Rattle.mt_convert.proofs.InOrder.{items_set, items_fail, item_err, kern_err, kern_values}
 use Rattle.mt_convert.proofs.Remaining.{remains_start, remains_again, remains_pass, remains_end}
-use Rattle.mt_convert.proofs.Settling.{Settles}
+use Rattle.mt_convert.proofs.Settling.{height_low, depth_low}
+use Rattle.mt_convert.proofs.Behind.{nil_right, row_behind}
+use Rattle.mt_convert.proofs.PlacedValues.{count_append, fits_append, values_append}
 use Rattle.mt_convert.proofs.Turning.{positive, element_positive, TurnKeeps, turn_keeps, same_turn, same_current}
 
 -- The items of the whole list are those so far, and then those of the rest. An item makes at most itself and a kern, and at most 4 pieces.
-pub record Going (fonts : SetValue) (first : Style) (whole : Sequence) (current : Current) (rest : Sequence) (halves : List Half) : Type 0 where
+pub record Going (fonts : SetValue) (first : Style) (whole : Sequence) (current : Current) (rest : Sequence) (items : List PlacedHalf) (reach : Reach) (old new : List PieceValue) : Type 0 where
+  pub row : List PieceValue
+  pub stays : new ≡ old ++ row
+  pub count : placed_count items ≡ length row
   pub turns : ℕ
   pub enough : sequence_size rest ≤ turns
-  pub whole_is : set_items fonts (opening first) (flat fonts (sequence_size whole) (opening first) (items_of fonts whole)) ≡ appended_to (half_values halves) (set_items fonts current (flat fonts turns current (items_of fonts rest)))
+  pub whole_is : set_items fonts (opening first) (flat fonts (sequence_size whole) (opening first) (items_of fonts whole)) ≡ appended_to (placed_values items row) (set_items fonts current (flat fonts turns current (items_of fonts rest)))
   pub size : sequence_size rest ≤ sequence_size whole
-  pub items : length halves + 2 * list_items rest ≤ 2 * list_items whole
-  pub total : total_of halves + 4 * list_items rest ≤ 4 * list_items whole
+  pub items_few : length items + 2 * list_items rest ≤ 2 * list_items whole
+  pub total : length row + 4 * list_items rest ≤ 4 * list_items whole
   pub nesting : list_nesting rest ≤ list_nesting whole
   pub amounts : ListAmounts rest
-  pub fits : HalvesFit (12 * list_nesting whole) halves
-  pub height : greatest_height (half_values halves) ≤ℤ pos max_dimen
-  pub depth : greatest_depth (half_values halves) ≤ℤ pos max_dimen
-  pub follow : FollowSoFar current.last (half_values halves)
-  pub remains : Remains (half_values halves) rest
+  pub fits : AllPlacedFit items
+  pub height_is : reach.height.sp ≡ greatest_height (placed_values items row)
+  pub depth_is : reach.depth.sp ≡ greatest_depth (placed_values items row)
+  pub height : reach.height.sp ≤ℤ pos max_dimen
+  pub depth : reach.depth.sp ≤ℤ pos max_dimen
+  pub follow : FollowSoFar current.last (placed_values items row)
+  pub remains : Remains (placed_values items row) rest
   pub modest : IsModestList whole
 
-pub going_start : (fonts : SetValue) (style : Style) (whole : Sequence) (current : Current) (rest : Sequence) (halves : List Half) → IsModestList whole → IsMathList whole → current ≡ opening style → rest ≡ whole → halves ≡ [] → Going fonts style whole current rest halves
-going_start fonts style whole current rest halves m i c e f = rw (c, e, f) (record {
+pub going_start : (fonts : SetValue) (style : Style) (whole : Sequence) (current : Current) (rest : Sequence) (items : List PlacedHalf) (reach : Reach) (old : List PieceValue) → IsModestList whole → IsMathList whole → current ≡ opening style → rest ≡ whole → items ≡ [] → reach.height.sp ≡ pos 0 → reach.depth.sp ≡ pos 0 → Going fonts style whole current rest items reach old old
+going_start fonts style whole current rest items reach old m i c e f h d = rw (c, e, f) (record {
+  row = [];
+  stays = nil_right old;
+  count = refl;
   turns = sequence_size whole;
   enough = omega arith;
   whole_is = sym (appended_nil _);
   size = omega arith;
-  items = omega arith;
+  items_few = omega arith;
   total = omega arith;
   nesting = omega arith;
   amounts = m.amounts;
   fits = tt;
-  height = omega (arith, ints);
-  depth = omega (arith, ints);
+  height_is = h;
+  depth_is = d;
+  height = omega (arith, ints, h);
+  depth = omega (arith, ints, d);
   follow = follow_start;
   remains = remains_start whole i;
   modest = m;
@@ -84,30 +101,36 @@ turns_left fonts current f s (suc t) h = record { left = t; is = refl; first_tur
 
 -- ---- the front was rewritten
 
-going_rewritten : (fonts : SetValue) (first : Style) (whole : Sequence) (current : Current) (f : Element) (s : Sequence) (halves : List Half) (rest' : Sequence) → Going fonts first whole current (More f s) halves → turn_of fonts current f s ≡ RewritesTo rest' → ((enclosed : Bool) → RestOfList enclosed (More f s) → RestOfList enclosed rest') → Going fonts first whole current rest' halves
-going_rewritten fonts first whole current f s halves rest' g e l =
+going_rewritten : (fonts : SetValue) (first : Style) (whole : Sequence) (current : Current) (f : Element) (s : Sequence) (items : List PlacedHalf) (reach : Reach) (old new : List PieceValue) (rest' : Sequence) → Going fonts first whole current (More f s) items reach old new → turn_of fonts current f s ≡ RewritesTo rest' → ((enclosed : Bool) → RestOfList enclosed (More f s) → RestOfList enclosed rest') → Going fonts first whole current rest' items reach old new
+going_rewritten fonts first whole current f s items reach old new rest' g e l =
     let k : TurnKeeps f s (RewritesTo rest') = subst (TurnKeeps f s) e (turn_keeps fonts current f s) in
     let t = turns_left fonts current f s g.turns g.enough in
+    let done = placed_values items g.row in
     record {
+      row = g.row;
+      stays = g.stays;
+      count = g.count;
       turns = t.left;
       enough = omega (arith, g.enough, t.is, k.size);
-      whole_is = g.whole_is ∙ ap (λ xs. appended_to (half_values halves) (set_items fonts current xs)) (t.first_turn ∙ ap (λ u. flat_by (flat fonts t.left) current (turn_meaning fonts u)) e);
+      whole_is = g.whole_is ∙ ap (λ xs. appended_to done (set_items fonts current xs)) (t.first_turn ∙ ap (λ u. flat_by (flat fonts t.left) current (turn_meaning fonts u)) e);
       size = omega (arith, g.size, k.size);
-      items = omega (arith, g.items, k.items);
+      items_few = omega (arith, g.items_few, k.items);
       total = omega (arith, g.total, k.items);
       nesting = omega (arith, g.nesting, k.nesting);
       amounts = k.amounts g.amounts.0 g.amounts.1;
       fits = g.fits;
+      height_is = g.height_is;
+      depth_is = g.depth_is;
       height = g.height;
       depth = g.depth;
       follow = g.follow;
-      remains = remains_again fonts current (half_values halves) f s rest' g.remains (sym e) l;
+      remains = remains_again fonts current done f s rest' g.remains (sym e) l;
       modest = g.modest;
     }
 
-pub going_again : (fonts : SetValue) (first : Style) (whole : Sequence) (current : Current) (rest : Sequence) (halves : List Half) (f : Element) (s rest' : Sequence) → Going fonts first whole current rest halves → rest ≡ More f s → RewritesTo rest' ≡ turn_of fonts current f s → ((enclosed : Bool) → RestOfList enclosed (More f s) → RestOfList enclosed rest') → Going fonts first whole current rest' halves
-going_again fonts first whole current rest halves f s rest' g e u l =
-    going_rewritten fonts first whole current f s halves rest' (subst (λ r. Going fonts first whole current r halves) e g) (sym u) l
+pub going_again : (fonts : SetValue) (first : Style) (whole : Sequence) (current : Current) (rest : Sequence) (items : List PlacedHalf) (reach : Reach) (old new : List PieceValue) (f : Element) (s rest' : Sequence) → Going fonts first whole current rest items reach old new → rest ≡ More f s → RewritesTo rest' ≡ turn_of fonts current f s → ((enclosed : Bool) → RestOfList enclosed (More f s) → RestOfList enclosed rest') → Going fonts first whole current rest' items reach old new
+going_again fonts first whole current rest items reach old new f s rest' g e u l =
+    going_rewritten fonts first whole current f s items reach old new rest' (subst (λ r. Going fonts first whole current r items reach old new) e g) (sym u) l
 
 again_smaller : (fonts : SetValue) (current : Current) (f : Element) (s rest' : Sequence) → RewritesTo rest' ≡ turn_of fonts current f s → sequence_size rest' < sequence_size (More f s)
 again_smaller fonts current f s rest' u =
@@ -125,22 +148,22 @@ pub record NextFits (whole : Sequence) (e : Element) (rest rest' : Sequence) : T
   pub smaller : element_size e < sequence_size whole
   pub falls : sequence_size rest' < sequence_size rest
 
-next_of : (fonts : SetValue) (first : Style) (whole : Sequence) (current : Current) (f : Element) (s : Sequence) (halves : List Half) (p : PassedElement) (rest' : Sequence) → Going fonts first whole current (More f s) halves → PassesOne p rest' ≡ turn_of fonts current f s → NextFits whole (element_of_passed p) (More f s) rest'
-next_of fonts first whole current f s halves p rest' g u =
+next_of : (fonts : SetValue) (first : Style) (whole : Sequence) (current : Current) (f : Element) (s : Sequence) (items : List PlacedHalf) (reach : Reach) (old new : List PieceValue) (p : PassedElement) (rest' : Sequence) → Going fonts first whole current (More f s) items reach old new → PassesOne p rest' ≡ turn_of fonts current f s → NextFits whole (element_of_passed p) (More f s) rest'
+next_of fonts first whole current f s items reach old new p rest' g u =
     let k : TurnKeeps f s (PassesOne p rest') = subst (TurnKeeps f s) (sym u) (turn_keeps fonts current f s) in
     record {
       modest = record {
         nesting = omega (arith, g.nesting, g.modest.nesting, k.nesting);
-        items = omega (arith, g.items, g.modest.items, k.items);
+        items = omega (arith, g.items_few, g.modest.items, k.items);
         amounts = (k.amounts g.amounts.0 g.amounts.1).0;
       };
       smaller = omega (arith, g.size, k.size, positive rest');
       falls = omega (arith, k.size, element_positive (element_of_passed p));
     }
 
-pub next_fits : (fonts : SetValue) (first : Style) (whole : Sequence) (current : Current) (rest : Sequence) (halves : List Half) (f : Element) (s : Sequence) (p : PassedElement) (rest' : Sequence) → Going fonts first whole current rest halves → rest ≡ More f s → PassesOne p rest' ≡ turn_of fonts current f s → NextFits whole (element_of_passed p) rest rest'
-next_fits fonts first whole current rest halves f s p rest' g is u =
-    subst (λ r. NextFits whole (element_of_passed p) r rest') (sym is) (next_of fonts first whole current f s halves p rest' (subst (λ r. Going fonts first whole current r halves) is g) u)
+pub next_fits : (fonts : SetValue) (first : Style) (whole : Sequence) (current : Current) (rest : Sequence) (items : List PlacedHalf) (reach : Reach) (old new : List PieceValue) (f : Element) (s : Sequence) (p : PassedElement) (rest' : Sequence) → Going fonts first whole current rest items reach old new → rest ≡ More f s → PassesOne p rest' ≡ turn_of fonts current f s → NextFits whole (element_of_passed p) rest rest'
+next_fits fonts first whole current rest items reach old new f s p rest' g is u =
+    subst (λ r. NextFits whole (element_of_passed p) r rest') (sym is) (next_of fonts first whole current f s items reach old new p rest' (subst (λ r. Going fonts first whole current r items reach old new) is g) u)
 
 -- ---- what is put after the items so far
 
@@ -158,42 +181,50 @@ items_positive (MuKernElement amount) = omega arith
 items_positive (KernElement amount) = omega arith
 items_positive NonscriptElement = omega arith
 
-total_append : (hs ks : List Half) → total_of (hs ++ ks) ≡ total_of hs + total_of ks
-total_append [] ks = omega arith
-total_append (h ∷ hs) ks = omega (arith, total_append hs ks)
-
-all_fit_append : (n : ℕ) (hs ks : List Half) → HalvesFit n hs → HalvesFit n ks → HalvesFit n (hs ++ ks)
-all_fit_append n [] ks a b = b
-all_fit_append n (h ∷ hs) ks a b = (a.0, all_fit_append n hs ks a.1 b)
-
-left_low : (a b n : ℤ) → int_max a b ≤ℤ n → a ≤ℤ n
-left_low a b n h = omega (arith, ints, clamps, h)
-
-right_low : (a b n : ℤ) → int_max a b ≤ℤ n → b ≤ℤ n
-right_low a b n h = omega (arith, ints, clamps, h)
-
 both_low : (a b n : ℤ) → a ≤ℤ n → b ≤ℤ n → int_max a b ≤ℤ n
 both_low a b n h k = omega (arith, ints, clamps, h, k)
 
-height_append : (n : ℤ) (hs ks : List HalfValue) → greatest_height hs ≤ℤ n → greatest_height ks ≤ℤ n → greatest_height (hs ++ ks) ≤ℤ n
-height_append n [] ks a b = b
-height_append n (h ∷ hs) ks a b =
-    both_low (half_height h) (greatest_height (hs ++ ks)) n (left_low (half_height h) (greatest_height hs) n a)
-    (height_append n hs ks (right_low (half_height h) (greatest_height hs) n a) b)
+max_joined : (a b c : ℤ) → int_max a (int_max b c) ≡ int_max (int_max a b) c
+max_joined a b c = omega (arith, ints, clamps)
 
-depth_append : (n : ℤ) (hs ks : List HalfValue) → greatest_depth hs ≤ℤ n → greatest_depth ks ≤ℤ n → greatest_depth (hs ++ ks) ≤ℤ n
-depth_append n [] ks a b = b
-depth_append n (h ∷ hs) ks a b =
-    both_low (half_depth h) (greatest_depth (hs ++ ks)) n (left_low (half_depth h) (greatest_depth hs) n a)
-    (depth_append n hs ks (right_low (half_depth h) (greatest_depth hs) n a) b)
+-- the greatest of an item after those so far
+with_last : (best now next : ℤ) → pos 0 ≤ℤ best → now ≡ int_max best next → now ≡ int_max best (int_max next (pos 0))
+with_last best now next low e = omega (arith, ints, clamps, low, e)
 
--- an item with the kern after it
-record Pushes (n : ℕ) (hs : List Half) : Type 0 where
-  pub count : length hs ≤ 2
-  pub total : total_of hs ≤ 4
-  pub fits : HalvesFit n hs
-  pub height : greatest_height (half_values hs) ≤ℤ pos max_dimen
-  pub depth : greatest_depth (half_values hs) ≤ℤ pos max_dimen
+height_append : (hs ks : List HalfValue) → greatest_height (hs ++ ks) ≡ int_max (greatest_height hs) (greatest_height ks)
+height_append [] ks = let low = height_low ks in omega (arith, ints, clamps, low)
+height_append (h ∷ hs) ks = ap (int_max (half_height h)) (height_append hs ks) ∙ max_joined (half_height h) (greatest_height hs) (greatest_height ks)
+
+depth_append : (hs ks : List HalfValue) → greatest_depth (hs ++ ks) ≡ int_max (greatest_depth hs) (greatest_depth ks)
+depth_append [] ks = let low = depth_low ks in omega (arith, ints, clamps, low)
+depth_append (h ∷ hs) ks = ap (int_max (half_depth h)) (depth_append hs ks) ∙ max_joined (half_depth h) (greatest_depth hs) (greatest_depth ks)
+
+kern_height : (kern : Option ℤ) → greatest_height (kern_values kern) ≡ pos 0
+kern_height None = refl
+kern_height (Some k) = omega (arith, ints, clamps)
+
+kern_depth : (kern : Option ℤ) → greatest_depth (kern_values kern) ≡ pos 0
+kern_depth None = refl
+kern_depth (Some k) = omega (arith, ints, clamps)
+
+-- the row of the pieces that were put for an item reaches as far as the item
+piece_height : (h : PlacedHalf) (row : List PieceValue) → placed_length h ≡ length row → half_height (placed_value h row) ≡ row_height row
+piece_height (placed.Set class count) row e = ap row_height (take_all count row (omega (arith, e)))
+piece_height (placed.Left delim) row e = ap row_height (sym (nil_from_length row (sym e)))
+piece_height (placed.Middle delim) row e = ap row_height (sym (nil_from_length row (sym e)))
+piece_height (placed.Right delim) row e = ap row_height (sym (nil_from_length row (sym e)))
+piece_height (placed.Style style) row e = ap row_height (sym (nil_from_length row (sym e)))
+piece_height (placed.Kern k) row e = ap row_height (sym (nil_from_length row (sym e)))
+piece_height (placed.Space glue) row e = ap row_height (sym (nil_from_length row (sym e)))
+
+piece_depth : (h : PlacedHalf) (row : List PieceValue) → placed_length h ≡ length row → half_depth (placed_value h row) ≡ row_depth row
+piece_depth (placed.Set class count) row e = ap row_depth (take_all count row (omega (arith, e)))
+piece_depth (placed.Left delim) row e = ap row_depth (sym (nil_from_length row (sym e)))
+piece_depth (placed.Middle delim) row e = ap row_depth (sym (nil_from_length row (sym e)))
+piece_depth (placed.Right delim) row e = ap row_depth (sym (nil_from_length row (sym e)))
+piece_depth (placed.Style style) row e = ap row_depth (sym (nil_from_length row (sym e)))
+piece_depth (placed.Kern k) row e = ap row_depth (sym (nil_from_length row (sym e)))
+piece_depth (placed.Space glue) row e = ap row_depth (sym (nil_from_length row (sym e)))
 
 wide : (x : ℤ) → Within max_dimen x → Within (2 ^ 40) x
 wide x h = record { low = omega (arith, ints, h.low); high = omega (arith, ints, h.high) }
@@ -205,92 +236,109 @@ test_passes false x e = absurd (cc)
 kern_fits : (x : ℤ) → test_value x ≡ Ok tt → Within (2 ^ 40) x
 kern_fits x e = wide x (in_range x (test_passes (is_in_range x) x e))
 
-pushes : (n : ℕ) (h : Half) (kern : Option ℤ) → HalfFits n h → count_of h ≤ 4 → HalfReachInRange h → test_kern kern ≡ Ok tt → Pushes n (h ∷ kern_halves kern)
-pushes n h None fits few reach e = record {
-  count = omega arith;
-  total = omega (arith, few);
-  fits = (fits, tt);
-  height = both_low (half_height (half_value h)) (pos 0) (pos max_dimen) reach.height (omega (arith, ints));
-  depth = both_low (half_depth (half_value h)) (pos 0) (pos max_dimen) reach.depth (omega (arith, ints));
-}
-pushes n h (Some k) fits few reach e = record {
-  count = omega arith;
-  total = omega (arith, few);
-  fits = (fits, (kern_fits k e, tt));
-  height = both_low (half_height (half_value h)) (int_max (pos 0) (pos 0)) (pos max_dimen) reach.height (omega (arith, ints, clamps));
-  depth = both_low (half_depth (half_value h)) (int_max (pos 0) (pos 0)) (pos max_dimen) reach.depth (omega (arith, ints, clamps));
-}
+-- an item with the kern after it
+record Pushes (hs : List PlacedHalf) (h : PlacedHalf) (kern : Option ℤ) (row : List PieceValue) : Type 0 where
+  pub count : length hs ≤ 2
+  pub total : placed_count hs ≡ length row
+  pub fits : AllPlacedFit hs
+  pub are : placed_values hs row ≡ placed_value h row ∷ kern_values kern
 
-half_fits_more : (m n : ℕ) (h : Half) → m ≤ n → HalfFits m h → HalfFits n h
-half_fits_more m n (half.Set class row) le k = record { measurable = k.measurable; level = omega (arith, k.level, le) }
-half_fits_more m n (half.Left delim) le k = k
-half_fits_more m n (half.Middle delim) le k = k
-half_fits_more m n (half.Right delim) le k = k
-half_fits_more m n (half.Style style) le k = k
-half_fits_more m n (half.Kern amount) le k = k
-half_fits_more m n (half.Space glue) le k = k
+pushes : (h : PlacedHalf) (kern : Option ℤ) (row : List PieceValue) → PlacedFits h → placed_length h ≡ length row → test_kern kern ≡ Ok tt → Pushes (h ∷ kern_halves kern) h kern row
+pushes h None row fits e t = record { count = omega arith; total = omega (arith, e); fits = (fits, tt); are = refl }
+pushes h (Some k) row fits e t = record { count = omega arith; total = omega (arith, e); fits = (fits, (kern_fits k t, tt)); are = refl }
 
 -- an item that was set, and the kern after it
-pub record WasSet (fonts : SetValue) (current : Current) (p : PassedElement) (h : Half) (between : Option ℤ) : Type 0 where
-  pub is : set_item fonts current (flat_item fonts p) ≡ Ok (half_value h)
+pub record WasSet (fonts : SetValue) (current : Current) (p : PassedElement) (h : PlacedHalf) (between : Option ℤ) (old new : List PieceValue) : Type 0 where
+  pub half : HalfOn h old new (set_item fonts current (flat_item fonts p))
   pub kern : test_kern between ≡ Ok tt
-  pub fits : HalfFits (12 * element_nesting (element_of_passed p)) h
-  pub few : count_of h ≤ 4
-  pub reach : HalfReachInRange h
 
-going_set : (fonts : SetValue) (first : Style) (whole : Sequence) (current : Current) (f : Element) (s : Sequence) (halves : List Half) (p : PassedElement) (rest' : Sequence) (h : Half) → Going fonts first whole current (More f s) halves → PassesOne p rest' ≡ turn_of fonts current f s → ((enclosed : Bool) → RestOfList enclosed (More f s) → RestOfList enclosed (More (element_of_passed p) rest')) → WasSet fonts current p h (kern_of p) → Going fonts first whole (current_after_passed current p) rest' (halves ++ h ∷ kern_halves (kern_of p))
-going_set fonts first whole current f s halves p rest' h g u l w =
+-- how far the atoms reach by now
+pub record ReachesOn (reach reach' : Reach) (old new : List PieceValue) : Type 0 where
+  pub height : reach'.height.sp ≡ int_max reach.height.sp (row_height (drop (length old) new))
+  pub depth : reach'.depth.sp ≡ int_max reach.depth.sp (row_depth (drop (length old) new))
+
+pub reaches_on : (first : ℕ) (reach reach' : Reach) (old new : List PieceValue) → first ≡ length old → reach'.height.sp ≡ int_max reach.height.sp (row_height (drop first new)) → reach'.depth.sp ≡ int_max reach.depth.sp (row_depth (drop first new)) → ReachesOn reach reach' old new
+reaches_on first reach reach' old new e h d = record {
+  height = subst (λ n. reach'.height.sp ≡ int_max reach.height.sp (row_height (drop n new))) e h;
+  depth = subst (λ n. reach'.depth.sp ≡ int_max reach.depth.sp (row_depth (drop n new))) e d;
+}
+
+going_set : (fonts : SetValue) (first : Style) (whole : Sequence) (current : Current) (f : Element) (s : Sequence) (items : List PlacedHalf) (reach reach' : Reach) (old mid new : List PieceValue) (p : PassedElement) (rest' : Sequence) (h : PlacedHalf) → Going fonts first whole current (More f s) items reach old mid → PassesOne p rest' ≡ turn_of fonts current f s → ((enclosed : Bool) → RestOfList enclosed (More f s) → RestOfList enclosed (More (element_of_passed p) rest')) → WasSet fonts current p h (kern_of p) mid new → ReachesOn reach reach' mid new → Going fonts first whole (current_after_passed current p) rest' (items ++ h ∷ kern_halves (kern_of p)) reach' old new
+going_set fonts first whole current f s items reach reach' old mid new p rest' h g u l w r =
     let k : TurnKeeps f s (PassesOne p rest') = subst (TurnKeeps f s) (sym u) (turn_keeps fonts current f s) in
     let t = turns_left fonts current f s g.turns g.enough in
-    let n : ℕ = 12 * list_nesting whole in
-    let le : 12 * element_nesting (element_of_passed p) ≤ n = omega (arith, g.nesting, k.nesting) in
-    let next : List Half = h ∷ kern_halves (kern_of p) in
-    let a = pushes n h (kern_of p) (half_fits_more _ n h le w.fits) w.few w.reach w.kern in
-    let now = half_values-append halves next in
+    let done = placed_values items g.row in
+    let more = w.half.row in
+    let value = placed_value h more in
+    let next : List PlacedHalf = h ∷ kern_halves (kern_of p) in
+    let a = pushes h (kern_of p) more w.half.fits w.half.count w.kern in
+    let now : placed_values (items ++ next) (g.row ++ more) ≡ done ++ value ∷ kern_values (kern_of p) =
+    values_append items next g.row more g.count ∙ ap (λ xs. done ++ xs) a.are in
+    let behind : drop (length mid) new ≡ more = row_behind (length mid) mid more new refl w.half.stays in
+    let high : reach'.height.sp ≡ int_max reach.height.sp (half_height value) =
+    r.height ∙ ap (int_max reach.height.sp) (ap row_height behind ∙ sym (piece_height h more w.half.count)) in
+    let deep : reach'.depth.sp ≡ int_max reach.depth.sp (half_depth value) =
+    r.depth ∙ ap (int_max reach.depth.sp) (ap row_depth behind ∙ sym (piece_depth h more w.half.count)) in
+    let low_height : pos 0 ≤ℤ reach.height.sp = subst (λ x. pos 0 ≤ℤ x) (sym g.height_is) (height_low done) in
+    let low_depth : pos 0 ≤ℤ reach.depth.sp = subst (λ x. pos 0 ≤ℤ x) (sym g.depth_is) (depth_low done) in
     record {
+      row = g.row ++ more;
+      stays = w.half.stays ∙ (ap (λ x. x ++ more) g.stays ∙ append_assoc old g.row more);
+      count = omega (arith, count_append items next, g.count, a.total, length-append g.row more);
       turns = t.left;
       enough = omega (arith, g.enough, t.is, k.size, element_positive (element_of_passed p));
       whole_is =
           g.whole_is
-          ∙ (ap (λ xs. appended_to (half_values halves) (set_items fonts current xs)) (t.first_turn ∙ ap (λ v. flat_by (flat fonts t.left) current (turn_meaning fonts v)) (sym u))
-          ∙ (items_set fonts current halves p h (flat fonts t.left (current_after_items current (flat_items fonts p)) (items_of fonts rest')) w.is w.kern
-          ∙ ap (λ x. appended_to (half_values (halves ++ next)) (set_items fonts x (flat fonts t.left x (items_of fonts rest')))) (same_current fonts current p)));
+          ∙ (ap (λ xs. appended_to done (set_items fonts current xs)) (t.first_turn ∙ ap (λ v. flat_by (flat fonts t.left) current (turn_meaning fonts v)) (sym u))
+          ∙ (items_set fonts current done p value (flat fonts t.left (current_after_items current (flat_items fonts p)) (items_of fonts rest')) w.half.is w.kern
+          ∙ (ap (λ x. appended_to (done ++ value ∷ kern_values (kern_of p)) (set_items fonts x (flat fonts t.left x (items_of fonts rest')))) (same_current fonts current p)
+          ∙ ap (λ xs. appended_to xs (set_items fonts (current_after_passed current p) (flat fonts t.left (current_after_passed current p) (items_of fonts rest')))) (sym now))));
       size = omega (arith, g.size, k.size);
-      items = omega (arith, g.items, k.items, a.count, items_positive (element_of_passed p), length-append halves next);
-      total = omega (arith, g.total, k.items, a.total, items_positive (element_of_passed p), total_append halves next);
+      items_few = omega (arith, g.items_few, k.items, a.count, items_positive (element_of_passed p), length-append items next);
+      total = omega (arith, g.total, k.items, w.half.few, items_positive (element_of_passed p), length-append g.row more);
       nesting = omega (arith, g.nesting, k.nesting);
       amounts = (k.amounts g.amounts.0 g.amounts.1).1;
-      fits = all_fit_append n halves next g.fits a.fits;
-      height = subst (λ xs. greatest_height xs ≤ℤ pos max_dimen) (sym now) (height_append (pos max_dimen) (half_values halves) (half_values next) g.height a.height);
-      depth = subst (λ xs. greatest_depth xs ≤ℤ pos max_dimen) (sym now) (depth_append (pos max_dimen) (half_values halves) (half_values next) g.depth a.depth);
-      follow = subst (FollowSoFar (current_after_passed current p).last) (sym now) (follow_step current.last (current_after_passed current p).last (half_values halves) (half_value h) (kern_of p) g.follow (item_follows fonts current p (half_value h) w.is));
-      remains = subst (λ xs. Remains xs rest') (sym now) (remains_pass fonts current (half_values halves) f s p rest' h g.remains u l w.is);
+      fits = fits_append items next g.fits a.fits;
+      height_is =
+          with_last reach.height.sp reach'.height.sp (half_height value) low_height high
+          ∙ (ap (λ x. int_max x (int_max (half_height value) (pos 0))) g.height_is
+          ∙ (ap (λ x. int_max (greatest_height done) (int_max (half_height value) x)) (sym (kern_height (kern_of p)))
+          ∙ (sym (height_append done (value ∷ kern_values (kern_of p))) ∙ ap greatest_height (sym now))));
+      depth_is =
+          with_last reach.depth.sp reach'.depth.sp (half_depth value) low_depth deep
+          ∙ (ap (λ x. int_max x (int_max (half_depth value) (pos 0))) g.depth_is
+          ∙ (ap (λ x. int_max (greatest_depth done) (int_max (half_depth value) x)) (sym (kern_depth (kern_of p)))
+          ∙ (sym (depth_append done (value ∷ kern_values (kern_of p))) ∙ ap greatest_depth (sym now))));
+      height = subst (λ x. x ≤ℤ pos max_dimen) (sym high) (both_low reach.height.sp (half_height value) (pos max_dimen) g.height w.half.height);
+      depth = subst (λ x. x ≤ℤ pos max_dimen) (sym deep) (both_low reach.depth.sp (half_depth value) (pos max_dimen) g.depth w.half.depth);
+      follow = subst (FollowSoFar (current_after_passed current p).last) (sym now) (follow_step current.last (current_after_passed current p).last done value (kern_of p) g.follow (item_follows fonts current p value w.half.is));
+      remains = subst (λ xs. Remains xs rest') (sym now) (remains_pass fonts current done f s p rest' value g.remains u l w.half.is);
       modest = g.modest;
     }
 
-pub going_pass : (fonts : SetValue) (first : Style) (whole : Sequence) (current current' : Current) (rest : Sequence) (halves halves' : List Half) (f : Element) (s : Sequence) (p : PassedElement) (rest' : Sequence) (h : Half) (kern : Option ℤ) → Going fonts first whole current rest halves → rest ≡ More f s → PassesOne p rest' ≡ turn_of fonts current f s → ((enclosed : Bool) → RestOfList enclosed (More f s) → RestOfList enclosed (More (element_of_passed p) rest')) → kern ≡ kern_of p → WasSet fonts current p h kern → halves' ≡ halves ++ h ∷ kern_halves kern → current' ≡ current_after_passed current p → Going fonts first whole current' rest' halves'
-going_pass fonts first whole current current' rest halves halves' f s p rest' h kern g is u l k w eq c =
-    rw (eq, c, k) (going_set fonts first whole current f s halves p rest' h (subst (λ r. Going fonts first whole current r halves) is g) u l (subst (WasSet fonts current p h) k w))
+pub going_pass : (fonts : SetValue) (first : Style) (whole : Sequence) (current current' : Current) (rest : Sequence) (items items' : List PlacedHalf) (reach reach' : Reach) (old mid new : List PieceValue) (f : Element) (s : Sequence) (p : PassedElement) (rest' : Sequence) (h : PlacedHalf) (kern : Option ℤ) → Going fonts first whole current rest items reach old mid → rest ≡ More f s → PassesOne p rest' ≡ turn_of fonts current f s → ((enclosed : Bool) → RestOfList enclosed (More f s) → RestOfList enclosed (More (element_of_passed p) rest')) → kern ≡ kern_of p → WasSet fonts current p h kern mid new → ReachesOn reach reach' mid new → items' ≡ items ++ h ∷ kern_halves kern → current' ≡ current_after_passed current p → Going fonts first whole current' rest' items' reach' old new
+going_pass fonts first whole current current' rest items items' reach reach' old mid new f s p rest' h kern g is u l k w r eq c =
+    rw (eq, c, k) (going_set fonts first whole current f s items reach reach' old mid new p rest' h (subst (λ r. Going fonts first whole current r items reach old mid) is g) u l (subst (λ x. WasSet fonts current p h x mid new) k w) r)
 
 -- ---- a fault of an item is the fault of the list
 
-err_set : (fonts : SetValue) (first : Style) (whole : Sequence) (current : Current) (f : Element) (s : Sequence) (halves : List Half) (p : PassedElement) (rest' : Sequence) (fault : SetFault) → Going fonts first whole current (More f s) halves → PassesOne p rest' ≡ turn_of fonts current f s → SetFails fault (set_items fonts current (flat_items fonts p)) → SetFails fault (halves_of fonts first whole)
+err_set : (fonts : SetValue) (first : Style) (whole : Sequence) (current : Current) (f : Element) (s : Sequence) (items : List PlacedHalf) (reach : Reach) (old new : List PieceValue) (p : PassedElement) (rest' : Sequence) (fault : SetFault) → Going fonts first whole current (More f s) items reach old new → PassesOne p rest' ≡ turn_of fonts current f s → SetFails fault (set_items fonts current (flat_items fonts p)) → SetFails fault (halves_of fonts first whole)
 unfolding halves_of first_pass_of
-err_set fonts first whole current f s halves p rest' fault g u h =
+err_set fonts first whole current f s items reach old new p rest' fault g u h =
     let t = turns_left fonts current f s g.turns g.enough in
     fails_on fault (set_items fonts current (flat_items fonts p)) (halves_of fonts first whole) h
     (λ x k. ap (λ a. a >>= (λ hs. Ok (settle hs)))
     (g.whole_is
-    ∙ (ap (λ xs. appended_to (half_values halves) (set_items fonts current xs)) (t.first_turn ∙ ap (λ v. flat_by (flat fonts t.left) current (turn_meaning fonts v)) (sym u))
-    ∙ items_fail fonts current halves p (flat fonts t.left (current_after_items current (flat_items fonts p)) (items_of fonts rest')) x k)))
+    ∙ (ap (λ xs. appended_to (placed_values items g.row) (set_items fonts current xs)) (t.first_turn ∙ ap (λ v. flat_by (flat fonts t.left) current (turn_meaning fonts v)) (sym u))
+    ∙ items_fail fonts current (placed_values items g.row) p (flat fonts t.left (current_after_items current (flat_items fonts p)) (items_of fonts rest')) x k)))
 
-pub going_err : (fonts : SetValue) (first : Style) (whole : Sequence) (current : Current) (rest : Sequence) (halves : List Half) (f : Element) (s : Sequence) (p : PassedElement) (rest' : Sequence) (fault : SetFault) → Going fonts first whole current rest halves → rest ≡ More f s → PassesOne p rest' ≡ turn_of fonts current f s → SetFails fault (set_item fonts current (flat_item fonts p)) → SetFails fault (halves_of fonts first whole)
-going_err fonts first whole current rest halves f s p rest' fault g is u h =
-    err_set fonts first whole current f s halves p rest' fault (subst (λ r. Going fonts first whole current r halves) is g) u (item_err fonts current p fault h)
+pub going_err : (fonts : SetValue) (first : Style) (whole : Sequence) (current : Current) (rest : Sequence) (items : List PlacedHalf) (reach : Reach) (old new : List PieceValue) (f : Element) (s : Sequence) (p : PassedElement) (rest' : Sequence) (fault : SetFault) → Going fonts first whole current rest items reach old new → rest ≡ More f s → PassesOne p rest' ≡ turn_of fonts current f s → SetFails fault (set_item fonts current (flat_item fonts p)) → SetFails fault (halves_of fonts first whole)
+going_err fonts first whole current rest items reach old new f s p rest' fault g is u h =
+    err_set fonts first whole current f s items reach old new p rest' fault (subst (λ r. Going fonts first whole current r items reach old new) is g) u (item_err fonts current p fault h)
 
-pub going_kern_err : (fonts : SetValue) (first : Style) (whole : Sequence) (current : Current) (rest : Sequence) (halves : List Half) (f : Element) (s : Sequence) (p : PassedElement) (rest' : Sequence) (h : HalfValue) (kern : Option ℤ) (fault : SetFault) → Going fonts first whole current rest halves → rest ≡ More f s → PassesOne p rest' ≡ turn_of fonts current f s → set_item fonts current (flat_item fonts p) ≡ Ok h → kern ≡ kern_of p → SetFails fault (test_kern kern) → SetFails fault (halves_of fonts first whole)
-going_kern_err fonts first whole current rest halves f s p rest' h kern fault g is u e k t =
-    err_set fonts first whole current f s halves p rest' fault (subst (λ r. Going fonts first whole current r halves) is g) u (kern_err fonts current p h fault e (subst (λ x. SetFails fault (test_kern x)) k t))
+pub going_kern_err : (fonts : SetValue) (first : Style) (whole : Sequence) (current : Current) (rest : Sequence) (items : List PlacedHalf) (reach : Reach) (old new : List PieceValue) (f : Element) (s : Sequence) (p : PassedElement) (rest' : Sequence) (h : HalfValue) (kern : Option ℤ) (fault : SetFault) → Going fonts first whole current rest items reach old new → rest ≡ More f s → PassesOne p rest' ≡ turn_of fonts current f s → set_item fonts current (flat_item fonts p) ≡ Ok h → kern ≡ kern_of p → SetFails fault (test_kern kern) → SetFails fault (halves_of fonts first whole)
+going_kern_err fonts first whole current rest items reach old new f s p rest' h kern fault g is u e k t =
+    err_set fonts first whole current f s items reach old new p rest' fault (subst (λ r. Going fonts first whole current r items reach old new) is g) u (kern_err fonts current p h fault e (subst (λ x. SetFails fault (test_kern x)) k t))
 
 -- ---- no turn is left at the end
 
@@ -298,29 +346,33 @@ at_end : (fonts : SetValue) (current : Current) (turns : ℕ) → set_items font
 at_end fonts current zero = refl
 at_end fonts current (suc t) = refl
 
-end_on : (fonts : SetValue) (first : Style) (whole : Sequence) (current : Current) (halves : List Half) → Going fonts first whole current End halves → halves_of fonts first whole ≡ Ok (settle (half_values halves))
+end_on : (fonts : SetValue) (first : Style) (whole : Sequence) (current : Current) (items : List PlacedHalf) (reach : Reach) (old new : List PieceValue) (g : Going fonts first whole current End items reach old new) → halves_of fonts first whole ≡ Ok (settle (placed_values items g.row))
 unfolding halves_of first_pass_of
-end_on fonts first whole current halves g =
-    ap (λ a. a >>= (λ hs. Ok (settle hs))) (g.whole_is ∙ (ap (λ s. appended_to (half_values halves) s) (at_end fonts current g.turns) ∙ appended_end (half_values halves)))
+end_on fonts first whole current items reach old new g =
+    ap (λ a. a >>= (λ hs. Ok (settle hs))) (g.whole_is ∙ (ap (λ s. appended_to (placed_values items g.row) s) (at_end fonts current g.turns) ∙ appended_end (placed_values items g.row)))
 
-pub going_end : (fonts : SetValue) (first : Style) (whole : Sequence) (current : Current) (rest : Sequence) (halves : List Half) (x : Halves) → Going fonts first whole current rest halves → rest ≡ End → x ≡ settle (half_values halves) → halves_of fonts first whole ≡ Ok x
-going_end fonts first whole current rest halves x g e f = end_on fonts first whole current halves (subst (λ r. Going fonts first whole current r halves) e g) ∙ ap (λ v. Ok v) (sym f)
-
-all_fit_more : (m n : ℕ) (hs : List Half) → m ≤ n → HalvesFit m hs → HalvesFit n hs
-all_fit_more m n [] le k = tt
-all_fit_more m n (h ∷ hs) le k = (half_fits_more m n h le k.0, all_fit_more m n hs le k.1)
-
--- the classes of the items can be settled
-pub going_settles : (fonts : SetValue) (first : Style) (whole : Sequence) (current : Current) (rest : Sequence) (halves : List Half) → Going fonts first whole current rest halves → rest ≡ End → Settles halves
-going_settles fonts first whole current rest halves g e = record {
-  boundaries = remains_end (half_values halves) (subst (λ r. Remains (half_values halves) r) e g.remains);
+-- the items so far can be settled
+can_finish : (fonts : SetValue) (first : Style) (whole : Sequence) (current : Current) (items : List PlacedHalf) (reach : Reach) (old new : List PieceValue) (g : Going fonts first whole current End items reach old new) → CanFinish items reach g.row
+can_finish fonts first whole current items reach old new g = record {
+  count = g.count;
+  boundaries = remains_end (placed_values items g.row) g.remains;
   follow = g.follow.follow;
-  few = omega (arith, g.items, g.modest.items);
+  few = omega (arith, g.items_few, g.modest.items);
   total = omega (arith, g.total, g.modest.items);
-  fit = all_fit_more (12 * list_nesting whole) (2 ^ 16) halves (omega (arith, g.modest.nesting)) g.fits;
-  height = g.height;
-  depth = g.depth;
+  fit = g.fits;
+  height = g.height_is;
+  depth = g.depth_is;
+  height_high = g.height;
+  depth_high = g.depth;
 }
+
+end_set : (fonts : SetValue) (first : Style) (whole : Sequence) (current : Current) (items : List PlacedHalf) (reach : Reach) (old new : List PieceValue) (x : PlacedHalves) → Going fonts first whole current End items reach old new → ((row : List PieceValue) → CanFinish items reach row → Finishes x row (settle (placed_values items row))) → HalvesOn x old new (halves_of fonts first whole)
+end_set fonts first whole current items reach old new x g f =
+    let d = f g.row (can_finish fonts first whole current items reach old new g) in
+    record { row = g.row; is = end_on fonts first whole current items reach old new g ∙ ap (λ v. Ok v) (sym d.is); stays = g.stays; placed = d.placed }
+
+pub going_end : (fonts : SetValue) (first : Style) (whole : Sequence) (current : Current) (rest : Sequence) (items : List PlacedHalf) (reach : Reach) (old new : List PieceValue) (x : PlacedHalves) → Going fonts first whole current rest items reach old new → rest ≡ End → ((row : List PieceValue) → CanFinish items reach row → Finishes x row (settle (placed_values items row))) → HalvesOn x old new (halves_of fonts first whole)
+going_end fonts first whole current rest items reach old new x g e f = end_set fonts first whole current items reach old new x (subst (λ r. Going fonts first whole current r items reach old new) e g) f
 
 -- ---- what the program answers of a turn
 

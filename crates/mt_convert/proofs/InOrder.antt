@@ -5,14 +5,12 @@ use Rattle.mt_family.specs.SetValue.{SetValue}
 use Rattle.mt_rules.specs.Setting.{Setting, SettingFault, ◌>>=◌, ◌>>◌, test_value}
 use Rattle.mt_convert.specs.declared.flat.current.Current.{Current}
 use Rattle.mt_convert.specs.declared.fault.SetFault.{SetFault}
-use Rattle.mt_convert.specs.declared.half.Half.{Half}
 use Rattle.mt_convert.specs.Calls.{SetFails}
 use Rattle.mt_convert.specs.FirstPass.{set_item, set_items}
 use Rattle.mt_convert.specs.Flat.{FlatItem, current_after_item, current_after_items}
 use Rattle.mt_convert.specs.Halves.{HalfValue, HalfKern}
-use Rattle.mt_convert.specs.Halfway.{half_value, half_values}
 use Rattle.mt_convert.specs.inner.Appending.{appended_to}
-use Rattle.mt_convert.specs.inner.Lengths.{kern_halves, test_kern}
+use Rattle.mt_convert.specs.inner.Lengths.{test_kern}
 use Rattle.mt_convert.specs.inner.Turns.{PassedElement, flat_item, flat_items, kern_items, kern_of}
 use Rattle.mt_convert.proofs.Appending.{appended_nil, appended_step, appended_err, fails_on}
 
@@ -32,10 +30,14 @@ items_append fonts (x ∷ xs) ys current =
 
 -- ---- an item, and the kern after it
 
+abbrev pub kern_values : Option ℤ → List HalfValue
+kern_values None = []
+kern_values (Some amount) = HalfKern amount ∷ []
+
 tested_kern : (amount : ℤ) (t : Setting ⊤) → t ≡ Ok tt → ((t >> Ok (HalfKern amount)) >>= (λ half. Ok (half ∷ []))) ≡ Ok (HalfKern amount ∷ [])
 tested_kern amount t e = rw e refl
 
-kern_set : (fonts : SetValue) (current : Current) (kern : Option ℤ) → test_kern kern ≡ Ok tt → set_items fonts current (kern_items kern) ≡ Ok (half_values (kern_halves kern))
+kern_set : (fonts : SetValue) (current : Current) (kern : Option ℤ) → test_kern kern ≡ Ok tt → set_items fonts current (kern_items kern) ≡ Ok (kern_values kern)
 kern_set fonts current None e = refl
 kern_set fonts current (Some amount) e = tested_kern amount (test_value amount) e
 
@@ -49,10 +51,10 @@ both_set s h t ks e f = rw (e, f) refl
 second_fails : (s : Setting HalfValue) (h : HalfValue) (t : Setting (List HalfValue)) (f : SettingFault) → s ≡ Ok h → t ≡ Err f → (s >>= (λ half. t >>= (λ halves. Ok (half ∷ halves)))) ≡ Err f
 second_fails s h t f e g = rw (e, g) refl
 
-passed_set : (fonts : SetValue) (current : Current) (p : PassedElement) (h : Half) → set_item fonts current (flat_item fonts p) ≡ Ok (half_value h) → test_kern (kern_of p) ≡ Ok tt → set_items fonts current (flat_items fonts p) ≡ Ok (half_values (h ∷ kern_halves (kern_of p)))
+passed_set : (fonts : SetValue) (current : Current) (p : PassedElement) (h : HalfValue) → set_item fonts current (flat_item fonts p) ≡ Ok h → test_kern (kern_of p) ≡ Ok tt → set_items fonts current (flat_items fonts p) ≡ Ok ((h ∷ kern_values (kern_of p)))
 passed_set fonts current p h e k =
     let after = current_after_item current (flat_item fonts p) in
-    both_set (set_item fonts current (flat_item fonts p)) (half_value h) (set_items fonts after (kern_items (kern_of p))) (half_values (kern_halves (kern_of p))) e (kern_set fonts after (kern_of p) k)
+    both_set (set_item fonts current (flat_item fonts p)) h (set_items fonts after (kern_items (kern_of p))) (kern_values (kern_of p)) e (kern_set fonts after (kern_of p) k)
 
 -- a fault of the item, or of the kern, is the fault of both
 pub item_err : (fonts : SetValue) (current : Current) (p : PassedElement) (fault : SetFault) → SetFails fault (set_item fonts current (flat_item fonts p)) → SetFails fault (set_items fonts current (flat_items fonts p))
@@ -69,18 +71,14 @@ kern_err fonts current p h fault e k =
 
 -- ---- after what was set before
 
-pub half_values-append : (hs ks : List Half) → half_values (hs ++ ks) ≡ half_values hs ++ half_values ks
-half_values-append [] ks = refl
-half_values-append (h ∷ hs) ks = ap (λ r. half_value h ∷ r) (half_values-append hs ks)
-
-pub items_set : (fonts : SetValue) (current : Current) (there : List Half) (p : PassedElement) (h : Half) (rest : List FlatItem) → set_item fonts current (flat_item fonts p) ≡ Ok (half_value h) → test_kern (kern_of p) ≡ Ok tt → appended_to (half_values there) (set_items fonts current (flat_items fonts p ++ rest)) ≡ appended_to (half_values (there ++ h ∷ kern_halves (kern_of p))) (set_items fonts (current_after_items current (flat_items fonts p)) rest)
+pub items_set : (fonts : SetValue) (current : Current) (there : List HalfValue) (p : PassedElement) (h : HalfValue) (rest : List FlatItem) → set_item fonts current (flat_item fonts p) ≡ Ok h → test_kern (kern_of p) ≡ Ok tt → appended_to there (set_items fonts current (flat_items fonts p ++ rest)) ≡ appended_to (there ++ h ∷ kern_values (kern_of p)) (set_items fonts (current_after_items current (flat_items fonts p)) rest)
 items_set fonts current there p h rest e k =
-    let next = h ∷ kern_halves (kern_of p) in
-    ap (λ s. appended_to (half_values there) s) (items_append fonts (flat_items fonts p) rest current)
-    ∙ appended_step (half_values there) (half_values (there ++ next)) (set_items fonts current (flat_items fonts p)) (set_items fonts (current_after_items current (flat_items fonts p)) rest)
-    (ap (λ s. appended_to (half_values there) s) (passed_set fonts current p h e k) ∙ ap (λ xs. Ok xs) (sym (half_values-append there next)))
+    let next = h ∷ kern_values (kern_of p) in
+    ap (λ s. appended_to there s) (items_append fonts (flat_items fonts p) rest current)
+    ∙ appended_step there (there ++ next) (set_items fonts current (flat_items fonts p)) (set_items fonts (current_after_items current (flat_items fonts p)) rest)
+    (ap (λ s. appended_to there s) (passed_set fonts current p h e k))
 
-pub items_fail : (fonts : SetValue) (current : Current) (there : List Half) (p : PassedElement) (rest : List FlatItem) (f : SettingFault) → set_items fonts current (flat_items fonts p) ≡ Err f → appended_to (half_values there) (set_items fonts current (flat_items fonts p ++ rest)) ≡ Err f
+pub items_fail : (fonts : SetValue) (current : Current) (there : List HalfValue) (p : PassedElement) (rest : List FlatItem) (f : SettingFault) → set_items fonts current (flat_items fonts p) ≡ Err f → appended_to there (set_items fonts current (flat_items fonts p ++ rest)) ≡ Err f
 items_fail fonts current there p rest f e =
-    ap (λ s. appended_to (half_values there) s) (items_append fonts (flat_items fonts p) rest current)
-    ∙ appended_err (half_values there) (set_items fonts current (flat_items fonts p)) (set_items fonts (current_after_items current (flat_items fonts p)) rest) f e
+    ap (λ s. appended_to there s) (items_append fonts (flat_items fonts p) rest current)
+    ∙ appended_err there (set_items fonts current (flat_items fonts p)) (set_items fonts (current_after_items current (flat_items fonts p)) rest) f e

@@ -1,11 +1,3 @@
--- rows that a packer takes
-pub mod Fitting
--- rows that fit, and their levels packed
-pub mod Packable
--- what the nuclei of the code keep
-pub mod SetNuclei
--- rows with scripts
-pub mod SetRows
 -- the clean box of a character
 pub mod CleanGlyphs
 -- the row of an atom alone
@@ -14,8 +6,17 @@ pub mod LoneAtoms
 pub mod Appending
 -- boxes of boundaries
 pub mod Boundaries
+-- items whose pieces are on a stack
+pub mod PlacedValues
+-- their rows put on a stack, and taken from one
+pub mod PutRows
+pub mod TakenRows
 -- the second pass, item by item
 pub mod SecondPass
+-- how many pieces a row has
+pub mod FewPieces
+-- the second pass over a list with its rows
+pub mod Wrapping
 -- rows whose glyphs exist and whose rules mark something
 pub mod holds
 -- stacks as lists
@@ -28,8 +29,6 @@ pub mod Turning
 pub mod Remaining
 -- classes settled from the right
 pub mod Settling
--- how far atoms reach
-pub mod Reaching
 -- neighbours while a list is set
 pub mod Following
 -- items set in order
@@ -42,3 +41,9 @@ pub mod BothPasses
 mod cases
 -- atoms of each kind, and fractions
 pub mod kinds
+-- rows and boxes behind the pieces that are there
+pub mod Behind
+-- rows behind the pieces that were there
+pub mod RowsOn
+-- nuclei behind them
+pub mod NucleiOn

@@ -1,26 +1,39 @@
 -- The row of an atom alone stays as it is (`lone_row`).
-use Rattle.std.proofs.Common.{◌≡◌, ◌≤◌, ◌^◌, ℕ, ℤ, List, [], ◌∷◌, length, ap, sym, subst, arith}
+use Rattle.std.proofs.Common.{◌≡◌, ℕ, ℤ, List, [], ◌∷◌, length, take, drop, ap, sym, ◌∙◌, arith, true, append-nil}
+use Rattle.std.proofs.lemmas.List.{take_all, take-append-drop}
+use Rattle.std.specs.Prelude.{Ok}
 use Rattle.mt_family.specs.declared.size.Size.{Size}
 use Rattle.mt_family.specs.SetValue.{SetValue}
-use Rattle.mt_box.specs.declared.piece.Piece.{Piece}
-use Rattle.mt_box.specs.Rows.{piece_values}
-use Rattle.mt_box.proofs.Lists.{nil_right}
-use Rattle.mt_rules.specs.declared.class.Class.{Class}
+use Rattle.mt_box.specs.Rows.{PieceValue}
 use Rattle.mt_rules.specs.declared.style.Style.{Style}
-use Rattle.mt_rules.specs.Setting.{make_row}
-use Rattle.mt_convert.specs.declared.half.Half.{Half}
-use Rattle.mt_convert.specs.declared.half.Half.TheVariants.{Set}
-use Rattle.mt_convert.specs.Halfway.{HalvesFit, RowFits, half_values, total_of}
-use Rattle.mt_convert.specs.SecondPass.{row_of_halves}
+use Rattle.mt_convert.specs.declared.placed.PlacedHalf.{PlacedHalf}
+use Rattle.mt_convert.specs.declared.placed.PlacedHalf.TheVariants as placed
+use Rattle.mt_convert.specs.Current.{opening}
+use Rattle.mt_convert.specs.SecondPass.{all_pieces}
+use Rattle.mt_convert.specs.inner.LoneAtoms.{is_set_atom, is_lone_atom}
+use Rattle.mt_convert.specs.inner.OnPieces.{RowOn}
+use Rattle.mt_convert.specs.inner.Placed.{placed_values, placed_length, placed_count}
 
-pub lone_row : (fonts : SetValue) (size : Size) (wanted : ℤ) (style : Style) (items : List Half) (class : Class) (row : List Piece) → items ≡ Set class row ∷ []
-    → make_row (piece_values row) ≡ row_of_halves fonts size wanted style (half_values items)
-lone_row fonts size wanted style items class row e = rw e (ap make_row (sym (nil_right (piece_values row))))
+atom_row : (fonts : SetValue) (size : Size) (wanted : ℤ) (style : Style) (h : PlacedHalf) (row : List PieceValue) → is_set_atom h ≡ true → placed_length h ≡ length row
+    → all_pieces fonts size wanted (opening style) (placed_values (h ∷ []) row) ≡ Ok row
+atom_row fonts size wanted style (placed.Set c n) row t e = ap (λ r. Ok r) (append-nil (take n row) ∙ take_all n row (omega (arith, e)))
+atom_row fonts size wanted style (placed.Left d) row t e = absurd (cc)
+atom_row fonts size wanted style (placed.Middle d) row t e = absurd (cc)
+atom_row fonts size wanted style (placed.Right d) row t e = absurd (cc)
+atom_row fonts size wanted style (placed.Style s) row t e = absurd (cc)
+atom_row fonts size wanted style (placed.Kern k) row t e = absurd (cc)
+atom_row fonts size wanted style (placed.Space g) row t e = absurd (cc)
 
-pub lone_few : (items : List Half) (class : Class) (row : List Piece) → items ≡ Set class row ∷ [] → total_of items ≤ 2 ^ 20 → length row ≤ 2 ^ 21
-lone_few items class row e h =
-    let few : total_of (Set class row ∷ []) ≤ 2 ^ 20 = subst (λ hs. total_of hs ≤ 2 ^ 20) e h in
-    omega (arith, few)
+lone_pieces : (fonts : SetValue) (size : Size) (wanted : ℤ) (style : Style) (items : List PlacedHalf) (row : List PieceValue) → is_lone_atom items ≡ true → placed_count items ≡ length row
+    → all_pieces fonts size wanted (opening style) (placed_values items row) ≡ Ok row
+lone_pieces fonts size wanted style [] row t e = absurd (cc)
+lone_pieces fonts size wanted style (h ∷ []) row t e = atom_row fonts size wanted style h row t (omega (arith, e))
+lone_pieces fonts size wanted style (h ∷ k ∷ hs) row t e = absurd (cc)
 
-pub lone_fits : (n : ℕ) (items : List Half) (class : Class) (row : List Piece) → items ≡ Set class row ∷ [] → HalvesFit n items → RowFits n row
-lone_fits n items class row e h = (subst (HalvesFit n) e h).0
+pub lone_row : (fonts : SetValue) (size : Size) (wanted : ℤ) (style : Style) (items : List PlacedHalf) (first : ℕ) (old : List PieceValue) → is_lone_atom items ≡ true → placed_count items ≡ length (drop first old)
+    → RowOn (take first old) old (all_pieces fonts size wanted (opening style) (placed_values items (drop first old)))
+lone_row fonts size wanted style items first old t e = record {
+  row = drop first old;
+  is = lone_pieces fonts size wanted style items (drop first old) t e;
+  stays = sym (take-append-drop first old);
+}

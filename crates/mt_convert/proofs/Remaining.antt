@@ -11,14 +11,12 @@ use Rattle.mt_rules.specs.Facts.{NoBoundary, Inside, EndsWithRight, IsMathList}
 use Rattle.mt_rules.specs.Setting.{Setting, ◌>>=◌, test_value}
 use Rattle.mt_rules.specs.Sequence.{Sequence, Element, End, More, AtomElement, FractionElement, LeftElement, MiddleElement, RightElement, StyleElement, ChoiceElement, MuSpaceElement, SpaceElement, MuKernElement, KernElement, NonscriptElement}
 use Rattle.mt_convert.specs.declared.flat.current.Current.{Current}
-use Rattle.mt_convert.specs.declared.half.Half.{Half}
-use Rattle.mt_convert.specs.declared.half.Half.TheVariants as half
 use Rattle.mt_convert.specs.Flat.{list_for}
 use Rattle.mt_convert.specs.FirstPass.{set_item, make_space, glue_in_points}
 use Rattle.mt_convert.specs.Halves.{HalfValue, HalfAtom, HalfLeft, HalfMiddle, HalfRight, HalfStyle, HalfKern, HalfSpace, settled_halves}
-use Rattle.mt_convert.specs.Halfway.{half_value, half_values, MayEnd, MustEnd, EndsAfterLeft, BoundariesOutside}
+use Rattle.mt_convert.specs.Halfway.{MayEnd, MustEnd, EndsAfterLeft, BoundariesOutside}
 use Rattle.mt_convert.specs.inner.Boundaries.{Remains, Begins, GoesOn, IsOver, RestOfList, NoBoundaries, IsOpen}
-use Rattle.mt_convert.specs.inner.Lengths.{kern_halves}
+use Rattle.mt_convert.proofs.InOrder.{kern_values}
 use Rattle.mt_arena.specs.Keeping.{ElementLists}
 use Rattle.mt_arena.specs.Rest.{append_list}
 use Rattle.mt_convert.specs.inner.Turns.{PassedElement, PassedAtom, PassedFraction, PassedLeft, PassedMiddle, PassedRight, PassedStyle, PassedMuSpace, PassedSpace, PassedMuKern, PassedKern, PassesOne, RewritesTo, element_of_passed, first_element_as, flat_item, kern_of, turn_of}
@@ -304,52 +302,52 @@ space_no_boundary : (enclosed : Bool) (glue : Glue) (h : HalfValue) → make_spa
 space_no_boundary enclosed glue h e = made_then_no_boundary enclosed (test_value glue.width) (λ u. test_value glue.shrink) (λ u. HalfSpace glue) h (λ u. tt) e
 
 -- what leaves a kern after it is an atom
-kern_after : (enclosed : Bool) (h : Half) (kern : Option ℤ) → NoBoundaries enclosed (half_value h ∷ []) → NoBoundaries enclosed (half_values (h ∷ kern_halves kern))
-kern_after enclosed (half.Set class row) None n = n
-kern_after enclosed (half.Set class row) (Some amount) n = tt
-kern_after enclosed (half.Left delim) None n = n
-kern_after enclosed (half.Left delim) (Some amount) n = absurd n
-kern_after enclosed (half.Middle delim) None n = n
-kern_after enclosed (half.Middle delim) (Some amount) n = (n.0, tt)
-kern_after enclosed (half.Right delim) None n = n
-kern_after enclosed (half.Right delim) (Some amount) n = absurd n
-kern_after enclosed (half.Style style) None n = n
-kern_after enclosed (half.Style style) (Some amount) n = tt
-kern_after enclosed (half.Kern k) None n = n
-kern_after enclosed (half.Kern k) (Some amount) n = tt
-kern_after enclosed (half.Space glue) None n = n
-kern_after enclosed (half.Space glue) (Some amount) n = tt
+kern_after : (enclosed : Bool) (h : HalfValue) (kern : Option ℤ) → NoBoundaries enclosed (h ∷ []) → NoBoundaries enclosed ((h ∷ kern_values kern))
+kern_after enclosed (HalfAtom class row) None n = n
+kern_after enclosed (HalfAtom class row) (Some amount) n = tt
+kern_after enclosed (HalfLeft delim) None n = n
+kern_after enclosed (HalfLeft delim) (Some amount) n = absurd n
+kern_after enclosed (HalfMiddle delim) None n = n
+kern_after enclosed (HalfMiddle delim) (Some amount) n = (n.0, tt)
+kern_after enclosed (HalfRight delim) None n = n
+kern_after enclosed (HalfRight delim) (Some amount) n = absurd n
+kern_after enclosed (HalfStyle style) None n = n
+kern_after enclosed (HalfStyle style) (Some amount) n = tt
+kern_after enclosed (HalfKern k) None n = n
+kern_after enclosed (HalfKern k) (Some amount) n = tt
+kern_after enclosed (HalfSpace glue) None n = n
+kern_after enclosed (HalfSpace glue) (Some amount) n = tt
 
-remains_inside : (enclosed : Bool) (hs : List HalfValue) (h : Half) (kern : Option ℤ) (s : Sequence) → IsOpen enclosed hs → RestOfList enclosed s → NoBoundaries enclosed (half_value h ∷ []) → Remains (hs ++ half_values (h ∷ kern_halves kern)) s
-remains_inside enclosed hs h kern s o l n = GoesOn enclosed (open_append enclosed hs (half_values (h ∷ kern_halves kern)) o (kern_after enclosed h kern n)) l
+remains_inside : (enclosed : Bool) (hs : List HalfValue) (h : HalfValue) (kern : Option ℤ) (s : Sequence) → IsOpen enclosed hs → RestOfList enclosed s → NoBoundaries enclosed (h ∷ []) → Remains (hs ++ (h ∷ kern_values kern)) s
+remains_inside enclosed hs h kern s o l n = GoesOn enclosed (open_append enclosed hs ((h ∷ kern_values kern)) o (kern_after enclosed h kern n)) l
 
-remains_right : (enclosed : Bool) (hs : List HalfValue) (h : Half) (s : Sequence) (delim : Delim) → IsOpen enclosed hs → enclosed ≡ true → s ≡ End → HalfRight delim ≡ half_value h → Remains (hs ++ half_value h ∷ []) s
+remains_right : (enclosed : Bool) (hs : List HalfValue) (h : HalfValue) (s : Sequence) (delim : Delim) → IsOpen enclosed hs → enclosed ≡ true → s ≡ End → HalfRight delim ≡ h → Remains (hs ++ h ∷ []) s
 remains_right enclosed hs h s delim o t e g = subst (λ x. Remains (hs ++ x ∷ []) s) g (IsOver (right_after hs delim (subst (λ b. IsOpen b hs) t o)) e)
 
-remains_left : (hs : List HalfValue) (h : Half) (s : Sequence) (delim : Delim) → hs ≡ [] → RestOfList true s → HalfLeft delim ≡ half_value h → Remains (hs ++ half_value h ∷ []) s
+remains_left : (hs : List HalfValue) (h : HalfValue) (s : Sequence) (delim : Delim) → hs ≡ [] → RestOfList true s → HalfLeft delim ≡ h → Remains (hs ++ h ∷ []) s
 remains_left hs h s delim e l g =
-    subst (λ ks. Remains (ks ++ half_value h ∷ []) s) (sym e) (subst (λ x. Remains (x ∷ []) s) g (GoesOn true tt l))
+    subst (λ ks. Remains (ks ++ h ∷ []) s) (sym e) (subst (λ x. Remains (x ∷ []) s) g (GoesOn true tt l))
 
-rest_pass : (fonts : SetValue) (current : Current) (enclosed : Bool) (hs : List HalfValue) (p : PassedElement) (s' : Sequence) (h : Half) → IsOpen enclosed hs → RestOfList enclosed (More (element_of_passed p) s') → set_item fonts current (flat_item fonts p) ≡ Ok (half_value h) → Remains (hs ++ half_values (h ∷ kern_halves (kern_of p))) s'
-rest_pass fonts current enclosed hs (PassedAtom kind limits nucleus sup sub role kern) s' h o r w = remains_inside enclosed hs h kern s' o r (made_no_boundary enclosed _ _ (half_value h) (λ row. tt) w)
-rest_pass fonts current enclosed hs (PassedFraction thickness left right num den) s' h o r w = remains_inside enclosed hs h None s' o r (made_no_boundary enclosed _ _ (half_value h) (λ row. tt) w)
+rest_pass : (fonts : SetValue) (current : Current) (enclosed : Bool) (hs : List HalfValue) (p : PassedElement) (s' : Sequence) (h : HalfValue) → IsOpen enclosed hs → RestOfList enclosed (More (element_of_passed p) s') → set_item fonts current (flat_item fonts p) ≡ Ok h → Remains (hs ++ (h ∷ kern_values (kern_of p))) s'
+rest_pass fonts current enclosed hs (PassedAtom kind limits nucleus sup sub role kern) s' h o r w = remains_inside enclosed hs h kern s' o r (made_no_boundary enclosed _ _ h (λ row. tt) w)
+rest_pass fonts current enclosed hs (PassedFraction thickness left right num den) s' h o r w = remains_inside enclosed hs h None s' o r (made_no_boundary enclosed _ _ h (λ row. tt) w)
 rest_pass fonts current enclosed hs (PassedLeft delim) s' h o r w = absurd r
-rest_pass fonts current enclosed hs (PassedMiddle delim) s' h o r w = remains_inside enclosed hs h None s' o r.1 (subst (λ x. NoBoundaries enclosed (x ∷ [])) (ok_half (HalfMiddle delim) (half_value h) w) (r.0, tt))
+rest_pass fonts current enclosed hs (PassedMiddle delim) s' h o r w = remains_inside enclosed hs h None s' o r.1 (subst (λ x. NoBoundaries enclosed (x ∷ [])) (ok_half (HalfMiddle delim) h w) (r.0, tt))
 rest_pass fonts current enclosed hs (PassedRight delim) s' h o r w = remains_right enclosed hs h s' delim o r.0 r.1 (ok_half _ _ w)
-rest_pass fonts current enclosed hs (PassedStyle style) s' h o r w = remains_inside enclosed hs h None s' o r (subst (λ x. NoBoundaries enclosed (x ∷ [])) (ok_half (HalfStyle style) (half_value h) w) tt)
-rest_pass fonts current enclosed hs (PassedMuSpace glue) s' h o r w = remains_inside enclosed hs h None s' o r (space_no_boundary enclosed (glue_in_points fonts current.style glue) (half_value h) w)
-rest_pass fonts current enclosed hs (PassedSpace glue) s' h o r w = remains_inside enclosed hs h None s' o r (space_no_boundary enclosed glue (half_value h) w)
-rest_pass fonts current enclosed hs (PassedMuKern amount) s' h o r w = remains_inside enclosed hs h None s' o r (made_no_boundary enclosed _ _ (half_value h) (λ u. tt) w)
-rest_pass fonts current enclosed hs (PassedKern amount) s' h o r w = remains_inside enclosed hs h None s' o r (made_no_boundary enclosed _ _ (half_value h) (λ u. tt) w)
+rest_pass fonts current enclosed hs (PassedStyle style) s' h o r w = remains_inside enclosed hs h None s' o r (subst (λ x. NoBoundaries enclosed (x ∷ [])) (ok_half (HalfStyle style) h w) tt)
+rest_pass fonts current enclosed hs (PassedMuSpace glue) s' h o r w = remains_inside enclosed hs h None s' o r (space_no_boundary enclosed (glue_in_points fonts current.style glue) h w)
+rest_pass fonts current enclosed hs (PassedSpace glue) s' h o r w = remains_inside enclosed hs h None s' o r (space_no_boundary enclosed glue h w)
+rest_pass fonts current enclosed hs (PassedMuKern amount) s' h o r w = remains_inside enclosed hs h None s' o r (made_no_boundary enclosed _ _ h (λ u. tt) w)
+rest_pass fonts current enclosed hs (PassedKern amount) s' h o r w = remains_inside enclosed hs h None s' o r (made_no_boundary enclosed _ _ h (λ u. tt) w)
 
 -- the left boundary
-first_pass : (fonts : SetValue) (current : Current) (hs : List HalfValue) (delim : Delim) (s : Sequence) (p : PassedElement) (s' : Sequence) (h : Half) → hs ≡ [] → RestOfList true s → PassesOne p s' ≡ turn_of fonts current (LeftElement delim) s → set_item fonts current (flat_item fonts p) ≡ Ok (half_value h) → Remains (hs ++ half_values (h ∷ kern_halves (kern_of p))) s'
+first_pass : (fonts : SetValue) (current : Current) (hs : List HalfValue) (delim : Delim) (s : Sequence) (p : PassedElement) (s' : Sequence) (h : HalfValue) → hs ≡ [] → RestOfList true s → PassesOne p s' ≡ turn_of fonts current (LeftElement delim) s → set_item fonts current (flat_item fonts p) ≡ Ok h → Remains (hs ++ (h ∷ kern_values (kern_of p))) s'
 first_pass fonts current hs delim s p s' h e l u w =
     let q = one_is p (PassedLeft delim) s' s u in
-    subst (λ v. Remains (hs ++ half_values (h ∷ kern_halves (kern_of v))) s') (sym q.0)
-    (remains_left hs h s' delim e (subst (RestOfList true) (sym q.1) l) (ok_half _ _ (subst (λ v. set_item fonts current (flat_item fonts v) ≡ Ok (half_value h)) q.0 w)))
+    subst (λ v. Remains (hs ++ (h ∷ kern_values (kern_of v))) s') (sym q.0)
+    (remains_left hs h s' delim e (subst (RestOfList true) (sym q.1) l) (ok_half _ _ (subst (λ v. set_item fonts current (flat_item fonts v) ≡ Ok h) q.0 w)))
 
-pub remains_pass : (fonts : SetValue) (current : Current) (hs : List HalfValue) (f : Element) (s : Sequence) (p : PassedElement) (s' : Sequence) (h : Half) → Remains hs (More f s) → PassesOne p s' ≡ turn_of fonts current f s → ((enclosed : Bool) → RestOfList enclosed (More f s) → RestOfList enclosed (More (element_of_passed p) s')) → set_item fonts current (flat_item fonts p) ≡ Ok (half_value h) → Remains (hs ++ half_values (h ∷ kern_halves (kern_of p))) s'
+pub remains_pass : (fonts : SetValue) (current : Current) (hs : List HalfValue) (f : Element) (s : Sequence) (p : PassedElement) (s' : Sequence) (h : HalfValue) → Remains hs (More f s) → PassesOne p s' ≡ turn_of fonts current f s → ((enclosed : Bool) → RestOfList enclosed (More f s) → RestOfList enclosed (More (element_of_passed p) s')) → set_item fonts current (flat_item fonts p) ≡ Ok h → Remains (hs ++ (h ∷ kern_values (kern_of p))) s'
 remains_pass fonts current hs f s p s' h (Begins delim rest e x r) u g w =
     let q = same_front f (LeftElement delim) s rest x in
     first_pass fonts current hs delim s p s' h e (subst (RestOfList true) (sym q.1) r) (subst (λ v. PassesOne p s' ≡ turn_of fonts current v s) q.0 u) w

@@ -1,80 +1,156 @@
--- The second pass, item by item.
-use Rattle.std.proofs.Common.{◌≡◌, ℕ, ◌≤◌, ◌+◌, ◌*◌, ◌^◌, List, [], ◌∷◌, length, ap, sym, ◌∙◌, arith, subst, ℤ, None}
-use Rattle.std.specs.Prelude.{Ok}
+-- The second pass, item by item (`PutSoFar`), and the test of the row.
+use Rattle.std.proofs.Common.{◌≡◌, ℕ, ◌≤◌, ◌+◌, ◌^◌, List, [], ◌∷◌, ◌++◌, length, take, drop, min, ap, sym, ◌∙◌, arith, subst, ℤ, None, append_assoc, append-nil, length-append, length-drop, length-take-le}
+use Rattle.std.proofs.lemmas.List.{drop_at, drop-drop, take-append-le}
+use Rattle.std.specs.Prelude.{Result, Ok, Err, OnOk}
 use Rattle.mt_family.specs.declared.size.Size.{Size}
 use Rattle.mt_family.specs.SetValue.{SetValue}
-use Rattle.mt_box.specs.declared.piece.Piece.{Piece}
-use Rattle.mt_box.specs.Rows.{piece_values}
+use Rattle.mt_box.specs.Rows.{PieceValue}
+use Rattle.mt_pieces.specs.declared.runs.PieceAt.{PieceAt}
+use Rattle.mt_pieces.specs.Runs.{IsAt}
 use Rattle.mt_rules.specs.declared.style.Style.{Style}
 use Rattle.mt_rules.specs.Styles.{size_of}
-use Rattle.mt_rules.specs.Setting.{◌>>=◌, make_row}
+use Rattle.mt_rules.specs.Setting.{Setting, ◌>>=◌, make_row}
 use Rattle.mt_rules.specs.Delimiters.{boundary_size}
 use Rattle.mt_convert.specs.declared.flat.current.Current.{Current}
 use Rattle.mt_convert.specs.declared.fault.SetFault.{SetFault}
-use Rattle.mt_convert.specs.declared.half.Half.{Half}
+use Rattle.mt_convert.specs.declared.placed.PlacedHalf.{PlacedHalf}
 use Rattle.mt_convert.specs.Current.{opening}
-use Rattle.mt_convert.specs.Halves.{HalfValue, class_to_left}
+use Rattle.mt_convert.specs.Halves.{HalfValue}
 use Rattle.mt_convert.specs.Calls.{SetFails}
-use Rattle.mt_convert.specs.Halfway.{half_value, half_values, RowFits, HalfFits, HalvesFit, AllMeet, MayMeet, count_of, total_of}
+use Rattle.mt_convert.specs.Halfway.{AllMeet, MayMeet}
 use Rattle.mt_convert.specs.SecondPass.{all_pieces, half_pieces, current_after_half, row_of_halves, second_pass_of}
 use Rattle.mt_convert.specs.inner.Appending.{appended_to}
+use Rattle.mt_convert.specs.inner.OnPieces.{RowOn, SetsRowOn, TestsRow}
+use Rattle.mt_convert.specs.inner.Placed.{placed_value, placed_values, placed_length, placed_count, placed_left, PlacedFits, AllPlacedFit, PlacesIn}
 use Rattle.mt_convert.proofs.Appending.{appended_nil, appended_end, appended_step, appended_err, fails_on}
-use Rattle.mt_convert.proofs.Fitting.{fits_nil}
+use Rattle.mt_convert.proofs.FewPieces.{all_few}
+use Rattle.mt_convert.proofs.Settling.{left_is}
 
--- the pieces of the whole list are those so far, and then those of the rest
-pub record SoFar (fonts : SetValue) (size : Size) (wanted : ℤ) (style : Style) (whole : List Half) (current : Current) (rest : List Half) (pieces : List Piece) : Type 0 where
-  pub whole_is : all_pieces fonts size wanted (opening style) (half_values whole) ≡ appended_to (piece_values pieces) (all_pieces fonts size wanted current (half_values rest))
-  pub meet : AllMeet current.last (half_values rest)
-  pub few : length pieces + total_of rest + 2 * length rest ≤ 2 ^ 21
-  pub fits : (n : ℕ) → 2 ≤ n → HalvesFit n whole → RowFits n pieces × HalvesFit n rest
+-- The pieces of the whole list are those that are put, and then those of the rest, whose own pieces begin at the place.
+pub record PutSoFar (fonts : SetValue) (size : Size) (wanted : ℤ) (style : Style) (items : List PlacedHalf) (first : ℕ) (old : List PieceValue) (current : Current) (rest : List PlacedHalf) (from : PieceAt) (now : List PieceValue) : Type 0 where
+  pub is_at : IsAt from now
+  pub done : List PieceValue
+  pub stays : now ≡ old ++ done
+  pub whole_is : all_pieces fonts size wanted (opening style) (placed_values items (drop first old)) ≡ appended_to done (all_pieces fonts size wanted current (placed_values rest (drop from.piece old)))
+  pub room : from.piece + placed_count rest ≡ length old
+  pub meet : AllMeet current.last (placed_values rest (drop from.piece old))
+  pub fit : AllPlacedFit rest
 
-pub so_far_start : (fonts : SetValue) (size : Size) (wanted : ℤ) (style : Style) (whole : List Half) (current : Current) (rest : List Half) (pieces : List Piece) → AllMeet None (half_values whole) → length whole ≤ 2 ^ 19 → total_of whole ≤ 2 ^ 20 → current ≡ opening style → rest ≡ whole → pieces ≡ [] → SoFar fonts size wanted style whole current rest pieces
-so_far_start fonts size wanted style whole current rest pieces meet few total c e g = rw (c, e, g) (record {
-  whole_is = sym (appended_nil _);
-  meet = meet;
-  few = omega (arith, few, total);
-  fits = λ n le k. (fits_nil n, k);
-})
+pub put_start : (fonts : SetValue) (size : Size) (wanted : ℤ) (style : Style) (items : List PlacedHalf) (first : ℕ) (old : List PieceValue) (current : Current) (from : PieceAt) → first ≤ length old → PlacesIn items (drop first old) → current ≡ opening style → IsAt from old → from.piece ≡ min first (length old)
+    → PutSoFar fonts size wanted style items first old current items from old
+put_start fonts size wanted style items first old current from le p c at n =
+    let e : from.piece ≡ first = omega (arith, n, le) in
+    rw c (record {
+      is_at = at;
+      done = [];
+      stays = sym (append-nil old);
+      whole_is = sym (appended_nil _ ∙ ap (λ k. all_pieces fonts size wanted (opening style) (placed_values items (drop k old))) e);
+      room = omega (arith, le, p.count, length-drop first old, e);
+      meet = subst (λ k. AllMeet None (placed_values items (drop k old))) (sym e) p.meet;
+      fit = p.fit;
+    })
 
-pub next_meets : (fonts : SetValue) (size : Size) (wanted : ℤ) (style : Style) (whole : List Half) (current : Current) (rest : List Half) (pieces : List Piece) (h : Half) (rest' : List Half) → SoFar fonts size wanted style whole current rest pieces → rest ≡ h ∷ rest' → MayMeet current.last (class_to_left (half_value h))
-next_meets fonts size wanted style whole current rest pieces h rest' s e =
-    let s' : SoFar fonts size wanted style whole current (h ∷ rest') pieces = subst (λ r. SoFar fonts size wanted style whole current r pieces) e s in
-    s'.meet.0
+-- what putting the next item needs
+pub record NextPut (current : Current) (h : PlacedHalf) (at : ℕ) (old : List PieceValue) : Type 0 where
+  pub meets : MayMeet current.last (placed_left h)
+  pub fits : PlacedFits h
+  pub room : at + placed_length h ≤ length old
 
-pub so_far_step : (fonts : SetValue) (size : Size) (wanted : ℤ) (style : Style) (whole : List Half) (current current' : Current) (rest : List Half) (pieces pieces' : List Piece) (h : Half) (rest' : List Half) → SoFar fonts size wanted style whole current rest pieces → rest ≡ h ∷ rest' → appended_to (piece_values pieces) (half_pieces fonts size wanted current (half_value h)) ≡ Ok (piece_values pieces') → current' ≡ current_after_half current (half_value h) → length pieces' ≤ length pieces + count_of h + 2 → ((n : ℕ) → 2 ≤ n → HalfFits n h → RowFits n pieces → RowFits n pieces') → SoFar fonts size wanted style whole current' rest' pieces'
-so_far_step fonts size wanted style whole current current' rest pieces pieces' h rest' s e made eq few fits =
-    let s' : SoFar fonts size wanted style whole current (h ∷ rest') pieces = subst (λ r. SoFar fonts size wanted style whole current r pieces) e s in
-    rw eq (record {
-      whole_is = s'.whole_is ∙ appended_step (piece_values pieces) (piece_values pieces') (half_pieces fonts size wanted current (half_value h)) (all_pieces fonts size wanted (current_after_half current (half_value h)) (half_values rest')) made;
-      meet = s'.meet.1;
-      few = omega (arith, s'.few, few);
-      fits = λ n le k. let g = s'.fits n le k in (fits n le g.1.0 g.0, g.1.1);
+pub next_put : (fonts : SetValue) (size : Size) (wanted : ℤ) (style : Style) (items : List PlacedHalf) (first : ℕ) (old : List PieceValue) (current : Current) (rest : List PlacedHalf) (from : PieceAt) (now : List PieceValue) (h : PlacedHalf) (rest' : List PlacedHalf) → (s : PutSoFar fonts size wanted style items first old current rest from now) → rest ≡ h ∷ rest'
+    → NextPut current h from.piece old
+next_put fonts size wanted style items first old current rest from now h rest' s e =
+    let room : from.piece + placed_count (h ∷ rest') ≡ length old = ap (λ r. from.piece + placed_count r) (sym e) ∙ s.room in
+    let meet : AllMeet current.last (placed_values (h ∷ rest') (drop from.piece old)) = subst (λ r. AllMeet current.last (placed_values r (drop from.piece old))) e s.meet in
+    record {
+      meets = subst (MayMeet current.last) (left_is h (drop from.piece old)) meet.0;
+      fits = (subst AllPlacedFit e s.fit).0;
+      room = omega (arith, room);
+    }
+
+pub put_step : (fonts : SetValue) (size : Size) (wanted : ℤ) (style : Style) (items : List PlacedHalf) (first : ℕ) (old : List PieceValue) (current current' : Current) (rest : List PlacedHalf) (from from' : PieceAt) (now now' : List PieceValue) (h : PlacedHalf) (rest' : List PlacedHalf) → (s : PutSoFar fonts size wanted style items first old current rest from now) → rest ≡ h ∷ rest'
+    → RowOn now now' (half_pieces fonts size wanted current (placed_value h (drop from.piece old))) → IsAt from' now' → (from.piece + placed_length h ≤ length now → from'.piece ≡ from.piece + placed_length h) → current' ≡ current_after_half current (placed_value h (drop from.piece old))
+    → PutSoFar fonts size wanted style items first old current' rest' from' now'
+put_step fonts size wanted style items first old current current' rest from from' now now' h rest' s e m at p c =
+    let next = from.piece + placed_length h in
+    let n : from'.piece ≡ next = p (omega (arith, ap (λ r. from.piece + placed_count r) (sym e) ∙ s.room, ap length s.stays, length-append old s.done)) in
+    let half = placed_value h (drop from.piece old) in
+    let dropped : drop (placed_length h) (drop from.piece old) ≡ drop from'.piece old = drop-drop (placed_length h) from.piece old ∙ ap (λ k. drop k old) (sym n) in
+    let room : from.piece + placed_count (h ∷ rest') ≡ length old = ap (λ r. from.piece + placed_count r) (sym e) ∙ s.room in
+    let meet : AllMeet current.last (placed_values (h ∷ rest') (drop from.piece old)) = subst (λ r. AllMeet current.last (placed_values r (drop from.piece old))) e s.meet in
+    rw c (record {
+      is_at = at;
+      done = s.done ++ m.row;
+      stays = m.stays ∙ (ap (λ x. x ++ m.row) s.stays ∙ append_assoc old s.done m.row);
+      whole_is =
+          s.whole_is
+          ∙ (ap (λ r. appended_to s.done (all_pieces fonts size wanted current (placed_values r (drop from.piece old)))) e
+          ∙ (appended_step s.done (s.done ++ m.row) (half_pieces fonts size wanted current half) (all_pieces fonts size wanted (current_after_half current half) (placed_values rest' (drop (placed_length h) (drop from.piece old)))) (ap (λ r. appended_to s.done r) m.is)
+          ∙ ap (λ r. appended_to (s.done ++ m.row) (all_pieces fonts size wanted (current_after_half current half) (placed_values rest' r))) dropped));
+      room = omega (arith, room, n);
+      meet = subst (λ r. AllMeet (current_after_half current half).last (placed_values rest' r)) dropped meet.1;
+      fit = (subst AllPlacedFit e s.fit).1;
     })
 
 -- a fault of an item is the fault of the list
-pub so_far_err : (fonts : SetValue) (size : Size) (wanted : ℤ) (style : Style) (whole : List Half) (current : Current) (rest : List Half) (pieces : List Piece) (h : Half) (rest' : List Half) (e : SetFault) → SoFar fonts size wanted style whole current rest pieces → rest ≡ h ∷ rest' → SetFails e (half_pieces fonts size wanted current (half_value h)) → SetFails e (row_of_halves fonts size wanted style (half_values whole))
-so_far_err fonts size wanted style whole current rest pieces h rest' e s eq fails =
-    let s' : SoFar fonts size wanted style whole current (h ∷ rest') pieces = subst (λ r. SoFar fonts size wanted style whole current r pieces) eq s in
-    fails_on e (half_pieces fonts size wanted current (half_value h)) (row_of_halves fonts size wanted style (half_values whole)) fails
-    (λ f k. ap (λ r. r >>= make_row) (s'.whole_is ∙ appended_err (piece_values pieces) (half_pieces fonts size wanted current (half_value h)) (all_pieces fonts size wanted (current_after_half current (half_value h)) (half_values rest')) f k))
+pub put_err : (fonts : SetValue) (size : Size) (wanted : ℤ) (style : Style) (items : List PlacedHalf) (first : ℕ) (old : List PieceValue) (current : Current) (rest : List PlacedHalf) (from : PieceAt) (now : List PieceValue) (h : PlacedHalf) (rest' : List PlacedHalf) (fault : SetFault) → (s : PutSoFar fonts size wanted style items first old current rest from now) → rest ≡ h ∷ rest'
+    → SetFails fault (half_pieces fonts size wanted current (placed_value h (drop from.piece old))) → SetFails fault (all_pieces fonts size wanted (opening style) (placed_values items (drop first old)))
+put_err fonts size wanted style items first old current rest from now h rest' fault s e fails =
+    let half = placed_value h (drop from.piece old) in
+    fails_on fault (half_pieces fonts size wanted current half) (all_pieces fonts size wanted (opening style) (placed_values items (drop first old))) fails
+    (λ f k. s.whole_is
+    ∙ (ap (λ r. appended_to s.done (all_pieces fonts size wanted current (placed_values r (drop from.piece old)))) e
+    ∙ appended_err s.done (half_pieces fonts size wanted current half) (all_pieces fonts size wanted (current_after_half current half) (placed_values rest' (drop (placed_length h) (drop from.piece old)))) f k))
 
-pub so_far_end : (fonts : SetValue) (size : Size) (wanted : ℤ) (style : Style) (whole : List Half) (current : Current) (rest : List Half) (pieces : List Piece) → SoFar fonts size wanted style whole current rest pieces → rest ≡ [] → row_of_halves fonts size wanted style (half_values whole) ≡ make_row (piece_values pieces)
-so_far_end fonts size wanted style whole current rest pieces s eq =
-    let s' : SoFar fonts size wanted style whole current [] pieces = subst (λ r. SoFar fonts size wanted style whole current r pieces) eq s in
-    ap (λ r. r >>= make_row) (s'.whole_is ∙ appended_end (piece_values pieces))
+pub put_end : (fonts : SetValue) (size : Size) (wanted : ℤ) (style : Style) (items : List PlacedHalf) (first : ℕ) (old : List PieceValue) (current : Current) (rest : List PlacedHalf) (from : PieceAt) (now : List PieceValue) → PutSoFar fonts size wanted style items first old current rest from now → rest ≡ []
+    → RowOn old now (all_pieces fonts size wanted (opening style) (placed_values items (drop first old)))
+put_end fonts size wanted style items first old current rest from now s e = record {
+  row = s.done;
+  is = s.whole_is ∙ (ap (λ r. appended_to s.done (all_pieces fonts size wanted current (placed_values r (drop from.piece old)))) e ∙ appended_end s.done);
+  stays = s.stays;
+}
 
--- what the finished row keeps
-pub record Finished (whole : List Half) (pieces : List Piece) : Type 0 where
-  pub few : length pieces ≤ 2 ^ 21
-  pub fits : (n : ℕ) → 2 ≤ n → HalvesFit n whole → RowFits n pieces
+-- ---- the pieces of the items go
 
-pub finished : (fonts : SetValue) (size : Size) (wanted : ℤ) (style : Style) (whole : List Half) (current : Current) (rest : List Half) (pieces : List Piece) → SoFar fonts size wanted style whole current rest pieces → Finished whole pieces
-finished fonts size wanted style whole current rest pieces s = record { few = omega (arith, s.few); fits = λ n le k. (s.fits n le k).0 }
+pub items_gone : (first count : ℕ) (old mid new : List PieceValue) (setting : Setting (List PieceValue)) → first ≤ length old → first + count ≡ length old → RowOn old mid setting → new ≡ take first mid ++ drop (first + count) mid
+    → RowOn (take first old) new setting
+items_gone first count old mid new setting le c m e = record {
+  row = m.row;
+  is = m.is;
+  stays =
+      e
+      ∙ (ap (λ z. take first z ++ drop (first + count) z) m.stays
+      ∙ (ap (λ z. z ++ drop (first + count) (old ++ m.row)) (take-append-le first old m.row le)
+      ∙ ap (λ z. take first old ++ z) (drop_at old m.row (first + count) (sym c))));
+}
+
+-- ---- the row is tested
+
+pub always : {U : Type 0} (r : Result U SetFault) (P : Type 0) → P → OnOk r P
+always (Ok u) P p = p
+always (Err e) P p = tt
+
+-- the row of a list is what is behind the pieces that stay
+row_behind : (first : ℕ) (old mid : List PieceValue) (setting : Setting (List PieceValue)) → first ≤ length old → (m : RowOn (take first old) mid setting) → drop first mid ≡ m.row
+row_behind first old mid setting le m = ap (drop first) m.stays ∙ drop_at (take first old) m.row first (length-take-le first old le)
+
+pub row_few : (fonts : SetValue) (size : Size) (wanted : ℤ) (style : Style) (items : List PlacedHalf) (first : ℕ) (old mid : List PieceValue) → first ≤ length old → PlacesIn items (drop first old)
+    → RowOn (take first old) mid (all_pieces fonts size wanted (opening style) (placed_values items (drop first old))) → length (drop first mid) ≤ 2 ^ 21
+row_few fonts size wanted style items first old mid le p m =
+    let few = all_few fonts size wanted (opening style) items (drop first old) m.row m.is in
+    omega (arith, few, p.count, p.total, p.few, ap length (row_behind first old mid _ le m))
+
+pub row_tested : {U : Type 0} (r : Result U SetFault) (fonts : SetValue) (size : Size) (wanted : ℤ) (style : Style) (halves : List HalfValue) (first : ℕ) (old mid : List PieceValue) → first ≤ length old
+    → RowOn (take first old) mid (all_pieces fonts size wanted (opening style) halves) → TestsRow r (drop first mid) → SetsRowOn r (take first old) mid (row_of_halves fonts size wanted style halves)
+row_tested (Ok u) fonts size wanted style halves first old mid le m t = record {
+  row = m.row;
+  is = ap (λ s. s >>= make_row) m.is ∙ subst (λ z. make_row z ≡ Ok z) (row_behind first old mid _ le m) t;
+  stays = m.stays;
+}
+row_tested (Err fault) fonts size wanted style halves first old mid le m t =
+    subst (SetFails fault) (ap make_row (row_behind first old mid _ le m) ∙ sym (ap (λ s. s >>= make_row) m.is)) t
 
 -- the frame of the code is that of the list
-pub second_is : (fonts : SetValue) (style : Style) (size : Size) (wanted x y height depth : ℤ) (items : List HalfValue) → size ≡ size_of style → wanted ≡ boundary_size fonts (size_of style) x y → x ≡ height → y ≡ depth → row_of_halves fonts size wanted style items ≡ second_pass_of fonts style (record { items = items; height = height; depth = depth })
+pub second_is : (fonts : SetValue) (style : Style) (size : Size) (wanted height depth : ℤ) (items : List HalfValue) → size ≡ size_of style → wanted ≡ boundary_size fonts (size_of style) height depth
+    → row_of_halves fonts size wanted style items ≡ second_pass_of fonts style (record { items = items; height = height; depth = depth })
 unfolding second_pass_of
-second_is fonts style size wanted x y height depth items e g p q =
-    ap (λ s. row_of_halves fonts s wanted style items) e
-    ∙ ap (λ w. row_of_halves fonts (size_of style) w style items)
-    (g ∙ (ap (λ v. boundary_size fonts (size_of style) v y) p ∙ ap (λ v. boundary_size fonts (size_of style) height v) q))
+second_is fonts style size wanted height depth items e g = ap (λ s. row_of_halves fonts s wanted style items) e ∙ ap (λ w. row_of_halves fonts (size_of style) w style items) g

@@ -1,43 +1,47 @@
--- Classes settled from the right, item by item (`settle_start`, `settle_turn`, `settle_end`), and what a list keeps by it (`is_halfway`).
-use Rattle.std.proofs.Common.{◌≡◌, ℕ, ◌+◌, ◌-◌, ◌<◌, ◌≤◌, ◌≤ℤ◌, ◌^◌, get_or, subst, List, [], ◌∷◌, ◌++◌, length, take, drop, ap, sym, ◌∙◌, refl, arith, append_assoc, Option, Some, None, ℤ, pos}
+-- Classes settled from the right, item by item (`settle_turn`, `settle_end`), and what a list keeps by it (`finishes`).
+use Rattle.std.proofs.Common.{◌≡◌, ℕ, ◌+◌, ◌-◌, ◌<◌, ◌≤◌, ◌≤ℤ◌, get_or, subst, List, [], ◌∷◌, ◌++◌, length, take, drop, ap, sym, ◌∙◌, refl, arith, append_assoc, Option, Some, None, pos}
 use Rattle.std.proofs.lemmas.Int.{ints, clamps}
 use Rattle.std.proofs.lemmas.List.{take-set, drop-set, take_more}
 use Rattle.std.proofs.Math.ListN.{set}
 use Rattle.std.specs.Option.{option_or}
 use Rattle.mt_scaled.specs.Number.{max_dimen}
+use Rattle.mt_box.specs.Rows.{PieceValue}
 use Rattle.mt_rules.specs.declared.class.Class.{Class}
 use Rattle.mt_rules.specs.declared.class.Class.TheVariants.{Open, Close}
 use Rattle.mt_rules.specs.Classes.{settled_of}
-use Rattle.mt_convert.specs.declared.half.Half.{Half}
-use Rattle.mt_convert.specs.declared.half.Half.TheVariants as half
+use Rattle.mt_convert.specs.declared.placed.PlacedHalf.{PlacedHalf}
+use Rattle.mt_convert.specs.declared.placed.PlacedHalf.TheVariants as placed
+use Rattle.mt_convert.specs.declared.placed.PlacedHalves.{PlacedHalves}
+use Rattle.mt_convert.specs.declared.set.settle.Reach.{Reach}
 use Rattle.mt_convert.specs.Halves.{HalfValue, HalfAtom, HalfLeft, HalfMiddle, HalfRight, HalfStyle, HalfKern, HalfSpace, class_to_left, next_class, settled_half, settled_halves, greatest_height, greatest_depth, settle}
-use Rattle.mt_convert.specs.Halfway.{half_value, half_values, halves_value, BoundariesOutside, HalvesFit, IsHalfway, AllMeet, MayMeet, HalfFits, count_of, total_of}
-use Rattle.mt_convert.specs.inner.Settling.{settled_item, settled_items, CanFollow, AllCanFollow}
+use Rattle.mt_convert.specs.Halfway.{BoundariesOutside, AllMeet, MayMeet}
+use Rattle.mt_convert.specs.inner.Placed.{placed_value, placed_values, placed_length, placed_count, placed_left, PlacedFits, AllPlacedFit}
+use Rattle.mt_convert.specs.inner.Settling.{settled_item, settled_items, next_placed, CanFollow, AllCanFollow, CanFinish, Finishes}
 use Rattle.mt_convert.proofs.Remaining.{boundaries_settled}
 
 -- ---- from the right
 
 -- the first class of these items, or else that of the next atom after them
-abbrev pub class_before : List Half → Option Class → Option Class
+abbrev pub class_before : List PlacedHalf → Option Class → Option Class
 class_before [] after = after
-class_before (h ∷ hs) after = option_or (class_to_left (half_value h)) (class_before hs after)
+class_before (h ∷ hs) after = option_or (placed_left h) (class_before hs after)
 
-abbrev pub settled_before : Option Class → List Half → List Half
+abbrev pub settled_before : Option Class → List PlacedHalf → List PlacedHalf
 settled_before after [] = []
 settled_before after (h ∷ hs) = settled_item h (class_before hs after) ∷ settled_before after hs
 
-class_before-snoc : (hs : List Half) (h : Half) (after : Option Class) → class_before (hs ++ h ∷ []) after ≡ class_before hs (option_or (class_to_left (half_value h)) after)
+class_before-snoc : (hs : List PlacedHalf) (h : PlacedHalf) (after : Option Class) → class_before (hs ++ h ∷ []) after ≡ class_before hs (option_or (placed_left h) after)
 class_before-snoc [] h after = refl
-class_before-snoc (g ∷ hs) h after = ap (λ c. option_or (class_to_left (half_value g)) c) (class_before-snoc hs h after)
+class_before-snoc (g ∷ hs) h after = ap (λ c. option_or (placed_left g) c) (class_before-snoc hs h after)
 
-settled-snoc : (hs : List Half) (h : Half) (after : Option Class) → settled_before after (hs ++ h ∷ []) ≡ settled_before (option_or (class_to_left (half_value h)) after) hs ++ settled_item h after ∷ []
+settled-snoc : (hs : List PlacedHalf) (h : PlacedHalf) (after : Option Class) → settled_before after (hs ++ h ∷ []) ≡ settled_before (option_or (placed_left h) after) hs ++ settled_item h after ∷ []
 settled-snoc [] h after = refl
-settled-snoc (g ∷ hs) h after = rw (class_before-snoc hs h after) (ap (λ xs. settled_item g (class_before hs (option_or (class_to_left (half_value h)) after)) ∷ xs) (settled-snoc hs h after))
+settled-snoc (g ∷ hs) h after = rw (class_before-snoc hs h after) (ap (λ xs. settled_item g (class_before hs (option_or (placed_left h) after)) ∷ xs) (settled-snoc hs h after))
 
-settle_at : (hs : List Half) (k : ℕ) (d x : Half) (after : Option Class) (whole : List Half) → k < length hs → get_or hs k d ≡ x → settled_before after (take (k + 1) hs) ++ drop (k + 1) hs ≡ whole → settled_before (option_or (class_to_left (half_value x)) after) (take k (set hs k (settled_item x after))) ++ drop k (set hs k (settled_item x after)) ≡ whole
+settle_at : (hs : List PlacedHalf) (k : ℕ) (d x : PlacedHalf) (after : Option Class) (whole : List PlacedHalf) → k < length hs → get_or hs k d ≡ x → settled_before after (take (k + 1) hs) ++ drop (k + 1) hs ≡ whole → settled_before (option_or (placed_left x) after) (take k (set hs k (settled_item x after))) ++ drop k (set hs k (settled_item x after)) ≡ whole
 settle_at hs k d x after whole lt e h =
     let y = settled_item x after in
-    let b = option_or (class_to_left (half_value x)) after in
+    let b = option_or (placed_left x) after in
     ap (λ t. settled_before b t ++ drop k (set hs k y)) (take-set hs k y)
     ∙ (ap (λ t. settled_before b (take k hs) ++ t) (drop-set hs k y lt)
     ∙ (sym (append_assoc (settled_before b (take k hs)) (y ∷ []) (drop (k + 1) hs))
@@ -46,40 +50,83 @@ settle_at hs k d x after whole lt e h =
     ∙ (ap (λ t. settled_before after t ++ drop (k + 1) hs) (sym (take_more hs k d lt)) ∙ h)))))
 
 -- one turn of the loop
-pub settle_turn : (hs : List Half) (i : ℕ) (d x y : Half) (after next : Option Class) (whole : List Half) → 0 < i → i ≤ length hs → get_or hs (i - 1) d ≡ x → y ≡ settled_item x after → next ≡ option_or (class_to_left (half_value x)) after → settled_before after (take i hs) ++ drop i hs ≡ whole → settled_before next (take (i - 1) (set hs (i - 1) y)) ++ drop (i - 1) (set hs (i - 1) y) ≡ whole
+pub settle_turn : (hs : List PlacedHalf) (i : ℕ) (d x y : PlacedHalf) (after next : Option Class) (whole : List PlacedHalf) → 0 < i → i ≤ length hs → get_or hs (i - 1) d ≡ x → y ≡ settled_item x after → next ≡ option_or (placed_left x) after → settled_before after (take i hs) ++ drop i hs ≡ whole → settled_before next (take (i - 1) (set hs (i - 1) y)) ++ drop (i - 1) (set hs (i - 1) y) ≡ whole
 settle_turn hs i d x y after next whole low le e f g h =
     let n : i ≡ i - 1 + 1 = omega arith in
-    rw g (subst (λ v. settled_before (option_or (class_to_left (half_value x)) after) (take (i - 1) (set hs (i - 1) v)) ++ drop (i - 1) (set hs (i - 1) v) ≡ whole) (sym f)
+    rw g (subst (λ v. settled_before (option_or (placed_left x) after) (take (i - 1) (set hs (i - 1) v)) ++ drop (i - 1) (set hs (i - 1) v) ≡ whole) (sym f)
     (settle_at hs (i - 1) d x after whole (omega arith) e (subst (λ m. settled_before after (take m hs) ++ drop m hs ≡ whole) n h)))
 
-class_before_none : (hs : List Half) → class_before hs None ≡ next_class (half_values hs)
+class_before_none : (hs : List PlacedHalf) → class_before hs None ≡ next_placed hs
 class_before_none [] = refl
-class_before_none (h ∷ hs) = ap (λ c. option_or (class_to_left (half_value h)) c) (class_before_none hs)
+class_before_none (h ∷ hs) = ap (λ c. option_or (placed_left h) c) (class_before_none hs)
 
 -- from the last one on
-settled_all : (hs : List Half) → settled_before None hs ≡ settled_items hs
+settled_all : (hs : List PlacedHalf) → settled_before None hs ≡ settled_items hs
 settled_all [] = refl
 settled_all (h ∷ hs) = rw (class_before_none hs, settled_all hs) refl
 
-pub settle_end : (hs : List Half) (i : ℕ) (after : Option Class) (whole : List Half) → i ≡ 0 → settled_before after (take i hs) ++ drop i hs ≡ settled_before None whole → hs ≡ settled_items whole
+pub settle_end : (hs : List PlacedHalf) (i : ℕ) (after : Option Class) (whole : List PlacedHalf) → i ≡ 0 → settled_before after (take i hs) ++ drop i hs ≡ settled_before None whole → hs ≡ settled_items whole
 settle_end hs i after whole z h = subst (λ n. settled_before after (take n hs) ++ drop n hs ≡ settled_before None whole) z h ∙ settled_all whole
 
 -- ---- what a list keeps
 
-item_settled : (h : Half) (after : Option Class) → half_value (settled_item h after) ≡ settled_half (half_value h) after
-item_settled (half.Set c r) after = refl
-item_settled (half.Left d) after = refl
-item_settled (half.Middle d) after = refl
-item_settled (half.Right d) after = refl
-item_settled (half.Style s) after = refl
-item_settled (half.Kern k) after = refl
-item_settled (half.Space g) after = refl
+-- what an item counts as does not depend on its pieces
+pub left_is : (h : PlacedHalf) (row : List PieceValue) → class_to_left (placed_value h row) ≡ placed_left h
+left_is (placed.Set c n) row = refl
+left_is (placed.Left d) row = refl
+left_is (placed.Middle d) row = refl
+left_is (placed.Right d) row = refl
+left_is (placed.Style s) row = refl
+left_is (placed.Kern k) row = refl
+left_is (placed.Space g) row = refl
 
-pub values_settled : (hs : List Half) → half_values (settled_items hs) ≡ settled_halves (half_values hs)
-values_settled [] = refl
-values_settled (h ∷ hs) =
-    ap (λ x. x ∷ half_values (settled_items hs)) (item_settled h (next_class (half_values hs)))
-    ∙ ap (λ xs. settled_half (half_value h) (next_class (half_values hs)) ∷ xs) (values_settled hs)
+next_is : (hs : List PlacedHalf) (row : List PieceValue) → next_class (placed_values hs row) ≡ next_placed hs
+next_is [] row = refl
+next_is (h ∷ hs) row = rw (left_is h row, next_is hs (drop (placed_length h) row)) refl
+
+item_settled : (h : PlacedHalf) (after : Option Class) (row : List PieceValue) → placed_value (settled_item h after) row ≡ settled_half (placed_value h row) after
+item_settled (placed.Set c n) after row = refl
+item_settled (placed.Left d) after row = refl
+item_settled (placed.Middle d) after row = refl
+item_settled (placed.Right d) after row = refl
+item_settled (placed.Style s) after row = refl
+item_settled (placed.Kern k) after row = refl
+item_settled (placed.Space g) after row = refl
+
+item_length : (h : PlacedHalf) (after : Option Class) → placed_length (settled_item h after) ≡ placed_length h
+item_length (placed.Set c n) after = refl
+item_length (placed.Left d) after = refl
+item_length (placed.Middle d) after = refl
+item_length (placed.Right d) after = refl
+item_length (placed.Style s) after = refl
+item_length (placed.Kern k) after = refl
+item_length (placed.Space g) after = refl
+
+item_fits : (h : PlacedHalf) (after : Option Class) → PlacedFits h → PlacedFits (settled_item h after)
+item_fits (placed.Set c n) after k = k
+item_fits (placed.Left d) after k = k
+item_fits (placed.Middle d) after k = k
+item_fits (placed.Right d) after k = k
+item_fits (placed.Style s) after k = k
+item_fits (placed.Kern x) after k = k
+item_fits (placed.Space g) after k = k
+
+values_settled : (hs : List PlacedHalf) (row : List PieceValue) → placed_values (settled_items hs) row ≡ settled_halves (placed_values hs row)
+values_settled [] row = refl
+values_settled (h ∷ hs) row =
+    rw (item_settled h (next_placed hs) row, item_length h (next_placed hs), values_settled hs (drop (placed_length h) row), next_is hs (drop (placed_length h) row)) refl
+
+count_settled : (hs : List PlacedHalf) → placed_count (settled_items hs) ≡ placed_count hs
+count_settled [] = refl
+count_settled (h ∷ hs) = omega (arith, item_length h (next_placed hs), count_settled hs)
+
+length_settled : (hs : List PlacedHalf) → length (settled_items hs) ≡ length hs
+length_settled [] = refl
+length_settled (h ∷ hs) = omega (arith, length_settled hs)
+
+fits_settled : (hs : List PlacedHalf) → AllPlacedFit hs → AllPlacedFit (settled_items hs)
+fits_settled [] k = tt
+fits_settled (h ∷ hs) k = (item_fits h (next_placed hs) k.0, fits_settled hs k.1)
 
 -- the final class of the last atom before
 abbrev pub last_settled : Option Class → Option Class → Option Class
@@ -104,36 +151,6 @@ meet_settled last (HalfStyle s ∷ hs) h = (meets_none (last_settled last (next_
 meet_settled last (HalfKern k ∷ hs) h = (meets_none (last_settled last (next_class hs)), meet_settled last hs h.1)
 meet_settled last (HalfSpace g ∷ hs) h = (meets_none (last_settled last (next_class hs)), meet_settled last hs h.1)
 
-length_settled : (hs : List Half) → length (settled_items hs) ≡ length hs
-length_settled [] = refl
-length_settled (h ∷ hs) = omega (arith, length_settled hs)
-
-item_count : (h : Half) (after : Option Class) → count_of (settled_item h after) ≡ count_of h
-item_count (half.Set c r) after = refl
-item_count (half.Left d) after = refl
-item_count (half.Middle d) after = refl
-item_count (half.Right d) after = refl
-item_count (half.Style s) after = refl
-item_count (half.Kern k) after = refl
-item_count (half.Space g) after = refl
-
-total_settled : (hs : List Half) → total_of (settled_items hs) ≡ total_of hs
-total_settled [] = refl
-total_settled (h ∷ hs) = omega (arith, item_count h (next_class (half_values hs)), total_settled hs)
-
-item_fits : (n : ℕ) (h : Half) (after : Option Class) → HalfFits n h → HalfFits n (settled_item h after)
-item_fits n (half.Set c r) after k = k
-item_fits n (half.Left d) after k = k
-item_fits n (half.Middle d) after k = k
-item_fits n (half.Right d) after k = k
-item_fits n (half.Style s) after k = k
-item_fits n (half.Kern x) after k = k
-item_fits n (half.Space g) after k = k
-
-pub fits_settled : (n : ℕ) (hs : List Half) → HalvesFit n hs → HalvesFit n (settled_items hs)
-fits_settled n [] k = tt
-fits_settled n (h ∷ hs) k = (item_fits n h (next_class (half_values hs)) k.0, fits_settled n hs k.1)
-
 pub height_low : (hs : List HalfValue) → pos 0 ≤ℤ greatest_height hs
 height_low [] = omega (arith, ints)
 height_low (h ∷ hs) = omega (arith, ints, clamps, height_low hs)
@@ -142,28 +159,24 @@ pub depth_low : (hs : List HalfValue) → pos 0 ≤ℤ greatest_depth hs
 depth_low [] = omega (arith, ints)
 depth_low (h ∷ hs) = omega (arith, ints, clamps, depth_low hs)
 
--- what the first pass hands on
-pub record Settles (hs : List Half) : Type 0 where
-  pub boundaries : BoundariesOutside (half_values hs)
-  pub follow : AllCanFollow None (half_values hs)
-  pub few : length hs ≤ 2 ^ 19
-  pub total : total_of hs ≤ 2 ^ 20
-  pub fit : HalvesFit (2 ^ 16) hs
-  pub height : greatest_height (half_values hs) ≤ℤ pos max_dimen
-  pub depth : greatest_depth (half_values hs) ≤ℤ pos max_dimen
-
-pub is_halfway : (hs items : List Half) (x y : ℤ) → Settles hs → items ≡ settled_items hs → x ≡ greatest_height (half_values hs) → y ≡ greatest_depth (half_values hs) → IsHalfway (record { items = items; height = x; depth = y })
-is_halfway hs items x y k e f g = rw (e, f, g) (record {
-  boundaries = subst BoundariesOutside (sym (values_settled hs)) (boundaries_settled (half_values hs) k.boundaries);
-  meet = subst (AllMeet None) (sym (values_settled hs)) (meet_settled None (half_values hs) k.follow);
-  few = omega (arith, length_settled hs, k.few);
-  total = omega (arith, total_settled hs, k.total);
-  fit = fits_settled (2 ^ 16) hs k.fit;
-  height_low = height_low (half_values hs);
-  height_high = k.height;
-  depth_low = depth_low (half_values hs);
-  depth_high = k.depth;
-})
-
-pub is_settled : (hs items : List Half) (x y : ℤ) → items ≡ settled_items hs → x ≡ greatest_height (half_values hs) → y ≡ greatest_depth (half_values hs) → halves_value (record { items = items; height = x; depth = y }) ≡ settle (half_values hs)
-is_settled hs items x y e f g = rw (e, f, g, values_settled hs) refl
+pub finishes : (hs : List PlacedHalf) (reach : Reach) (h : PlacedHalves) (row : List PieceValue) → CanFinish hs reach row → h.items ≡ settled_items hs → h.height.sp ≡ reach.height.sp → h.depth.sp ≡ reach.depth.sp
+    → Finishes h row (settle (placed_values hs row))
+finishes hs reach h row k e f g =
+    let values : placed_values h.items row ≡ settled_halves (placed_values hs row) = ap (λ i. placed_values i row) e ∙ values_settled hs row in
+    record {
+      is = rw (values, f ∙ k.height, g ∙ k.depth) refl;
+      placed = record {
+        items = record {
+          count = ap placed_count e ∙ (count_settled hs ∙ k.count);
+          meet = subst (AllMeet None) (sym values) (meet_settled None (placed_values hs row) k.follow);
+          few = omega (arith, ap length e, length_settled hs, k.few);
+          total = k.total;
+          fit = subst AllPlacedFit (sym e) (fits_settled hs k.fit);
+        };
+        boundaries = subst BoundariesOutside (sym values) (boundaries_settled (placed_values hs row) k.boundaries);
+        height_low = subst (λ z. pos 0 ≤ℤ z) (sym (f ∙ k.height)) (height_low (placed_values hs row));
+        height_high = subst (λ z. z ≤ℤ pos max_dimen) (sym f) k.height_high;
+        depth_low = subst (λ z. pos 0 ≤ℤ z) (sym (g ∙ k.depth)) (depth_low (placed_values hs row));
+        depth_high = subst (λ z. z ≤ℤ pos max_dimen) (sym g) k.depth_high;
+      };
+    }

@@ -2,7 +2,7 @@
 -- come in its place.
 use Rattle.std.specs.Prelude.{◌≡◌, List, Result, Ok, Err, ⊤}
 use Rattle.mt_box.specs.declared.piece.Piece.{Piece}
-use Rattle.mt_box.specs.Rows.{PieceValue, piece_value, piece_values}
+use Rattle.mt_box.specs.Rows.{PieceValue, piece_values}
 use Rattle.mt_rules.specs.Setting.{Setting, MissingFamily, MissingChar, SmartLigature, Overflow, TooTall}
 use Rattle.mt_convert.specs.declared.fault.SetFault.{SetFault}
 use Rattle.mt_convert.specs.declared.fault.SetFault.TheVariants as set
@@ -21,10 +21,6 @@ SetFails set.OutOfMemory setting = ⊤
 abbrev pub SetsRow : Result (List Piece) SetFault → Setting (List PieceValue) → Type 0
 SetsRow (Ok row) setting = setting ≡ Ok (piece_values row)
 SetsRow (Err fault) setting = SetFails fault setting
-
-abbrev pub SetsPiece : Result Piece SetFault → Setting PieceValue → Type 0
-SetsPiece (Ok piece) setting = setting ≡ Ok (piece_value piece)
-SetsPiece (Err fault) setting = SetFails fault setting
 
 abbrev pub SetsHalves : Result HalfwayValue SetFault → Setting Halves → Type 0
 SetsHalves (Ok half) setting = setting ≡ Ok (halves_value half)

@@ -12,8 +12,6 @@ pub mod Spans
 pub mod Boundaries
 -- a stack of items as a list
 pub mod Stack
--- a nucleus of the code
-pub mod Nucleus
 -- the cells of a table that have a column
 pub mod Tables
 -- the clean box of a character
@@ -24,6 +22,13 @@ pub mod LoneAtoms
 pub mod Lengths
 -- final classes in the list of the code
 pub mod Settling
+-- rows and boxes behind the pieces that are there
+pub mod OnPieces
+-- items whose pieces are on a stack
+pub mod Placed
+-- their rows put on a stack, and taken from one
+pub mod Put
+pub mod Taken
 -- what a call inside the crate answers
 pub mod Answers
 -- the steps in which an atom is built

@@ -7,13 +7,17 @@ mod half;
 mod halfway;
 mod laws;
 mod list;
+mod passes;
+mod placed;
+mod placing;
 mod second;
 mod set;
 mod spans;
+mod taking;
 
 pub use fault::SetFault;
 pub use half::{Half, HalfList};
 pub use halfway::Halfway;
 pub use laws::turns_of_a_list_are_enough;
-pub use list::{first_pass, set_list};
+pub use passes::{first_pass, set_list};
 pub use second::pass::second_pass;

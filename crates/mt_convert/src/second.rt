@@ -2,6 +2,7 @@
 //! with spaces and boundaries.
 
 pub mod boundary;
+pub mod join;
 pub mod pass;
 pub mod pieces;
 pub mod space;

@@ -2,3 +2,5 @@
 pub mod Lists
 -- lists that the tests make between boundaries
 pub mod Enclosing
+-- rows for packers
+pub mod Packable

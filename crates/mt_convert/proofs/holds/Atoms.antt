@@ -8,7 +8,6 @@ use Rattle.mt_rules.specs.declared.class.Class.{Class}
 use Rattle.mt_rules.specs.declared.class.Class.TheVariants as classes
 use Rattle.mt_rules.specs.declared.kind.Kind.{Kind}
 use Rattle.mt_rules.specs.declared.kind.Kind.TheVariants.{Plain, Radical, Accent, Over, Under, Vcenter, Veil}
-use Rattle.mt_rules.specs.declared.kind.Limits.{Limits}
 use Rattle.mt_rules.specs.declared.list.Look.{Look}
 use Rattle.mt_rules.specs.declared.list.Look.TheVariants.{Matrix, Equations}
 use Rattle.mt_rules.specs.declared.symbol.Symbol.{Symbol}

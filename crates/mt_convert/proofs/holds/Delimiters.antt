@@ -14,7 +14,7 @@ use Rattle.mt_box.specs.Layout.{Layout}
 use Rattle.mt_box.specs.Rows.{pack}
 use Rattle.mt_rules.specs.declared.symbol.Symbol.{Symbol}
 use Rattle.mt_rules.specs.declared.symbol.Delim.{Delim}
-use Rattle.mt_rules.specs.Setting.{Setting, ◌>>=◌, ◌>>◌, test_extents, make_box}
+use Rattle.mt_rules.specs.Setting.{Setting, ◌>>◌, test_extents, make_box}
 use Rattle.mt_rules.specs.Symbols.{empty_font, font_of_number, extents_without_italic, height_plus_depth}
 use Rattle.mt_rules.specs.Candidates.{Candidate, candidate, chain_candidates, font_candidates, candidates_at, candidates_from, is_no_symbol, symbol_candidates, candidates, fits, first_fit, total_or_zero, tallest_candidate, chosen_candidate}
 use Rattle.mt_rules.specs.Extensibles.{repeats, test_repeats, recipe_piece, recipe_pieces, glyphs_places, first_height, glyphs_layout, test_glyphs, extensible_layout}

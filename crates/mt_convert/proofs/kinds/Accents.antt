@@ -1,24 +1,24 @@
 -- Accents, set step by step.
 use Rattle.std.proofs.Common.{◌≡◌, ℕ, ℤ, ap, sym, ◌∙◌, subst, refl, Bool, List, [], ◌∷◌}
-use Rattle.std.specs.Prelude.{Ok, not, pos}
+use Rattle.std.specs.Prelude.{Ok, Err, IsOk, not, pos}
 use Rattle.mt_family.specs.SetValue.{SetValue}
 use Rattle.mt_family.specs.declared.size.Size.{Size}
 use Rattle.mt_box.specs.declared.extents.Extents.{Extents}
-use Rattle.mt_box.specs.Layout.{BoxValue, Layout, layout_of}
+use Rattle.mt_box.specs.Layout.{Layout}
 use Rattle.mt_box.specs.Rows.{PieceValue, PieceBox}
 use Rattle.mt_rules.specs.declared.style.Style.{Style}
 use Rattle.mt_rules.specs.declared.symbol.Symbol.{Symbol}
 use Rattle.mt_rules.specs.Styles.{size_of, cramped_of}
 use Rattle.mt_rules.specs.Setting.{Setting, ◌>>=◌, make_row, pack_row}
 use Rattle.mt_rules.specs.Symbols.{find_symbol}
-use Rattle.mt_rules.specs.Nuclei.{Content, SymbolContent, OrdinarySymbol, Nucleus, is_empty, clean_symbol, clean_field, nucleus_row, symbol_nucleus}
+use Rattle.mt_rules.specs.Nuclei.{Content, SymbolContent, OrdinarySymbol, is_empty, clean_symbol, clean_field, nucleus_row, symbol_nucleus}
 use Rattle.mt_rules.specs.Accents.{accent}
 use Rattle.mt_rules.specs.AtomRow.{accent_inside, content_skew}
 use Rattle.mt_convert.specs.declared.fault.SetFault.{SetFault}
 use Rattle.mt_convert.specs.Calls.{SetFails}
-use Rattle.mt_convert.specs.inner.AtomSteps.{accent_part, row_with_fields}
+use Rattle.mt_convert.specs.inner.AtomSteps.{accent_part, row_with_fields, symbol_with_scripts}
 use Rattle.mt_convert.proofs.Appending.{fails_then}
-use Rattle.mt_convert.proofs.kinds.Chains.{first_made}
+use Rattle.mt_convert.proofs.kinds.Chains.{first_made, joined}
 
 -- ---- an accent over a nucleus
 
@@ -39,12 +39,12 @@ plain_fails fault fonts style cramped size symbol nucleus font e g f h =
     accent_here (SetFails fault) fonts style size symbol nucleus font e f
     (fails_then fault (clean_field fonts (cramped_of style) nucleus) (over_plain fonts style symbol nucleus font) (subst (λ t. SetFails fault (clean_field fonts t nucleus)) g h))
 
-pub accent_part_made : (P : Setting Layout → Type 0) (fonts : SetValue) (style cramped : Style) (size size' : Size) (symbol : Symbol) (nucleus : Content) (font : ℕ) (body : BoxValue) (skew : ℤ) (extents : Extents) → size ≡ size_of style → size' ≡ size_of style → cramped ≡ cramped_of style → find_symbol fonts size symbol ≡ Ok font → clean_field fonts cramped nucleus ≡ Ok (layout_of body) → skew ≡ content_skew fonts size' nucleus → extents ≡ body.extents → P (accent fonts font symbol.code skew extents (layout_of body)) → P (accent_part fonts style symbol nucleus)
+pub accent_part_made : (P : Setting Layout → Type 0) (fonts : SetValue) (style cramped : Style) (size size' : Size) (symbol : Symbol) (nucleus : Content) (font : ℕ) (body : Layout) (skew : ℤ) (extents : Extents) → size ≡ size_of style → size' ≡ size_of style → cramped ≡ cramped_of style → find_symbol fonts size symbol ≡ Ok font → clean_field fonts cramped nucleus ≡ Ok body → skew ≡ content_skew fonts size' nucleus → extents ≡ body.extents → P (accent fonts font symbol.code skew extents body) → P (accent_part fonts style symbol nucleus)
 accent_part_made P fonts style cramped size size' symbol nucleus font body skew extents e e' g f k s x h =
     accent_here P fonts style size symbol nucleus font e f
-    (first_made P (clean_field fonts (cramped_of style) nucleus) (layout_of body) (over_plain fonts style symbol nucleus font) (ap (λ t. clean_field fonts t nucleus) (sym g) ∙ k)
-    (subst (λ t. P (accent fonts font symbol.code t body.extents (layout_of body))) (s ∙ ap (λ t. content_skew fonts t nucleus) e')
-    (subst (λ t. P (accent fonts font symbol.code skew t (layout_of body))) x h)))
+    (first_made P (clean_field fonts (cramped_of style) nucleus) body (over_plain fonts style symbol nucleus font) (ap (λ t. clean_field fonts t nucleus) (sym g) ∙ k)
+    (subst (λ t. P (accent fonts font symbol.code t body.extents body)) (s ∙ ap (λ t. content_skew fonts t nucleus) e')
+    (subst (λ t. P (accent fonts font symbol.code skew t body)) x h)))
 
 -- ---- an accent over a symbol with scripts
 
@@ -54,23 +54,17 @@ over_body fonts style a s font plain body = accent fonts font a.code (content_sk
 abbrev over_packed_row : SetValue → Style → Symbol → Symbol → ℕ → Layout → List PieceValue → Setting (List PieceValue)
 over_packed_row fonts style a s font plain row = pack_row row >>= over_body fonts style a s font plain
 
-abbrev symbol_with_scripts : SetValue → Style → Symbol → Bool → Content → Content → Setting (List PieceValue)
-symbol_with_scripts fonts style s has_subscript sup sub =
+abbrev symbol_row : SetValue → Style → Symbol → Bool → Content → Content → Setting (List PieceValue)
+symbol_row fonts style s has_subscript sup sub =
     symbol_nucleus fonts (size_of style) s OrdinarySymbol has_subscript >>= (λ n. row_with_fields fonts style n sup sub)
 
 abbrev inside_steps : SetValue → Style → Symbol → Symbol → Bool → Content → Content → Setting (List PieceValue)
 inside_steps fonts style a s has_subscript sup sub =
-    find_symbol fonts (size_of style) a >>= (λ font. clean_symbol fonts (cramped_of style) s >>= (λ plain. symbol_with_scripts fonts style s has_subscript sup sub >>= over_packed_row fonts style a s font plain))
+    find_symbol fonts (size_of style) a >>= (λ font. clean_symbol fonts (cramped_of style) s >>= (λ plain. symbol_row fonts style s has_subscript sup sub >>= over_packed_row fonts style a s font plain))
 
 inside_is : (fonts : SetValue) (style : Style) (a s : Symbol) (sup sub : Content) → accent_inside fonts style a (SymbolContent s) sup sub ≡ inside_steps fonts style a s (not (is_empty sub)) sup sub
 unfolding clean_field nucleus_row
 inside_is fonts style a s sup sub = refl
-
--- what the calls of an accent over a symbol are given
-pub record InsideArgs (fonts : SetValue) (style : Style) (cramped : Style) (size : Size) (sub : Content) (has_subscript : Bool) : Type 0 where
-  pub cramped_is : cramped ≡ cramped_of style
-  pub size_is : size ≡ size_of style
-  pub subscript : has_subscript ≡ not (is_empty sub)
 
 pub inside_finding_fails : (fault : SetFault) (fonts : SetValue) (style : Style) (size : Size) (a s : Symbol) (sup sub : Content) → size ≡ size_of style → SetFails fault (find_symbol fonts size a) → SetFails fault (accent_inside fonts style a (SymbolContent s) sup sub)
 inside_finding_fails fault fonts style size a s sup sub e h =
@@ -80,52 +74,47 @@ inside_finding_fails fault fonts style size a s sup sub e h =
 pub inside_plain_fails : (fault : SetFault) (fonts : SetValue) (style cramped : Style) (size : Size) (a s : Symbol) (sup sub : Content) (font : ℕ) → size ≡ size_of style → cramped ≡ cramped_of style → find_symbol fonts size a ≡ Ok font → SetFails fault (clean_symbol fonts cramped s) → SetFails fault (accent_inside fonts style a (SymbolContent s) sup sub)
 inside_plain_fails fault fonts style cramped size a s sup sub font e g f h =
     subst (SetFails fault) (sym (inside_is fonts style a s sup sub))
-    (first_made (SetFails fault) (find_symbol fonts (size_of style) a) font (λ n. clean_symbol fonts (cramped_of style) s >>= (λ plain. symbol_with_scripts fonts style s (not (is_empty sub)) sup sub >>= over_packed_row fonts style a s n plain)) (ap (λ t. find_symbol fonts t a) (sym e) ∙ f)
+    (first_made (SetFails fault) (find_symbol fonts (size_of style) a) font (λ n. clean_symbol fonts (cramped_of style) s >>= (λ plain. symbol_row fonts style s (not (is_empty sub)) sup sub >>= over_packed_row fonts style a s n plain)) (ap (λ t. find_symbol fonts t a) (sym e) ∙ f)
     (fails_then fault (clean_symbol fonts (cramped_of style) s) _ (subst (λ t. SetFails fault (clean_symbol fonts t s)) g h)))
 
-inside_here : (P : Setting (List PieceValue) → Type 0) (fonts : SetValue) (style cramped : Style) (size : Size) (a s : Symbol) (has_subscript : Bool) (sup sub : Content) (font : ℕ) (plain : Layout) → InsideArgs fonts style cramped size sub has_subscript → find_symbol fonts size a ≡ Ok font → clean_symbol fonts cramped s ≡ Ok plain → P (symbol_with_scripts fonts style s has_subscript sup sub >>= over_packed_row fonts style a s font plain) → P (accent_inside fonts style a (SymbolContent s) sup sub)
-inside_here P fonts style cramped size a s has_subscript sup sub font plain args f k h =
-    subst P (ap (λ b. inside_steps fonts style a s b sup sub) args.subscript ∙ sym (inside_is fonts style a s sup sub))
-    (first_made P (find_symbol fonts (size_of style) a) font (λ n. clean_symbol fonts (cramped_of style) s >>= (λ p. symbol_with_scripts fonts style s has_subscript sup sub >>= over_packed_row fonts style a s n p)) (ap (λ t. find_symbol fonts t a) (sym args.size_is) ∙ f)
-    (first_made P (clean_symbol fonts (cramped_of style) s) plain (λ p. symbol_with_scripts fonts style s has_subscript sup sub >>= over_packed_row fonts style a s font p) (ap (λ t. clean_symbol fonts t s) (sym args.cramped_is) ∙ k) h))
+-- the row of a symbol with its scripts, packed
+body_joined : {A R : Type 0} (s : Setting A) (step : A → Setting (List PieceValue)) (next : Layout → Setting R) → ((s >>= step) >>= (λ row. pack_row row >>= next)) ≡ ((s >>= (λ a. step a >>= pack_row)) >>= next)
+body_joined (Ok a) step next = joined (step a) pack_row next
+body_joined (Err fault) step next = refl
 
-pub inside_nucleus_fails : (fault : SetFault) (fonts : SetValue) (style cramped : Style) (size : Size) (a s : Symbol) (has_subscript : Bool) (sup sub : Content) (font : ℕ) (plain : Layout) → InsideArgs fonts style cramped size sub has_subscript → find_symbol fonts size a ≡ Ok font → clean_symbol fonts cramped s ≡ Ok plain → SetFails fault (symbol_nucleus fonts (size_of style) s OrdinarySymbol has_subscript) → SetFails fault (accent_inside fonts style a (SymbolContent s) sup sub)
-inside_nucleus_fails fault fonts style cramped size a s has_subscript sup sub font plain args f k h =
-    inside_here (SetFails fault) fonts style cramped size a s has_subscript sup sub font plain args f k
-    (fails_then fault (symbol_with_scripts fonts style s has_subscript sup sub) (over_packed_row fonts style a s font plain)
-    (fails_then fault (symbol_nucleus fonts (size_of style) s OrdinarySymbol has_subscript) (λ n. row_with_fields fonts style n sup sub) h))
+inside_here : (P : Setting (List PieceValue) → Type 0) (fonts : SetValue) (style cramped : Style) (size : Size) (a s : Symbol) (sup sub : Content) (font : ℕ) (plain : Layout) → size ≡ size_of style → cramped ≡ cramped_of style → find_symbol fonts size a ≡ Ok font → clean_symbol fonts cramped s ≡ Ok plain → P (symbol_with_scripts fonts style s sup sub >>= over_body fonts style a s font plain) → P (accent_inside fonts style a (SymbolContent s) sup sub)
+inside_here P fonts style cramped size a s sup sub font plain e g f k h =
+    let has_subscript = not (is_empty sub) in
+    subst P (sym (inside_is fonts style a s sup sub))
+    (first_made P (find_symbol fonts (size_of style) a) font (λ n. clean_symbol fonts (cramped_of style) s >>= (λ p. symbol_row fonts style s has_subscript sup sub >>= over_packed_row fonts style a s n p)) (ap (λ t. find_symbol fonts t a) (sym e) ∙ f)
+    (first_made P (clean_symbol fonts (cramped_of style) s) plain (λ p. symbol_row fonts style s has_subscript sup sub >>= over_packed_row fonts style a s font p) (ap (λ t. clean_symbol fonts t s) (sym g) ∙ k)
+    (subst P (sym (body_joined (symbol_nucleus fonts (size_of style) s OrdinarySymbol has_subscript) (λ n. row_with_fields fonts style n sup sub) (over_body fonts style a s font plain))) h)))
 
-pub inside_row_fails : (fault : SetFault) (fonts : SetValue) (style cramped : Style) (size : Size) (a s : Symbol) (has_subscript : Bool) (sup sub : Content) (font : ℕ) (plain : Layout) (n : Nucleus) → InsideArgs fonts style cramped size sub has_subscript → find_symbol fonts size a ≡ Ok font → clean_symbol fonts cramped s ≡ Ok plain → symbol_nucleus fonts (size_of style) s OrdinarySymbol has_subscript ≡ Ok n → SetFails fault (row_with_fields fonts style n sup sub) → SetFails fault (accent_inside fonts style a (SymbolContent s) sup sub)
-inside_row_fails fault fonts style cramped size a s has_subscript sup sub font plain n args f k l h =
-    inside_here (SetFails fault) fonts style cramped size a s has_subscript sup sub font plain args f k
-    (fails_then fault (symbol_with_scripts fonts style s has_subscript sup sub) (over_packed_row fonts style a s font plain)
-    (first_made (SetFails fault) (symbol_nucleus fonts (size_of style) s OrdinarySymbol has_subscript) n (λ m. row_with_fields fonts style m sup sub) l h))
-
--- the row of the symbol with its scripts is made
-pub inside_row_here : (P : Setting (List PieceValue) → Type 0) (fonts : SetValue) (style cramped : Style) (size : Size) (a s : Symbol) (has_subscript : Bool) (sup sub : Content) (font : ℕ) (plain : Layout) (n : Nucleus) (row : List PieceValue) → InsideArgs fonts style cramped size sub has_subscript → find_symbol fonts size a ≡ Ok font → clean_symbol fonts cramped s ≡ Ok plain → symbol_nucleus fonts (size_of style) s OrdinarySymbol has_subscript ≡ Ok n → row_with_fields fonts style n sup sub ≡ Ok row → P (over_packed_row fonts style a s font plain row) → P (accent_inside fonts style a (SymbolContent s) sup sub)
-inside_row_here P fonts style cramped size a s has_subscript sup sub font plain n row args f k l m h =
-    inside_here P fonts style cramped size a s has_subscript sup sub font plain args f k
-    (first_made P (symbol_with_scripts fonts style s has_subscript sup sub) row (over_packed_row fonts style a s font plain)
-    (ap (λ t. t >>= (λ x. row_with_fields fonts style x sup sub)) l ∙ m) h)
-
-pub row_packing_fails : (fault : SetFault) (fonts : SetValue) (style : Style) (a s : Symbol) (font : ℕ) (plain : Layout) (row : List PieceValue) → SetFails fault (pack_row row) → SetFails fault (over_packed_row fonts style a s font plain row)
-row_packing_fails fault fonts style a s font plain row h = fails_then fault (pack_row row) (over_body fonts style a s font plain) h
+pub inside_body_fails : (fault : SetFault) (fonts : SetValue) (style cramped : Style) (size : Size) (a s : Symbol) (sup sub : Content) (font : ℕ) (plain : Layout) → size ≡ size_of style → cramped ≡ cramped_of style → find_symbol fonts size a ≡ Ok font → clean_symbol fonts cramped s ≡ Ok plain → SetFails fault (symbol_with_scripts fonts style s sup sub) → SetFails fault (accent_inside fonts style a (SymbolContent s) sup sub)
+inside_body_fails fault fonts style cramped size a s sup sub font plain e g f k h =
+    inside_here (SetFails fault) fonts style cramped size a s sup sub font plain e g f k (fails_then fault (symbol_with_scripts fonts style s sup sub) (over_body fonts style a s font plain) h)
 
 abbrev pub accent_on : SetValue → Style → Symbol → Symbol → ℕ → Layout → Layout → Setting Layout
 accent_on fonts style a s font plain body = accent fonts font a.code (content_skew fonts (size_of style) (SymbolContent s)) plain.extents body
 
-pub over_row_fails : (fault : SetFault) (fonts : SetValue) (style : Style) (a s : Symbol) (font : ℕ) (plain body : Layout) (row : List PieceValue) → pack_row row ≡ Ok body → SetFails fault (accent_on fonts style a s font plain body) → SetFails fault (over_packed_row fonts style a s font plain row)
-over_row_fails fault fonts style a s font plain body row e h =
-    first_made (SetFails fault) (pack_row row) body (over_body fonts style a s font plain) e
-    (fails_then fault (accent_on fonts style a s font plain body) (λ box. make_row (PieceBox (pos 0) box ∷ [])) h)
+pub inside_accent_fails : (fault : SetFault) (fonts : SetValue) (style cramped : Style) (size : Size) (a s : Symbol) (sup sub : Content) (font : ℕ) (plain : Layout) → size ≡ size_of style → cramped ≡ cramped_of style → find_symbol fonts size a ≡ Ok font → clean_symbol fonts cramped s ≡ Ok plain → (body : Layout) → symbol_with_scripts fonts style s sup sub ≡ Ok body → SetFails fault (accent_on fonts style a s font plain body) → SetFails fault (accent_inside fonts style a (SymbolContent s) sup sub)
+inside_accent_fails fault fonts style cramped size a s sup sub font plain e g f k body made h =
+    inside_here (SetFails fault) fonts style cramped size a s sup sub font plain e g f k
+    (first_made (SetFails fault) (symbol_with_scripts fonts style s sup sub) body (over_body fonts style a s font plain) made
+    (fails_then fault (accent_on fonts style a s font plain body) (λ box. make_row (PieceBox (pos 0) box ∷ [])) h))
 
-pub over_row_made : (P : Setting (List PieceValue) → Type 0) (fonts : SetValue) (style : Style) (a s : Symbol) (font : ℕ) (plain body box : Layout) (row : List PieceValue) → pack_row row ≡ Ok body → accent_on fonts style a s font plain body ≡ Ok box → P (make_row (PieceBox (pos 0) box ∷ [])) → P (over_packed_row fonts style a s font plain row)
-over_row_made P fonts style a s font plain body box row e g h =
-    first_made P (pack_row row) body (over_body fonts style a s font plain) e
-    (first_made P (accent_on fonts style a s font plain body) box (λ b. make_row (PieceBox (pos 0) b ∷ [])) g h)
+pub inside_made : (P : Setting (List PieceValue) → Type 0) (fonts : SetValue) (style cramped : Style) (size : Size) (a s : Symbol) (sup sub : Content) (font : ℕ) (plain : Layout) → size ≡ size_of style → cramped ≡ cramped_of style → find_symbol fonts size a ≡ Ok font → clean_symbol fonts cramped s ≡ Ok plain → (body box : Layout) → symbol_with_scripts fonts style s sup sub ≡ Ok body → accent_on fonts style a s font plain body ≡ Ok box → P (make_row (PieceBox (pos 0) box ∷ [])) → P (accent_inside fonts style a (SymbolContent s) sup sub)
+inside_made P fonts style cramped size a s sup sub font plain e g f k body box made over h =
+    inside_here P fonts style cramped size a s sup sub font plain e g f k
+    (first_made P (symbol_with_scripts fonts style s sup sub) body (over_body fonts style a s font plain) made
+    (first_made P (accent_on fonts style a s font plain body) box (λ b. make_row (PieceBox (pos 0) b ∷ [])) over h))
 
 -- the accent of the call is that of the definition
-pub accent_given : (fonts : SetValue) (style : Style) (size : Size) (a s : Symbol) (font : ℕ) (plain : BoxValue) (body : Layout) (skew : ℤ) (extents : Extents) (P : Setting Layout → Type 0) → size ≡ size_of style → skew ≡ content_skew fonts size (SymbolContent s) → extents ≡ plain.extents → P (accent fonts font a.code skew extents body) → P (accent_on fonts style a s font (layout_of plain) body)
+pub accent_given : (fonts : SetValue) (style : Style) (size : Size) (a s : Symbol) (font : ℕ) (plain : Layout) (body : Layout) (skew : ℤ) (extents : Extents) (P : Setting Layout → Type 0) → size ≡ size_of style → skew ≡ content_skew fonts size (SymbolContent s) → extents ≡ plain.extents → P (accent fonts font a.code skew extents body) → P (accent_on fonts style a s font plain body)
 accent_given fonts style size a s font plain body skew extents P e f g h =
     subst (λ t. P (accent fonts font a.code t plain.extents body)) (f ∙ ap (λ t. content_skew fonts t (SymbolContent s)) e)
     (subst (λ t. P (accent fonts font a.code skew t body)) g h)
+
+-- the accent was found before
+pub found : (fonts : SetValue) (size size' : Size) (symbol : Symbol) (font : ℕ) → size ≡ size' → find_symbol fonts size symbol ≡ Ok font → IsOk (find_symbol fonts size' symbol)
+found fonts size size' symbol font e h = subst IsOk (sym (ap (λ s. find_symbol fonts s symbol) (sym e) ∙ h)) refl

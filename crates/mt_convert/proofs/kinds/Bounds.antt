@@ -1,17 +1,13 @@
--- What the parts of a modest list keep, and the levels of what is set.
-use Rattle.std.proofs.Common.{◌≡◌, ℕ, ◌≤◌, arith, subst, Option}
-use Rattle.mt_box.specs.declared.piece.Piece.{Piece}
-use Rattle.std.specs.Prelude.{List, ℤ}
+-- What the parts of a modest list keep.
+use Rattle.std.proofs.Common.{◌≡◌, arith, subst, Option}
+use Rattle.std.specs.Prelude.{ℤ}
 use Rattle.mt_rules.specs.declared.kind.Kind.{Kind}
 use Rattle.mt_rules.specs.declared.kind.Limits.{Limits}
 use Rattle.mt_rules.specs.declared.list.Look.{Look}
 use Rattle.mt_rules.specs.declared.symbol.Delim.{Delim}
 use Rattle.mt_rules.specs.Sequence.{Sequence, Part, Rows, AtomElement, FractionElement, ListPart, RowsPart, TablePart, RootPart, MoreRows, TableGrid, MoreTableRows}
 use Rattle.mt_rules.specs.Modest.{IsModestList, ThicknessAmount}
-use Rattle.mt_convert.specs.declared.set.nucleus.SetNucleus.{SetNucleus}
-use Rattle.mt_convert.specs.Halfway.{RowFits}
 use Rattle.mt_convert.specs.inner.Modest.{IsModestElement, IsModestGrid, IsModestPart, IsModestRows}
-use Rattle.mt_convert.specs.inner.Nucleus.{NucleusIsSmall}
 
 -- ---- modest parts
 
@@ -69,11 +65,3 @@ first_cells cells rows h = record { nesting = omega (arith, h.nesting); items = 
 
 pub other_cells : (cells : Rows) (rows : TableGrid) → IsModestGrid (MoreTableRows cells rows) → IsModestGrid rows
 other_cells cells rows h = record { nesting = omega (arith, h.nesting); items = omega (arith, h.items); amounts = h.amounts.1 }
-
--- ---- levels
-
-pub row_fits_more : (n m : ℕ) (row : List Piece) → n ≤ m → RowFits n row → RowFits m row
-row_fits_more n m row le h = record { measurable = h.measurable; level = omega (arith, h.level, le) }
-
-pub nucleus_fits_more : (n m : ℕ) (nucleus : SetNucleus) → n ≤ m → NucleusIsSmall n nucleus → NucleusIsSmall m nucleus
-nucleus_fits_more n m nucleus le h = record { few = h.few; fits = row_fits_more n m nucleus.row le h.fits; reach = h.reach; delta = h.delta }

@@ -1,30 +1,33 @@
 -- Items of the flat list, set.
-use Rattle.std.proofs.Common.{◌≡◌, ℤ, ◌≤◌, ap, sym, ◌∙◌, subst, arith, Option}
-use Rattle.std.specs.Prelude.{List, Ok}
+use Rattle.std.proofs.Common.{◌≡◌, ℕ, ◌-◌, ◌≤ℤ◌, ℤ, pos, List, [], length, take, ap, sym, ◌∙◌, subst, refl, arith, length-append, Option, false}
+use Rattle.std.specs.Prelude.{Ok, Err, Result, IfOk}
+use Rattle.std.proofs.Math.Seq.{take-length}
 use Rattle.std.proofs.lemmas.Int.{ints}
+use Rattle.mt_scaled.specs.Number.{max_dimen}
 use Rattle.mt_family.specs.SetValue.{SetValue}
-use Rattle.mt_box.specs.declared.piece.Piece.{Piece}
 use Rattle.mt_rules.specs.declared.class.Class.{Class}
-use Rattle.mt_rules.specs.declared.symbol.Glue.{Glue}
 use Rattle.mt_rules.specs.declared.list.Atom.{Atom}
 use Rattle.mt_rules.specs.declared.list.Fraction.{Fraction}
 use Rattle.mt_rules.specs.declared.class.Class.TheVariants.{Inner}
 use Rattle.mt_rules.specs.Classes.{kind_class, forward_of}
 use Rattle.mt_rules.specs.Setting.{Setting, ◌>>=◌}
-use Rattle.mt_box.specs.Rows.{PieceValue}
+use Rattle.mt_box.specs.Rows.{PieceValue, row_height, row_depth}
+use Rattle.mt_rules.specs.declared.symbol.Glue.{Glue}
 use Rattle.mt_convert.specs.declared.flat.current.Current.{Current}
 use Rattle.mt_convert.specs.declared.fault.SetFault.{SetFault}
-use Rattle.mt_convert.specs.declared.half.Half.{Half}
-use Rattle.mt_convert.specs.declared.half.Half.TheVariants as half
 use Rattle.mt_convert.specs.declared.flat.passed.JoiningRole.{JoiningRole}
 use Rattle.mt_convert.specs.Calls.{SetFails}
 use Rattle.mt_convert.specs.FirstPass.{set_item}
-use Rattle.mt_convert.specs.Halfway.{count_of}
 use Rattle.mt_convert.specs.Halves.{HalfValue, HalfAtom}
-use Rattle.mt_convert.specs.inner.Answers.{HalfReachInRange, ReachInRange}
+use Rattle.mt_convert.specs.declared.placed.PlacedHalf.{PlacedHalf}
+use Rattle.mt_convert.specs.declared.placed.PlacedHalf.TheVariants as placed
+use Rattle.mt_convert.specs.inner.LoneAtoms.{is_set_atom}
+use Rattle.mt_convert.specs.inner.OnPieces.{AtomOn, HalfOn, SetsHalfOn, SetsPlaced}
+use Rattle.mt_convert.specs.inner.Placed.{PlacedFits, placed_value}
 use Rattle.mt_convert.specs.inner.Fields.{atom_row_of, fraction_row_of}
 use Rattle.mt_convert.specs.inner.Turns.{PassedElement, atom_passed, flat_item, fraction_passed, role_value}
 use Rattle.mt_convert.proofs.Appending.{fails_then}
+use Rattle.mt_convert.proofs.Behind.{nil_right}
 
 abbrev as_half : Class → List PieceValue → Setting HalfValue
 as_half class row = Ok (HalfAtom class row)
@@ -47,19 +50,38 @@ fraction_item_fails fault fonts current p f e h =
 pub fraction_item_made : (fonts : SetValue) (current : Current) (p : PassedElement) (f : Fraction) (row : List PieceValue) → p ≡ fraction_passed f → fraction_row_of fonts current.style f ≡ Ok row → set_item fonts current (flat_item fonts p) ≡ Ok (HalfAtom Inner row)
 fraction_item_made fonts current p f row e h = ap (λ q. set_item fonts current (flat_item fonts q)) e ∙ ap (λ s. s >>= as_half Inner) h
 
--- ---- how far they reach
+-- ---- on the pieces
 
-pub row_reach : (class : Class) (row : List Piece) → ReachInRange row → HalfReachInRange (half.Set class row)
-row_reach class row h = record { height = h.height; depth = h.depth }
+-- an atom or a fraction whose row was set
+pub atom_placed : (class : Class) (first : ℕ) (half : PlacedHalf) (old new : List PieceValue) (s : Setting (List PieceValue)) (setting : Setting HalfValue) → first ≡ length old → half ≡ placed.Set class (length new - first) → AtomOn old new s → ((row : List PieceValue) → s ≡ Ok row → setting ≡ Ok (HalfAtom class row)) → HalfOn half old new setting
+atom_placed class first half old new s setting f e a k =
+    let n : length new - first ≡ length a.row = omega (arith, f, ap length a.stays, length-append old a.row) in
+    let all : take (length a.row) a.row ≡ a.row = take-length a.row in
+    subst (λ h. HalfOn h old new setting) (sym (e ∙ ap (λ m. placed.Set class m) n)) (record {
+      row = a.row;
+      is = k a.row a.is ∙ ap (λ r. Ok (HalfAtom class r)) (sym all);
+      stays = a.stays;
+      count = refl;
+      few = a.few;
+      fits = tt;
+      height = subst (λ r. row_height r ≤ℤ pos max_dimen) (sym all) a.height;
+      depth = subst (λ r. row_depth r ≤ℤ pos max_dimen) (sym all) a.depth;
+    })
 
-pub space_reach : (h : Half) (glue : Glue) → h ≡ half.Space glue → HalfReachInRange h
-space_reach h glue e = subst HalfReachInRange (sym e) (record { height = omega (arith, ints); depth = omega (arith, ints) })
+-- an item that has no pieces
+pub alone : (half : PlacedHalf) (old : List PieceValue) (setting : Setting HalfValue) → is_set_atom half ≡ false → PlacedFits half → setting ≡ Ok (placed_value half []) → HalfOn half old old setting
+alone (placed.Set class count) old setting n f e = absurd (cc)
+alone (placed.Left delim) old setting n f e = record { row = []; is = e; stays = nil_right old; count = refl; few = omega arith; fits = f; height = omega (arith, ints); depth = omega (arith, ints) }
+alone (placed.Middle delim) old setting n f e = record { row = []; is = e; stays = nil_right old; count = refl; few = omega arith; fits = f; height = omega (arith, ints); depth = omega (arith, ints) }
+alone (placed.Right delim) old setting n f e = record { row = []; is = e; stays = nil_right old; count = refl; few = omega arith; fits = f; height = omega (arith, ints); depth = omega (arith, ints) }
+alone (placed.Style style) old setting n f e = record { row = []; is = e; stays = nil_right old; count = refl; few = omega arith; fits = f; height = omega (arith, ints); depth = omega (arith, ints) }
+alone (placed.Kern amount) old setting n f e = record { row = []; is = e; stays = nil_right old; count = refl; few = omega arith; fits = f; height = omega (arith, ints); depth = omega (arith, ints) }
+alone (placed.Space glue) old setting n f e = record { row = []; is = e; stays = nil_right old; count = refl; few = omega arith; fits = f; height = omega (arith, ints); depth = omega (arith, ints) }
 
-pub kern_reach : (h : Half) (amount : ℤ) → h ≡ half.Kern amount → HalfReachInRange h
-kern_reach h amount e = subst HalfReachInRange (sym e) (record { height = omega (arith, ints); depth = omega (arith, ints) })
+pub space_placed : (r : Result PlacedHalf SetFault) (old : List PieceValue) (setting : Setting HalfValue) (glue : Glue) → SetsPlaced r setting → IfOk r PlacedFits → IfOk r (λ h. h ≡ placed.Space glue) → SetsHalfOn r old old setting
+space_placed (Ok h) old setting glue e f g = alone h old setting (ap is_set_atom g) f e
+space_placed (Err fault) old setting glue e f g = e
 
-pub space_few : (h : Half) (glue : Glue) → h ≡ half.Space glue → count_of h ≤ 4
-space_few h glue e = subst (λ x. count_of x ≤ 4) (sym e) (omega arith)
-
-pub kern_few : (h : Half) (amount : ℤ) → h ≡ half.Kern amount → count_of h ≤ 4
-kern_few h amount e = subst (λ x. count_of x ≤ 4) (sym e) (omega arith)
+pub kern_placed : (r : Result PlacedHalf SetFault) (old : List PieceValue) (setting : Setting HalfValue) (amount : ℤ) → SetsPlaced r setting → IfOk r PlacedFits → IfOk r (λ h. h ≡ placed.Kern amount) → SetsHalfOn r old old setting
+kern_placed (Ok h) old setting amount e f g = alone h old setting (ap is_set_atom g) f e
+kern_placed (Err fault) old setting amount e f g = e

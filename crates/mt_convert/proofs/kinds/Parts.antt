@@ -1,11 +1,14 @@
 -- Boxes, scripts and nuclei, set step by step.
-use Rattle.std.proofs.Common.{◌≡◌, ℕ, ap, sym, ◌∙◌, subst, refl, Option, Some, None, false, true, Bool}
+use Rattle.std.proofs.Common.{◌≡◌, ℕ, [], arith, ap, sym, ◌∙◌, subst, refl, Option, Some, None, false, true, Bool}
 use Rattle.std.specs.Prelude.{Ok, Err, List, if◌then◌else◌, pos, ⊤}
+use Rattle.std.proofs.lemmas.Int.{ints}
 use Rattle.mt_family.specs.SetValue.{SetValue}
 use Rattle.mt_box.specs.Layout.{Layout}
 use Rattle.mt_box.specs.Rows.{PieceValue}
 use Rattle.mt_rules.specs.declared.class.Class.{Class}
 use Rattle.mt_rules.specs.declared.class.Class.TheVariants.{Ord, Op, Bin, Rel, Open, Close, Punct, Inner}
+use Rattle.mt_rules.specs.declared.kind.Kind.{Kind}
+use Rattle.mt_rules.specs.declared.kind.Kind.TheVariants.{Plain, Radical, Accent, Over, Under, Vcenter, Veil}
 use Rattle.mt_rules.specs.declared.style.Style.{Style}
 use Rattle.mt_rules.specs.declared.symbol.Symbol.{Symbol}
 use Rattle.mt_rules.specs.Styles.{size_of, sup_of, sub_of}
@@ -15,30 +18,26 @@ use Rattle.mt_rules.specs.declared.list.Field.{Field}
 use Rattle.mt_rules.specs.declared.list.Field.TheVariants.{Empty, Sym, List as OfList, Rows as OfRows, Table as OfTable, Root as OfRoot, Big as OfBig}
 use Rattle.mt_rules.specs.declared.symbol.Delim.{Delim}
 use Rattle.mt_rules.specs.Sequence.{Sequence, Part, EmptyPart, SymbolPart, ListPart, RowsPart, TablePart, RootPart, BigPart}
-use Rattle.mt_rules.specs.Nuclei.{Content, SymbolContent, BigContent, SymbolRole, Nucleus, clean_symbol, clean_list, clean_field, make_clean, packed_list, big_nucleus, nucleus_row, empty_nucleus, symbol_nucleus}
+use Rattle.mt_rules.specs.Nuclei.{RowByStyle, Content, SymbolContent, BigContent, SymbolRole, Nucleus, clean_symbol, clean_list, clean_field, make_clean, packed_list, big_nucleus, nucleus_row, empty_nucleus, symbol_nucleus}
 use Rattle.mt_rules.specs.AtomRow.{box_nucleus, nucleus_beside_scripts, script_box, some_box}
 use Rattle.mt_convert.specs.declared.fault.SetFault.{SetFault}
 use Rattle.mt_convert.specs.Calls.{SetFails}
 use Rattle.mt_convert.specs.ListRow.{list_row, halves_of, content_of}
 use Rattle.mt_convert.specs.inner.Fields.{list_content}
 use Rattle.mt_convert.specs.inner.Forms.{as_operator}
-use Rattle.mt_convert.specs.inner.AtomSteps.{BoxWithItalic, class_nucleus, operator_box, row_beside, row_with_fields}
+use Rattle.mt_convert.specs.inner.AtomSteps.{BoxWithItalic, as_nucleus, class_nucleus, kind_nucleus, list_box, operator_box, part_box, row_beside, row_with_fields}
+use Rattle.mt_convert.specs.inner.OnPieces.{NucleusOn}
 use Rattle.mt_convert.specs.inner.Turns.{is_empty_part}
 use Rattle.mt_convert.proofs.Appending.{fails_then}
+use Rattle.mt_convert.proofs.Behind.{nil_right}
 use Rattle.mt_convert.proofs.Turning.{same_empty}
-use Rattle.mt_convert.proofs.kinds.Chains.{first_made}
+use Rattle.mt_convert.proofs.kinds.Chains.{first_made, joined}
 
 -- ---- a list
 
 pub content_is : (fonts : SetValue) (list : Sequence) (style : Style) → list_content fonts list style ≡ list_row fonts style list
 unfolding list_row halves_of
 content_is fonts list style = refl
-
-pub list_made : {B : Type 0} (P : Setting B → Type 0) (fonts : SetValue) (list : Sequence) (style : Style) (row : List PieceValue) (next : List PieceValue → Setting B) → list_row fonts style list ≡ Ok row → P (next row) → P (list_content fonts list style >>= next)
-list_made P fonts list style row next e h = first_made P (list_content fonts list style) row next (content_is fonts list style ∙ e) h
-
-pub list_fails : {B : Type 0} (fault : SetFault) (fonts : SetValue) (list : Sequence) (style : Style) (next : List PieceValue → Setting B) → SetFails fault (list_row fonts style list) → SetFails fault (list_content fonts list style >>= next)
-list_fails fault fonts list style next h = fails_then fault (list_content fonts list style) next (subst (SetFails fault) (sym (content_is fonts list style)) h)
 
 -- ---- a clean box
 
@@ -124,6 +123,10 @@ no_scripts P fonts style p q nucleus e f h =
 pub symbol_nucleus_is : (class : Class) (fonts : SetValue) (style : Style) (role : SymbolRole) (p : Part) (symbol : Symbol) (has_subscript : Bool) → p ≡ SymbolPart symbol → class_nucleus class fonts style role (content_of fonts p) has_subscript ≡ class_nucleus class fonts style role (SymbolContent symbol) has_subscript
 symbol_nucleus_is class fonts style role p symbol has_subscript e = ap (λ q. class_nucleus class fonts style role (content_of fonts q) has_subscript) e
 
+-- the row of a list, packed
+pub packed_is : (list : RowByStyle) (style : Style) → packed_list list style ≡ as_nucleus (list_box list style)
+packed_is list style = joined (list style) pack_row (λ box. Ok (box_nucleus box))
+
 class_of_list : (class : Class) (fonts : SetValue) (style : Style) (role : SymbolRole) (list : Sequence) (has_subscript : Bool) → class_nucleus class fonts style role (content_of fonts (ListPart list)) has_subscript ≡ packed_list (list_content fonts list) style
 unfolding nucleus_row
 class_of_list Ord fonts style role list has_subscript = refl
@@ -135,8 +138,14 @@ class_of_list Close fonts style role list has_subscript = refl
 class_of_list Punct fonts style role list has_subscript = refl
 class_of_list Inner fonts style role list has_subscript = refl
 
-pub list_nucleus_is : (class : Class) (fonts : SetValue) (style : Style) (role : SymbolRole) (p : Part) (list : Sequence) (has_subscript : Bool) → p ≡ ListPart list → class_nucleus class fonts style role (content_of fonts p) has_subscript ≡ packed_list (list_content fonts list) style
-list_nucleus_is class fonts style role p list has_subscript e = ap (λ q. class_nucleus class fonts style role (content_of fonts q) has_subscript) e ∙ class_of_list class fonts style role list has_subscript
+pub list_nucleus_is : (class : Class) (fonts : SetValue) (style : Style) (role : SymbolRole) (p : Part) (list : Sequence) (has_subscript : Bool) → p ≡ ListPart list → class_nucleus class fonts style role (content_of fonts p) has_subscript ≡ as_nucleus (list_box (list_content fonts list) style)
+list_nucleus_is class fonts style role p list has_subscript e =
+    ap (λ q. class_nucleus class fonts style role (content_of fonts q) has_subscript) e
+    ∙ (class_of_list class fonts style role list has_subscript ∙ packed_is (list_content fonts list) style)
+
+-- nothing is put
+pub no_row : (old : List PieceValue) (setting : Setting Nucleus) → setting ≡ Ok empty_nucleus → NucleusOn (pos 0) old old setting
+no_row old setting e = record { row = []; is = e; stays = nil_right old; few = omega arith; small = record { low = omega (arith, ints); high = omega (arith, ints) } }
 
 -- nor a big delimiter
 abbrev pub HasNoNucleus : Part → Type 0
@@ -197,17 +206,6 @@ class_of_big Inner fonts style role delim level has_subscript = refl
 pub big_nucleus_is : (class : Class) (fonts : SetValue) (style : Style) (role : SymbolRole) (p : Part) (delim : Delim) (level : ℕ) (has_subscript : Bool) → p ≡ BigPart delim level → class_nucleus class fonts style role (content_of fonts p) has_subscript ≡ big_nucleus fonts delim level
 big_nucleus_is class fonts style role p delim level has_subscript e = ap (λ q. class_nucleus class fonts style role (content_of fonts q) has_subscript) e ∙ class_of_big class fonts style role delim level has_subscript
 
--- the row of a list, packed
-pub packed_made : (P : Setting Nucleus → Type 0) (fonts : SetValue) (list : Sequence) (style : Style) (row : List PieceValue) (box : Layout) → list_row fonts style list ≡ Ok row → pack_row row ≡ Ok box → P (Ok (box_nucleus box)) → P (packed_list (list_content fonts list) style)
-packed_made P fonts list style row box e g h =
-    list_made P fonts list style row (λ r. pack_row r >>= (λ b. Ok (box_nucleus b))) e
-    (first_made P (pack_row row) box (λ b. Ok (box_nucleus b)) g h)
-
-pub packing_fails : (fault : SetFault) (fonts : SetValue) (list : Sequence) (style : Style) (row : List PieceValue) → list_row fonts style list ≡ Ok row → SetFails fault (pack_row row) → SetFails fault (packed_list (list_content fonts list) style)
-packing_fails fault fonts list style row e h =
-    list_made (SetFails fault) fonts list style row (λ r. pack_row r >>= (λ b. Ok (box_nucleus b))) e
-    (fails_then fault (pack_row row) (λ b. Ok (box_nucleus b)) h)
-
 -- ---- an operator under limits
 
 pub symbol_operator_is : (fonts : SetValue) (style : Style) (p : Part) (symbol : Symbol) → p ≡ SymbolPart symbol → operator_box fonts style (content_of fonts p) ≡ operator_box fonts style (SymbolContent symbol)
@@ -250,3 +248,14 @@ other_symbol_is Open fonts style role symbol has_subscript h = refl
 other_symbol_is Close fonts style role symbol has_subscript h = refl
 other_symbol_is Punct fonts style role symbol has_subscript h = refl
 other_symbol_is Inner fonts style role symbol has_subscript h = refl
+
+-- ---- an atom of any kind but the plain one
+
+pub part_nucleus_is : (kind : Kind) (fonts : SetValue) (style : Style) (role : SymbolRole) (field : Content) (has_subscript : Bool) → ((class : Class) → kind ≡ Plain class → ⊥) → kind_nucleus kind fonts style role field has_subscript ≡ as_nucleus (part_box kind fonts style field)
+part_nucleus_is (Plain class) fonts style role field has_subscript n = absurd (n class refl)
+part_nucleus_is (Radical sign) fonts style role field has_subscript n = refl
+part_nucleus_is (Accent symbol) fonts style role field has_subscript n = refl
+part_nucleus_is Over fonts style role field has_subscript n = refl
+part_nucleus_is Under fonts style role field has_subscript n = refl
+part_nucleus_is Vcenter fonts style role field has_subscript n = refl
+part_nucleus_is (Veil width height marks) fonts style role field has_subscript n = refl

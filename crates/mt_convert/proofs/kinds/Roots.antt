@@ -1,9 +1,7 @@
 -- Fields packed as ordinary atoms, phantoms, and radicals with a degree, set step by step.
 use Rattle.std.proofs.Common.{◌≡◌, ap, sym, ◌∙◌, subst, refl, Bool, true, false}
-use Rattle.std.specs.Prelude.{Ok, Err, List, None, if◌then◌else◌, ◌&&◌}
+use Rattle.std.specs.Prelude.{Ok, List, None, if◌then◌else◌, ◌&&◌}
 use Rattle.mt_family.specs.SetValue.{SetValue}
-use Rattle.mt_box.specs.declared.error.PackError.{PackError}
-use Rattle.mt_box.specs.declared.error.PackError.TheVariants.{Overflow as PackOverflow, OutOfMemory as NoPackMemory}
 use Rattle.mt_box.specs.Layout.{Layout}
 use Rattle.mt_box.specs.Rows.{PieceValue}
 use Rattle.mt_rules.specs.declared.class.Class.TheVariants.{Ord, Op, Bin, Rel, Open, Close, Punct, Inner}
@@ -18,7 +16,6 @@ use Rattle.mt_rules.specs.declared.style.Style.TheVariants.{Ss}
 use Rattle.mt_rules.specs.declared.symbol.Delim.{Delim}
 use Rattle.mt_rules.specs.declared.symbol.Symbol.{Symbol}
 use Rattle.mt_rules.specs.Styles.{uncramped_of}
-use Rattle.mt_rules.specs.Calls.{RowAnswers}
 use Rattle.mt_rules.specs.Setting.{Setting, ◌>>=◌, pack_row}
 use Rattle.mt_rules.specs.Sequence.{Sequence, Part, EmptyPart, SymbolPart, ListPart, RowsPart, TablePart, RootPart, BigPart}
 use Rattle.mt_rules.specs.Nuclei.{RowByStyle, Content, NoContent, ListContent, OrdinarySymbol, SymbolRole, Nucleus, nucleus_row}
@@ -28,7 +25,6 @@ use Rattle.mt_rules.specs.AtomRow.{atom_row, ordinary_row, packed_field, radical
 use Rattle.mt_convert.specs.declared.fault.SetFault.{SetFault}
 use Rattle.mt_convert.specs.declared.set.form.AtomForm.TheVariants as form
 use Rattle.mt_convert.specs.Calls.{SetFails}
-use Rattle.mt_convert.specs.Faults.{FaultFromPacking}
 use Rattle.mt_convert.specs.ListRow.{content_of}
 use Rattle.mt_convert.specs.inner.Fields.{atom_content, list_content}
 use Rattle.mt_convert.specs.inner.Forms.{HasDegree, form_of}
@@ -64,10 +60,10 @@ veil_fails fault fonts style style' width height marks nucleus e h =
     fails_then fault (packed_field fonts (uncramped_of style) nucleus) (λ box. Ok (veil_layout width height marks box))
     (subst (λ t. SetFails fault (packed_field fonts t nucleus)) e h)
 
-pub veil_made : (fonts : SetValue) (style style' : Style) (width height marks : Bool) (nucleus : Content) (box whole : Layout) → style' ≡ uncramped_of style → packed_field fonts style' nucleus ≡ Ok box → whole ≡ veil_layout width height marks box → veil_part fonts style width height marks nucleus ≡ Ok whole
-veil_made fonts style style' width height marks nucleus box whole e made g =
-    first_made (λ s. s ≡ Ok whole) (packed_field fonts (uncramped_of style) nucleus) box (λ b. Ok (veil_layout width height marks b))
-    (ap (λ t. packed_field fonts t nucleus) (sym e) ∙ made) (ap (λ l. Ok l) (sym g))
+pub veil_made : (P : Setting Layout → Type 0) (fonts : SetValue) (style style' : Style) (width height marks : Bool) (nucleus : Content) (box : Layout) → style' ≡ uncramped_of style → packed_field fonts style' nucleus ≡ Ok box → P (Ok (veil_layout width height marks box)) → P (veil_part fonts style width height marks nucleus)
+veil_made P fonts style style' width height marks nucleus box e made h =
+    first_made P (packed_field fonts (uncramped_of style) nucleus) box (λ b. Ok (veil_layout width height marks b))
+    (ap (λ t. packed_field fonts t nucleus) (sym e) ∙ made) h
 
 -- ---- a radical with a degree
 
@@ -87,11 +83,6 @@ root_made P fonts style style' sign degree body box radical e made set h =
     first_made P (packed_field fonts Ss (ListContent degree)) box (beside_degree fonts style sign body) made
     (first_made P (radical_part fonts (uncramped_of style) sign body) radical (row_of_root fonts style box)
     (ap (λ t. radical_part fonts t sign body) (sym e) ∙ set) h)
-
--- a kern beside a degree is out of range
-pub kerns_fail : (error : PackError) (fault : SetFault) (s : Setting (List PieceValue)) (next : List PieceValue → Setting (List PieceValue)) → RowAnswers (Err error) s → FaultFromPacking error fault → SetFails fault (s >>= next)
-kerns_fail (PackOverflow value) fault s next h g = rw g (ap (λ t. t >>= next) h)
-kerns_fail NoPackMemory fault s next h g = rw g tt
 
 -- the row of a part that has a degree
 pub of_root : (P : Setting (List PieceValue) → Type 0) (fonts : SetValue) (style : Style) (sign : Delim) (p : Part) (degree : Sequence) (body : Part) (sup sub : Content) → p ≡ RootPart degree body → P (radical_with_degree fonts style sign (list_content fonts degree) (content_of fonts body)) → P (radical_row fonts style sign (content_of fonts p) sup sub)

@@ -1,5 +1,5 @@
 -- The nucleus that an atom of each kind is set to, before its scripts (`kind_nucleus`), and the last steps of an atom.
-use Rattle.std.specs.Prelude.{ℤ, pos, ◌∷◌, [], Bool, List, Option, Ok}
+use Rattle.std.specs.Prelude.{ℤ, pos, ◌∷◌, [], Bool, not, List, Option, Ok}
 use Rattle.mt_family.specs.declared.size.Size.{Size}
 use Rattle.mt_family.specs.SetValue.{SetValue}
 use Rattle.mt_box.specs.Layout.{Layout}
@@ -11,13 +11,13 @@ use Rattle.mt_rules.specs.declared.kind.Kind.TheVariants.{Plain, Radical, Accent
 use Rattle.mt_rules.specs.declared.style.Style.{Style}
 use Rattle.mt_rules.specs.declared.symbol.Symbol.{Symbol}
 use Rattle.mt_rules.specs.Styles.{size_of, cramped_of, sup_of, sub_of}
-use Rattle.mt_rules.specs.Setting.{Setting, ◌>>=◌, make_row}
+use Rattle.mt_rules.specs.Setting.{Setting, ◌>>=◌, empty_layout, make_row, pack_row}
 use Rattle.mt_rules.specs.Symbols.{find_symbol}
 use Rattle.mt_rules.specs.Scripts.{row_with_scripts}
 use Rattle.mt_rules.specs.Limits.{limits}
 use Rattle.mt_rules.specs.Accents.{accent}
 use Rattle.mt_rules.specs.Roots.{root_row}
-use Rattle.mt_rules.specs.Nuclei.{Content, SymbolRole, Nucleus, nucleus_row, clean_field, make_clean}
+use Rattle.mt_rules.specs.Nuclei.{RowByStyle, Content, SymbolRole, OrdinarySymbol, Nucleus, is_empty, symbol_nucleus, nucleus_row, clean_field, make_clean}
 use Rattle.mt_rules.specs.AtomRow.{box_nucleus, nucleus_beside_scripts, radical_part, overline_part, underline_part, vcenter_part, veil_part, content_skew, nucleus_under_limits, script_box}
 
 abbrev pub as_nucleus : Setting Layout → Setting Nucleus
@@ -46,6 +46,22 @@ kind_nucleus Under fonts style role nucleus subscript = as_nucleus (underline_pa
 kind_nucleus Vcenter fonts style role nucleus subscript = as_nucleus (vcenter_part fonts style nucleus)
 kind_nucleus (Veil width height marks) fonts style role nucleus subscript =
     as_nucleus (veil_part fonts style width height marks nucleus)
+
+-- the box of an atom of any kind but the plain one
+abbrev pub part_box : Kind → SetValue → Style → Content → Setting Layout
+part_box (Plain class) fonts style nucleus = Ok empty_layout
+part_box (Radical sign) fonts style nucleus = radical_part fonts style sign nucleus
+part_box (Accent symbol) fonts style nucleus = accent_part fonts style symbol nucleus
+part_box Over fonts style nucleus = overline_part fonts style nucleus
+part_box Under fonts style nucleus = underline_part fonts style nucleus
+part_box Vcenter fonts style nucleus = vcenter_part fonts style nucleus
+part_box (Veil width height marks) fonts style nucleus = veil_part fonts style width height marks nucleus
+
+-- the row of a list, packed
+abbrev pub list_box : RowByStyle → Style → Setting Layout
+list_box list style = do
+  row ← list style
+  pack_row row
 
 -- ---- an operator under limits
 
@@ -93,6 +109,13 @@ row_with_limits fonts style operator sup sub = do
   above ← script_box fonts (sup_of style) sup
   below ← script_box fonts (sub_of style) sub
   row_between fonts (size_of style) operator.box operator.delta above below
+
+-- the box of an ordinary symbol with its scripts
+abbrev pub symbol_with_scripts : SetValue → Style → Symbol → Content → Content → Setting Layout
+symbol_with_scripts fonts style symbol sup sub = do
+  nucleus ← symbol_nucleus fonts (size_of style) symbol OrdinarySymbol (not (is_empty sub))
+  row ← row_with_fields fonts style nucleus sup sub
+  pack_row row
 
 -- an operator that is set now, with its scripts above and below it
 abbrev pub under_limits : SetValue → Style → Content → Content → Content → Setting (List PieceValue)

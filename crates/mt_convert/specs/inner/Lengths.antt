@@ -2,13 +2,13 @@
 use Rattle.std.specs.Prelude.{◌≡◌, ℤ, List, [], ◌∷◌, Option, Some, None, Result, Ok, Err, ⊤}
 use Rattle.mt_rules.specs.Setting.{Setting, test_value}
 use Rattle.mt_convert.specs.declared.fault.SetFault.{SetFault}
-use Rattle.mt_convert.specs.declared.half.Half.{Half}
-use Rattle.mt_convert.specs.declared.half.Half.TheVariants as half
+use Rattle.mt_convert.specs.declared.placed.PlacedHalf.{PlacedHalf}
+use Rattle.mt_convert.specs.declared.placed.PlacedHalf.TheVariants as placed
 use Rattle.mt_convert.specs.Calls.{SetFails}
 
-abbrev pub kern_halves : Option ℤ → List Half
+abbrev pub kern_halves : Option ℤ → List PlacedHalf
 kern_halves None = []
-kern_halves (Some amount) = half.Kern amount ∷ []
+kern_halves (Some amount) = placed.Kern amount ∷ []
 
 abbrev pub test_kern : Option ℤ → Setting ⊤
 test_kern None = Ok tt

@@ -1,6 +1,6 @@
 -- What an item, a part, rows and a table of a modest list keep (`IsModestElement`, `IsModestPart`, `IsModestRows`,
 -- `IsModestGrid`).
-use Rattle.std.specs.Prelude.{◌≤◌, ◌^◌, ◌*◌, ◌+◌, ℕ}
+use Rattle.std.specs.Prelude.{◌≤◌, ◌^◌}
 use Rattle.mt_rules.specs.Sequence.{Element, Part, Rows, TableGrid}
 use Rattle.mt_rules.specs.Modest.{element_items, element_nesting, ElementAmounts, part_items, part_nesting, PartAmounts, rows_items, rows_nesting, RowsAmounts, grid_items, grid_nesting, GridAmounts}
 
@@ -24,8 +24,3 @@ pub record IsModestGrid (grid : TableGrid) : Type 0 where
   pub nesting : grid_nesting grid ≤ 319
   pub items : grid_items grid ≤ 2 ^ 18
   pub amounts : GridAmounts grid
-
--- the boxes of both scripts have a level of at most this
-pub record ScriptLevels (most : ℕ) (above below : Part) : Type 0 where
-  pub sup : 12 * part_nesting above + 1 ≤ most
-  pub sub : 12 * part_nesting below + 1 ≤ most

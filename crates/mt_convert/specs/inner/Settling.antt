@@ -1,24 +1,35 @@
--- Final classes, in the list of the code (`settled_items`), and classes that an atom before has settled (`AreForward`).
-use Rattle.std.specs.Prelude.{⊤, List, [], ◌∷◌, Option, Some, None}
+-- The end of the first pass (`Finishes`): final classes, in the list of the code (`settled_items`), and classes that an atom before has
+-- settled (`AllCanFollow`).
+use Rattle.std.specs.Prelude.{◌≡◌, ◌≤◌, ◌≤ℤ◌, ◌^◌, pos, ⊤, List, [], ◌∷◌, length, Option, Some, None}
 use Rattle.std.specs.Option.{option_or}
+use Rattle.mt_scaled.specs.Number.{max_dimen}
+use Rattle.mt_box.specs.Rows.{PieceValue}
 use Rattle.mt_rules.specs.declared.class.Class.{Class}
 use Rattle.mt_rules.specs.Classes.{settled_of}
 use Rattle.mt_spacing.specs.Meeting.{CanMeet}
-use Rattle.mt_convert.specs.declared.half.Half.{Half}
-use Rattle.mt_convert.specs.declared.half.Half.TheVariants as half
-use Rattle.mt_convert.specs.Halves.{HalfValue, class_to_left, class_to_right, next_class}
-use Rattle.mt_convert.specs.Halfway.{half_values}
+use Rattle.mt_convert.specs.declared.placed.PlacedHalf.{PlacedHalf}
+use Rattle.mt_convert.specs.declared.placed.PlacedHalf.TheVariants as placed
+use Rattle.mt_convert.specs.declared.placed.PlacedHalves.{PlacedHalves}
+use Rattle.mt_convert.specs.declared.set.settle.Reach.{Reach}
+use Rattle.mt_convert.specs.Halves.{HalfValue, Halves, class_to_left, class_to_right, greatest_height, greatest_depth}
+use Rattle.mt_convert.specs.Halfway.{BoundariesOutside}
+use Rattle.mt_convert.specs.inner.Placed.{AllPlacedFit, IsPlaced, placed_count, placed_halves, placed_left, placed_values}
 
-abbrev pub settled_item : Half → Option Class → Half
-settled_item (half.Set class row) after = half.Set (settled_of class after) row
+abbrev pub settled_item : PlacedHalf → Option Class → PlacedHalf
+settled_item (placed.Set class count) after = placed.Set (settled_of class after) count
 settled_item h after = h
 
--- each by the class of the next atom
-abbrev pub settled_items : List Half → List Half
-settled_items [] = []
-settled_items (h ∷ hs) = settled_item h (next_class (half_values hs)) ∷ settled_items hs
+-- the class that the first atom of these items counts as for what is before them
+abbrev pub next_placed : List PlacedHalf → Option Class
+next_placed [] = None
+next_placed (h ∷ hs) = option_or (placed_left h) (next_placed hs)
 
--- these may stand side by side, whatever follows
+-- each by the class of the next atom
+abbrev pub settled_items : List PlacedHalf → List PlacedHalf
+settled_items [] = []
+settled_items (h ∷ hs) = settled_item h (next_placed hs) ∷ settled_items hs
+
+-- these may be side by side, whatever follows
 abbrev pub CanFollow : Option Class → Option Class → Type 0
 CanFollow None right = ⊤
 CanFollow (Some left) None = ⊤
@@ -28,3 +39,22 @@ CanFollow (Some left) (Some right) = CanMeet left right
 abbrev pub AllCanFollow : Option Class → List HalfValue → Type 0
 AllCanFollow last [] = ⊤
 AllCanFollow last (h ∷ hs) = CanFollow last (class_to_left h) × AllCanFollow (option_or (class_to_right h) last) hs
+
+-- ---- the end of the first pass
+
+-- items with the classes that they have got from the left, and how far their atoms reach
+pub record CanFinish (hs : List PlacedHalf) (reach : Reach) (row : List PieceValue) : Type 0 where
+  pub count : placed_count hs ≡ length row
+  pub boundaries : BoundariesOutside (placed_values hs row)
+  pub follow : AllCanFollow None (placed_values hs row)
+  pub few : length hs ≤ 2 ^ 19
+  pub total : length row ≤ 2 ^ 20
+  pub fit : AllPlacedFit hs
+  pub height : reach.height.sp ≡ greatest_height (placed_values hs row)
+  pub depth : reach.depth.sp ≡ greatest_depth (placed_values hs row)
+  pub height_high : reach.height.sp ≤ℤ pos max_dimen
+  pub depth_high : reach.depth.sp ≤ℤ pos max_dimen
+
+pub record Finishes (h : PlacedHalves) (row : List PieceValue) (halves : Halves) : Type 0 where
+  pub is : placed_halves h row ≡ halves
+  pub placed : IsPlaced h row

@@ -1,19 +1,19 @@
 //! Boundaries and middles: their size, and their boxes.
-ghost use Rattle.std.specs.Prelude.{◌≡◌, ◌≤◌, ◌^◌, IfOk};
+ghost use Rattle.std.specs.Prelude.{◌≡◌, ◌^◌, Some};
 ghost use Rattle.mt_scaled.specs.Number.{Within};
-ghost use Rattle.mt_box.specs.Rows.{IsMeasurable, level_of_piece};
 ghost use Rattle.mt_rules.specs.Styles.{size_of};
 ghost use Rattle.mt_rules.specs.Delimiters.{boundary_size};
-ghost use Rattle.mt_convert.specs.SecondPass.{boundary_piece};
-ghost use Rattle.mt_convert.specs.Calls.{SetsPiece};
+ghost use Rattle.mt_convert.specs.Halfway.{MayMeet};
+ghost use Rattle.mt_convert.specs.SecondPass.{boundary_pieces};
+ghost use Rattle.mt_convert.specs.inner.OnPieces.{SetsRowOn};
 
 use crate::SetFault;
-use mt_box::Piece;
-use mt_delim::delimiter_box;
+use crate::flat::current::Current;
+use crate::second::space::put_space;
 use mt_family::{FontSet, Size};
-use mt_rules::{Delim, Style, boundary_size};
+use mt_pieces::Pieces;
+use mt_rules::{Class, Delim, Style, boundary_size};
 use mt_scaled::Length;
-use std::alloc::Global;
 
 // The size of the style in which a list begins, and the wanted size of its boundaries and middles.
 #[derive(Clone, Copy)]
@@ -42,21 +42,22 @@ pub(crate) fn boundary_frame(
     }
 }
 
-// A boundary or a middle, in the middle of the axis.
-pub(crate) fn boundary(
-    alloc: Global,
+// A boundary or a middle behind the other pieces, in the middle of the axis, and the space before it.
+#[inline(never)]
+pub(crate) fn put_boundary(
+    pieces: &mut Pieces,
     fonts: &FontSet,
     frame: BoundaryFrame,
+    current: Current,
+    class: Class,
     delim: Delim,
-) -> Result<Piece, SetFault>
+) -> Result<(), SetFault>
     requires wanted { Within (2 ^ 40) frame.wanted.sp }
-    ensures is { SetsPiece result (boundary_piece fonts.now frame.size frame.wanted.sp delim) }
-    ensures measurable { IfOk result IsMeasurable }
-    ensures level { IfOk result (λ p. level_of_piece p ≤ 2) }
+    requires meets { MayMeet current.last (Some class) }
+    ensures { SetsRowOn result pieces.old pieces.new
+        (boundary_pieces fonts.now frame.size frame.wanted.sp current class delim) }
 {
-    let raised = delimiter_box(alloc, fonts, delim, frame.size, frame.wanted.sp)?;
-    Ok(Piece::Boxed {
-        raise: raised.raise,
-        body: raised.body,
-    })
+    put_space(pieces, fonts, current, class)?;
+    pieces.put_boundary(fonts, delim, frame.size, frame.wanted)?;
+    Ok(())
 }

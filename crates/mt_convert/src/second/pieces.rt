@@ -1,123 +1,98 @@
-//! The pieces of items, each after those before it.
-ghost use Rattle.std.specs.Prelude.{◌≡◌, ◌≤◌, ◌^◌, ◌++◌, ◌+◌, ℕ, OnOk, IfErr, length, Some};
+//! The pieces of items, each behind those before it.
+ghost use Rattle.std.specs.Prelude.{◌≡◌, ◌≤◌, ◌+◌, ◌^◌, ◌++◌, IfOk, List, OnOk, Some, drop, false, length, take};
 ghost use Rattle.mt_scaled.specs.Number.{Within};
-ghost use Rattle.mt_box.specs.Rows.{piece_values};
-ghost use Rattle.mt_convert.specs.declared.fault.SetFault.TheVariants.{OutOfMemory};
-ghost use Rattle.mt_convert.specs.Halves.{class_to_left};
-ghost use Rattle.mt_convert.specs.SecondPass.{boundary_pieces, half_pieces};
-ghost use Rattle.mt_convert.specs.SecondPass.{space_before as space_of};
-ghost use Rattle.mt_convert.specs.Halfway.{half_value, count_of, HalfFits, RowFits, MayMeet};
-ghost use Rattle.mt_convert.specs.inner.Appending.{AppendsPieces};
+ghost use Rattle.mt_box.specs.Rows.{PieceValue};
+ghost use Rattle.mt_pieces.specs.Runs.{IsAt};
+ghost use Rattle.mt_convert.specs.SecondPass.{half_pieces, space_before};
+ghost use Rattle.mt_convert.specs.Halfway.{MayMeet};
+ghost use Rattle.mt_convert.specs.inner.LoneAtoms.{is_set_atom};
+ghost use Rattle.mt_convert.specs.inner.OnPieces.{SetsRowOn};
+ghost use Rattle.mt_convert.specs.inner.Placed.{PlacedFits, placed_left, placed_length, placed_value};
 
 use crate::SetFault;
 use crate::flat::current::Current;
-use crate::half::Half;
-use crate::second::boundary::{BoundaryFrame, boundary};
-use crate::second::space::{space_before, space_piece};
-use crate::set::row::push_piece;
-use mt_box::{Piece, Row};
+use crate::placed::PlacedHalf;
+use crate::second::boundary::{BoundaryFrame, put_boundary};
+use crate::second::space::{put_glue, put_space};
 use mt_family::FontSet;
-use mt_rules::{Class, Delim};
-use std::alloc::{AllocError, Global};
+use mt_pieces::{PieceAt, Pieces};
+use mt_rules::Class;
+use mt_scaled::Length;
+use std::alloc::AllocError;
 
-// The pieces of an item, after those of the items before it.
-pub(crate) fn push_half(
-    alloc: Global,
+// The pieces of an item behind the others. Those of an atom are copied from this place on, and the place after them is the answer.
+pub(crate) fn put_half(
+    pieces: &mut Pieces,
     fonts: &FontSet,
     frame: BoundaryFrame,
     current: Current,
-    half: Half,
-    pieces: &mut Vec<Piece>,
-) -> Result<(), SetFault>
+    half: PlacedHalf,
+    from: PieceAt,
+) -> Result<PieceAt, SetFault>
     requires wanted { Within (2 ^ 40) frame.wanted.sp }
-    requires meets { MayMeet current.last (class_to_left (half_value half)) }
-    ensures is { AppendsPieces result pieces.old.items pieces.new.items
-        (half_pieces fonts.now frame.size frame.wanted.sp current (half_value half)) }
-    ensures few { OnOk result (length pieces.new.items ≤ length pieces.old.items + count_of half + 2) }
-    ensures fits { OnOk result ((n : ℕ) → 2 ≤ n → HalfFits n half
-        → RowFits n pieces.old.items → RowFits n pieces.new.items) }
+    requires meets { MayMeet current.last (placed_left half) }
+    requires fits { PlacedFits half }
+    requires at { IsAt from pieces.old }
+    ensures is { (old done : List PieceValue) → pieces.old ≡ old ++ done → from.piece + placed_length half ≤ length old
+        → SetsRowOn result pieces.old pieces.new (half_pieces fonts.now frame.size frame.wanted.sp current (placed_value half (drop from.piece old))) }
+    ensures after { IfOk result (λ at. IsAt at pieces.new) }
+    ensures piece { IfOk result (λ at. from.piece + placed_length half ≤ length pieces.old → at.piece ≡ from.piece + placed_length half) }
 {
     match half {
-        Half::Set { class, row } => push_row(fonts, current, class, row, pieces),
-        Half::Left(delim) => push_boundary(
-            alloc,
-            fonts,
-            frame,
-            current,
-            Class::Open,
-            delim,
-            pieces,
-        ),
-        Half::Middle(delim) => {
-            push_boundary(alloc, fonts, frame, current, Class::Close, delim, pieces)
+        PlacedHalf::Set { class, count } => {
+            Ok(put_atom(pieces, fonts, current, class, from, count)?)
         }
-        Half::Right(delim) => {
-            push_boundary(alloc, fonts, frame, current, Class::Close, delim, pieces)
+        half => {
+            put_alone(pieces, fonts, frame, current, half)?;
+            Ok(from)
         }
-        Half::Style(_) => Ok(()),
-        Half::Kern(amount) => Ok(push_piece(pieces, Piece::Kern(amount))?),
-        Half::Space(glue) => Ok(push_piece(pieces, space_piece(glue))?),
     }
 }
 
-fn push_row(
+// The space before an atom, and a copy of its pieces, so many from this place on.
+fn put_atom(
+    pieces: &mut Pieces,
     fonts: &FontSet,
     current: Current,
     class: Class,
-    row: Row,
-    pieces: &mut Vec<Piece>,
-) -> Result<(), SetFault>
+    from: PieceAt,
+    count: usize,
+) -> Result<PieceAt, AllocError>
     requires meets { MayMeet current.last (Some class) }
-    ensures is { OnOk result (piece_values pieces.new.items
-        ≡ piece_values pieces.old.items ++ (space_of fonts.now current class ++ piece_values row)) }
-    ensures memory { IfErr result (λ e. e ≡ OutOfMemory) }
-    ensures few { OnOk result (length pieces.new.items ≤ length pieces.old.items + length row + 1) }
-    ensures fits { OnOk result ((n : ℕ) → RowFits n row → RowFits n pieces.old.items → RowFits n pieces.new.items) }
+    requires at { IsAt from pieces.old }
+    ensures is { (old done : List PieceValue) → pieces.old ≡ old ++ done → from.piece + count ≤ length old
+        → OnOk result (pieces.new ≡ pieces.old ++ (space_before fonts.now current class ++ take count (drop from.piece old))) }
+    ensures after { IfOk result (λ at. IsAt at pieces.new) }
+    ensures piece { IfOk result (λ at. from.piece + count ≤ length pieces.old → at.piece ≡ from.piece + count) }
 {
-    push_space(fonts, current, class, pieces)?;
-    let mut row = row.into_vec();
-    pieces.append(&mut row)?;
-    Ok(())
+    put_space(pieces, fonts, current, class)?;
+    pieces.copy_run(from, count)
 }
 
-#[inline(never)]
-fn push_boundary(
-    alloc: Global,
+// The pieces of an item that is no atom.
+fn put_alone(
+    pieces: &mut Pieces,
     fonts: &FontSet,
     frame: BoundaryFrame,
     current: Current,
-    class: Class,
-    delim: Delim,
-    pieces: &mut Vec<Piece>,
+    half: PlacedHalf,
 ) -> Result<(), SetFault>
     requires wanted { Within (2 ^ 40) frame.wanted.sp }
-    requires meets { MayMeet current.last (Some class) }
-    ensures is { AppendsPieces result pieces.old.items pieces.new.items
-        (boundary_pieces fonts.now frame.size frame.wanted.sp current class delim) }
-    ensures few { OnOk result (length pieces.new.items ≤ length pieces.old.items + 2) }
-    ensures fits { OnOk result ((n : ℕ) → 2 ≤ n → RowFits n pieces.old.items → RowFits n pieces.new.items) }
+    requires meets { MayMeet current.last (placed_left half) }
+    requires fits { PlacedFits half }
+    ensures { (row : List PieceValue) → is_set_atom half ≡ false
+        → SetsRowOn result pieces.old pieces.new (half_pieces fonts.now frame.size frame.wanted.sp current (placed_value half row)) }
 {
-    let boundary = boundary(alloc, fonts, frame, delim)?;
-    push_space(fonts, current, class, pieces)?;
-    push_piece(pieces, boundary)?;
-    Ok(())
-}
-
-// The space before an atom.
-fn push_space(
-    fonts: &FontSet,
-    current: Current,
-    class: Class,
-    pieces: &mut Vec<Piece>,
-) -> Result<(), AllocError>
-    requires meets { MayMeet current.last (Some class) }
-    ensures is { OnOk result (piece_values pieces.new.items
-        ≡ piece_values pieces.old.items ++ space_of fonts.now current class) }
-    ensures few { OnOk result (length pieces.new.items ≤ length pieces.old.items + 1) }
-    ensures fits { OnOk result ((n : ℕ) → RowFits n pieces.old.items → RowFits n pieces.new.items) }
-{
-    if let Some(space) = space_before(fonts, current, class) {
-        push_piece(pieces, space)?;
+    match half {
+        PlacedHalf::Left(delim) => put_boundary(pieces, fonts, frame, current, Class::Open, delim),
+        PlacedHalf::Middle(delim) => {
+            put_boundary(pieces, fonts, frame, current, Class::Close, delim)
+        }
+        PlacedHalf::Right(delim) => {
+            put_boundary(pieces, fonts, frame, current, Class::Close, delim)
+        }
+        PlacedHalf::Set { .. } | PlacedHalf::Style(_) => Ok(()),
+        PlacedHalf::Kern(amount) => Ok(pieces.put_kern(Length { sp: amount })?),
+        PlacedHalf::Space(glue) => Ok(put_glue(pieces, glue)?),
     }
-    Ok(())
 }

@@ -1,27 +1,22 @@
 //! How an atom is built: the form that its kind and its fields give it (The TeXbook, Appendix G,
 //! rules 12, 13 and 17).
-ghost use Rattle.std.specs.Prelude.{◌≡◌, ◌≤◌, ◌^◌, ℕ, IfOk, Ok};
-ghost use Rattle.mt_scaled.specs.Number.{Within};
+ghost use Rattle.std.specs.Prelude.{◌≡◌};
 ghost use Rattle.mt_rules.specs.Nuclei.{SymbolContent};
 ghost use Rattle.mt_rules.specs.Operators.{uses_limits};
-ghost use Rattle.mt_rules.specs.Setting.{Setting};
 ghost use Rattle.mt_rules.specs.View.{part_of_field};
-ghost use Rattle.mt_box.specs.Layout.{Layout};
-ghost use Rattle.mt_convert.specs.inner.Answers.{SetsBox, SetsNucleus, SetsOperator};
-ghost use Rattle.mt_convert.specs.inner.Forms.{accent_form, as_operator, form_of, radical_form};
-ghost use Rattle.mt_convert.specs.inner.AtomSteps.{as_nucleus, class_nucleus};
-ghost use Rattle.mt_convert.specs.inner.Nucleus.{NucleusIsSmall};
+ghost use Rattle.mt_convert.specs.inner.Forms.{accent_form, form_of, radical_form};
+ghost use Rattle.mt_convert.specs.inner.AtomSteps.{class_nucleus};
+ghost use Rattle.mt_convert.specs.inner.OnPieces.{SetsNucleusOn};
 ghost use Rattle.mt_convert.specs.inner.Turns.{role_value};
 
 use crate::SetFault;
 use crate::flat::joining::is_empty;
 use crate::flat::passed::JoiningRole;
-use crate::set::nucleus::{SetNucleus, SetOperator, box_nucleus, operator_nucleus, symbol_nucleus};
-use mt_box::Packed;
+use crate::set::nucleus::{operator_nucleus, symbol_nucleus};
 use mt_family::FontSet;
+use mt_pieces::Pieces;
 use mt_rules::{Atom, Class, Delim, Field, Kind, Limits, Style, Symbol};
 use mt_scaled::Length;
-use std::alloc::Global;
 
 /// How an atom is built.
 #[derive(Clone, Copy)]
@@ -93,43 +88,19 @@ fn radical_form(sign: Delim, nucleus: &Field) -> AtomForm
 
 // The nucleus of a symbol in an atom of this class.
 pub(crate) fn class_nucleus(
-    alloc: Global,
+    pieces: &mut Pieces,
     fonts: &FontSet,
     style: Style,
     class: Class,
     role: JoiningRole,
     symbol: Symbol,
     has_subscript: bool,
-) -> Result<SetNucleus, SetFault>
-    ensures is { SetsNucleus result
+) -> Result<Length, SetFault>
+    ensures is { SetsNucleusOn result pieces.old pieces.new
         (class_nucleus class fonts.now style (role_value role) (SymbolContent symbol) has_subscript) }
-    ensures fits { IfOk result (NucleusIsSmall 1) }
 {
     match class {
-        Class::Op => operator_nucleus(alloc, fonts, style, symbol, has_subscript),
-        _ => symbol_nucleus(alloc, fonts, style, symbol, role, has_subscript),
+        Class::Op => operator_nucleus(pieces, fonts, style, symbol, has_subscript),
+        _ => symbol_nucleus(pieces, fonts, style, symbol, role, has_subscript),
     }
-}
-
-// What is set as a box, as a nucleus.
-pub(crate) fn part_nucleus(
-    alloc: Global,
-    part: Result<Packed, SetFault>,
-) -> Result<SetNucleus, SetFault>
-    ensures is { (setting : Setting Layout) → SetsBox part setting → SetsNucleus result (as_nucleus setting) }
-    ensures fits { (n : ℕ) → IfOk part (λ b. b.level ≤ n) → IfOk result (NucleusIsSmall n) }
-{
-    box_nucleus(alloc, part?)
-}
-
-// What is set as a box, as an operator without an italic correction.
-pub(crate) fn part_operator(part: Result<Packed, SetFault>) -> Result<SetOperator, SetFault>
-    ensures is { (setting : Setting Layout) → SetsBox part setting → SetsOperator result (as_operator setting) }
-    ensures level { (n : ℕ) → IfOk part (λ b. b.level ≤ n) → IfOk result (λ o. o.body.level ≤ n) }
-    ensures delta { IfOk result (λ o. Within (2 ^ 31) o.delta.sp) }
-{
-    Ok(SetOperator {
-        body: part?,
-        delta: Length { sp: 0 },
-    })
 }

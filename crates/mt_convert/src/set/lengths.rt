@@ -1,24 +1,24 @@
 //! Spaces and kerns of a list, and the kern after an atom that is joined with the next one.
-ghost use Rattle.std.specs.Prelude.{◌≡◌, ◌++◌, ◌∷◌, [], ℕ, IfOk, OnOk};
+ghost use Rattle.std.specs.Prelude.{◌≡◌, ◌++◌, ◌∷◌, [], IfOk, OnOk};
 ghost use Rattle.mt_rules.specs.Modest.{GlueAmounts};
-ghost use Rattle.mt_convert.specs.declared.half.Half.TheVariants as half_of_list;
+ghost use Rattle.mt_convert.specs.declared.placed.PlacedHalf.TheVariants as placed;
 ghost use Rattle.mt_convert.specs.FirstPass.{glue_in_points, make_kern, make_space};
-ghost use Rattle.mt_convert.specs.Halfway.{HalfFits};
-ghost use Rattle.mt_convert.specs.inner.Answers.{SetsHalf};
 ghost use Rattle.mt_convert.specs.inner.Lengths.{SetsKern, kern_halves};
+ghost use Rattle.mt_convert.specs.inner.OnPieces.{SetsPlaced};
+ghost use Rattle.mt_convert.specs.inner.Placed.{PlacedFits};
 
 use crate::SetFault;
-use crate::half::Half;
+use crate::placed::PlacedHalf;
 use mt_family::FontSet;
 use mt_rules::{Glue, Style, in_points};
 use mt_scaled::{Length, in_range};
 use std::alloc::AllocError;
 
 // A space, tested: its width, then its shrink.
-pub(crate) fn make_space(glue: Glue) -> Result<Half, SetFault>
-    ensures is { SetsHalf result (make_space glue) }
-    ensures fits { IfOk result (λ h. (n : ℕ) → HalfFits n h) }
-    ensures same { IfOk result (λ h. h ≡ half_of_list.Space glue) }
+pub(crate) fn make_space(glue: Glue) -> Result<PlacedHalf, SetFault>
+    ensures is { SetsPlaced result (make_space glue) }
+    ensures fits { IfOk result PlacedFits }
+    ensures same { IfOk result (λ h. h ≡ placed.Space glue) }
 {
     if !in_range(glue.width) {
         return Err(SetFault::Overflow(glue.width));
@@ -26,19 +26,19 @@ pub(crate) fn make_space(glue: Glue) -> Result<Half, SetFault>
     if !in_range(glue.shrink) {
         return Err(SetFault::Overflow(glue.shrink));
     }
-    Ok(Half::Space(glue))
+    Ok(PlacedHalf::Space(glue))
 }
 
 // A kern, tested.
-pub(crate) fn make_kern(amount: Length) -> Result<Half, SetFault>
-    ensures is { SetsHalf result (make_kern amount.sp) }
-    ensures fits { IfOk result (λ h. (n : ℕ) → HalfFits n h) }
-    ensures same { IfOk result (λ h. h ≡ half_of_list.Kern amount.sp) }
+pub(crate) fn make_kern(amount: Length) -> Result<PlacedHalf, SetFault>
+    ensures is { SetsPlaced result (make_kern amount.sp) }
+    ensures fits { IfOk result PlacedFits }
+    ensures same { IfOk result (λ h. h ≡ placed.Kern amount.sp) }
 {
     if !in_range(amount.sp) {
         return Err(SetFault::Overflow(amount.sp));
     }
-    Ok(Half::Kern(amount.sp))
+    Ok(PlacedHalf::Kern(amount.sp))
 }
 
 // A space in math units, in scaled points.
@@ -54,8 +54,8 @@ pub(crate) fn glue_in_points(fonts: &FontSet, style: Style, glue: Glue) -> Glue
 
 // An item that was set, and after it the kern between it and the next atom, tested.
 pub(crate) fn push_with_kern(
-    halves: &mut Vec<Half>,
-    half: Half,
+    halves: &mut Vec<PlacedHalf>,
+    half: PlacedHalf,
     kern: Option<i64>,
 ) -> Result<(), SetFault>
     ensures is { SetsKern result kern }
@@ -72,7 +72,7 @@ pub(crate) fn push_with_kern(
     }
 }
 
-fn push_item(halves: &mut Vec<Half>, half: Half) -> Result<(), AllocError>
+fn push_item(halves: &mut Vec<PlacedHalf>, half: PlacedHalf) -> Result<(), AllocError>
     ensures { OnOk result (halves.new.items ≡ halves.old.items ++ half ∷ []) }
 {
     halves.push(half)?;

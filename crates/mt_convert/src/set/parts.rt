@@ -1,9 +1,10 @@
-//! Parts round a nucleus, which is given as a box (The TeXbook, Appendix G, rules 8 to 12 and 15).
-ghost use Rattle.std.specs.Prelude.{◌≡◌, ◌≤◌, ◌+◌, ◌^◌, ℕ, All, IfOk, Ok, length, map, max};
+//! Parts round a nucleus, which is the last piece (The TeXbook, Appendix G, rules 8 to 12 and 15).
+ghost use Rattle.std.specs.Prelude.{◌≡◌, ◌≤◌, ◌^◌, ◌++◌, ◌∷◌, [], ℕ, IsOk, List, Ok, drop, length, pos};
 ghost use Rattle.std.specs.Prelude.{unwrap_or};
 ghost use Rattle.mt_scaled.specs.Number.{Within};
-ghost use Rattle.mt_box.specs.Layout.{layout_of};
 ghost use Rattle.mt_box.specs.Extents.{ExtentsInRange};
+ghost use Rattle.mt_box.specs.Layout.{Layout};
+ghost use Rattle.mt_box.specs.Rows.{PieceBox, PieceValue};
 ghost use Rattle.mt_rules.specs.Accents;
 ghost use Rattle.mt_rules.specs.AtomRow.{content_skew, skew_in};
 ghost use Rattle.mt_rules.specs.Fractions;
@@ -14,123 +15,118 @@ ghost use Rattle.mt_rules.specs.Radicals;
 ghost use Rattle.mt_rules.specs.Styles.{size_of};
 ghost use Rattle.mt_rules.specs.Symbols.{find_symbol};
 ghost use Rattle.mt_rules.specs.Vcenter;
+ghost use Rattle.mt_rules.specs.Veils.{veil_layout};
 ghost use Rattle.mt_family.specs.SetValue.{number_in};
-ghost use Rattle.mt_convert.specs.Calls.{SetsRow};
-ghost use Rattle.mt_convert.specs.Halfway.{RowFits};
-ghost use Rattle.mt_convert.specs.inner.Answers.{ReachInRange, SetsBox};
-ghost use Rattle.mt_convert.specs.inner.Fields.{field_content};
+ghost use Rattle.mt_pieces.specs.Putting.{unraised_boxes};
 ghost use Rattle.mt_convert.specs.inner.AtomSteps.{lone_box, row_of_root};
+ghost use Rattle.mt_convert.specs.inner.Fields.{field_content};
+ghost use Rattle.mt_convert.specs.inner.OnPieces.{EndsInTwoBoxes, SetsAtomOn, SetsBoxOn};
 
 use crate::SetFault;
-use crate::set::row::{push_piece, tested};
-use mt_box::{Extents, Packed, Piece, Row};
+use crate::set::answers::part_set;
+use crate::set::row::{look_at_last, test_row};
+use mt_box::Extents;
 use mt_family::{FontSet, Size};
-use mt_parts::{
-    accent_box, fraction_box, overline_box, radical_box, root_row, underline_box, vcenter_box,
-};
+use mt_pieces::Pieces;
 use mt_rules::parameters::default_rule_thickness;
-use mt_rules::{Delim, Field, PackedList, Style, Symbol};
+use mt_rules::{Delim, Field, Style, Symbol};
 use mt_scaled::Length;
 use std::alloc::Global;
 
 #[inline(never)]
 pub(crate) fn radical(
-    alloc: Global,
+    pieces: &mut Pieces,
     fonts: &FontSet,
     style: Style,
     sign: Delim,
-    body: Packed,
-) -> Result<Packed, SetFault>
-    requires { body.level ≤ 4000 }
-    ensures is { SetsBox result (Radicals.radical fonts.now style sign (layout_of body)) }
-    ensures level { IfOk result (λ b. b.level ≤ body.level + 2) }
+) -> Result<(), SetFault>
+    ensures { (rest : List PieceValue) (l : Layout) → pieces.old ≡ rest ++ PieceBox (pos 0) l ∷ []
+        → SetsBoxOn result rest pieces.new (Radicals.radical fonts.now style sign l) }
 {
-    Ok(radical_box(alloc, fonts, style, sign, body)?)
+    part_set(pieces.radical(fonts, style, sign))
 }
 
-// The row of a degree and its radical.
+// The row of a degree and its radical, which are the last pieces, tested. The degree is number `first`.
 #[inline(never)]
 pub(crate) fn with_degree(
-    alloc: Global,
+    pieces: &mut Pieces,
     fonts: &FontSet,
     style: Style,
-    degree: Packed,
-    radical: Packed,
-) -> Result<Row, SetFault>
-    requires degree_level { degree.level ≤ 4000 }
-    requires radical_level { radical.level ≤ 4000 }
-    ensures is { SetsRow result (row_of_root fonts.now style (layout_of degree) (layout_of radical)) }
-    ensures few { IfOk result (λ row. length row ≤ 4) }
-    ensures fits { IfOk result (λ row. (n : ℕ) → degree.level ≤ n → radical.level ≤ n → RowFits n row) }
-    ensures reach { IfOk result ReachInRange }
+    first: usize,
+) -> Result<(), SetFault>
+    requires { EndsInTwoBoxes first pieces.old }
+    ensures { (rest : List PieceValue) (d r : Layout) → length rest ≡ first
+        → pieces.old ≡ rest ++ PieceBox (pos 0) d ∷ PieceBox (pos 0) r ∷ []
+        → SetsAtomOn result rest pieces.new (row_of_root fonts.now style d r) }
 {
-    let row = root_row(alloc, fonts, style, degree, radical)?;
-    tested(row)
+    part_set(pieces.root(fonts, style))?;
+    test_row(pieces, first)
 }
 
 #[inline(never)]
-pub(crate) fn overline(
-    alloc: Global,
-    fonts: &FontSet,
-    size: Size,
-    body: Packed,
-) -> Result<Packed, SetFault>
-    requires { body.level ≤ 4000 }
-    ensures is { SetsBox result (Lines.overline fonts.now size (layout_of body)) }
-    ensures level { IfOk result (λ b. b.level ≤ body.level + 2) }
+pub(crate) fn overline(pieces: &mut Pieces, fonts: &FontSet, size: Size) -> Result<(), SetFault>
+    ensures { (rest : List PieceValue) (l : Layout) → pieces.old ≡ rest ++ PieceBox (pos 0) l ∷ []
+        → SetsBoxOn result rest pieces.new (Lines.overline fonts.now size l) }
 {
-    Ok(overline_box(alloc, fonts, size, body)?)
+    part_set(pieces.overline(fonts, size))
 }
 
 #[inline(never)]
-pub(crate) fn underline(
-    alloc: Global,
-    fonts: &FontSet,
-    size: Size,
-    body: Packed,
-) -> Result<Packed, SetFault>
-    requires { body.level ≤ 4000 }
-    ensures is { SetsBox result (Lines.underline fonts.now size (layout_of body)) }
-    ensures level { IfOk result (λ b. b.level ≤ body.level + 2) }
+pub(crate) fn underline(pieces: &mut Pieces, fonts: &FontSet, size: Size) -> Result<(), SetFault>
+    ensures { (rest : List PieceValue) (l : Layout) → pieces.old ≡ rest ++ PieceBox (pos 0) l ∷ []
+        → SetsBoxOn result rest pieces.new (Lines.underline fonts.now size l) }
 {
-    Ok(underline_box(alloc, fonts, size, body)?)
+    part_set(pieces.underline(fonts, size))
 }
 
+// The rows from number `first` on, one below another, with the axis in the middle.
 #[inline(never)]
 pub(crate) fn vcenter(
+    pieces: &mut Pieces,
     alloc: Global,
     fonts: &FontSet,
     size: Size,
-    rows: PackedList,
-) -> Result<Packed, SetFault>
-    requires few { length rows ≤ 2 ^ 18 }
-    requires levels { All (λ b. b.level ≤ 4000) rows }
-    ensures is { SetsBox result (Vcenter.vcenter fonts.now size (map layout_of rows)) }
-    ensures level { IfOk result (λ b. (n : ℕ) → All (λ r. r.level ≤ n) rows → b.level ≤ n + 1) }
+    first: usize,
+) -> Result<(), SetFault>
+    requires few { length (drop first pieces.old) ≤ 2 ^ 18 }
+    ensures { (rest : List PieceValue) (ls : List Layout) → length rest ≡ first
+        → pieces.old ≡ rest ++ unraised_boxes ls
+        → SetsBoxOn result rest pieces.new (Vcenter.vcenter fonts.now size ls) }
 {
-    Ok(vcenter_box(alloc, fonts, size, rows)?)
+    part_set(pieces.vcenter(alloc, fonts, size, first))
 }
 
-// The accent over a body. The accent's symbol was found in the font of this number.
+// The accent over the last piece. The accent's symbol is found at this size.
 #[inline(never)]
 pub(crate) fn accent(
-    alloc: Global,
+    pieces: &mut Pieces,
     fonts: &FontSet,
     size: Size,
-    number: u16,
     symbol: Symbol,
     skew: Length,
     plain: Extents,
-    body: Packed,
-) -> Result<Packed, SetFault>
-    requires found { find_symbol fonts.now size symbol ≡ Ok number }
+) -> Result<(), SetFault>
+    requires found { IsOk (find_symbol fonts.now size symbol) }
     requires skew { Within (2 ^ 31) skew.sp }
     requires plain { ExtentsInRange plain }
-    requires level { body.level ≤ 4000 }
-    ensures is { SetsBox result (Accents.accent fonts.now number symbol.code skew.sp plain (layout_of body)) }
-    ensures level { IfOk result (λ b. b.level ≤ max body.level 1 + 1) }
+    ensures { (k : ℕ) → find_symbol fonts.now size symbol ≡ Ok k → (rest : List PieceValue) (l : Layout)
+        → pieces.old ≡ rest ++ PieceBox (pos 0) l ∷ []
+        → SetsBoxOn result rest pieces.new (Accents.accent fonts.now k symbol.code skew.sp plain l) }
 {
-    Ok(accent_box(alloc, fonts, size, symbol, skew.sp, plain, body)?)
+    part_set(pieces.accent(fonts, size, symbol, skew, plain))
+}
+
+// What a phantom leaves of the last piece.
+pub(crate) fn veil(
+    pieces: &mut Pieces,
+    width: bool,
+    height: bool,
+    marks: bool,
+) -> Result<(), SetFault>
+    ensures { (rest : List PieceValue) (l : Layout) → pieces.old ≡ rest ++ PieceBox (pos 0) l ∷ []
+        → SetsBoxOn result rest pieces.new (Ok (veil_layout width height marks l)) }
+{
+    part_set(pieces.veil(width, height, marks))
 }
 
 // The skew of a symbol, in the font that its family has at this size.
@@ -157,39 +153,27 @@ pub(crate) fn field_skew(fonts: &FontSet, size: Size, field: &Field) -> Length
     }
 }
 
-// The row of a fraction. Without a thickness of its own its rule has that of the font.
+// The row of a fraction, whose numerator and denominator are the last pieces. Without a thickness of its own its rule
+// has that of the font.
 #[inline(never)]
 pub(crate) fn fraction(
-    alloc: Global,
+    pieces: &mut Pieces,
     fonts: &FontSet,
     style: Style,
     thickness: Option<i64>,
     left: Delim,
     right: Delim,
-    num: Packed,
-    den: Packed,
-) -> Result<Row, SetFault>
+) -> Result<(), SetFault>
     requires thickness { ThicknessAmount thickness }
-    requires num_level { num.level ≤ 4000 }
-    requires den_level { den.level ≤ 4000 }
-    ensures is { SetsRow result (lone_box (Fractions.fraction fonts.now style
-        (unwrap_or thickness (Parameters.default_rule_thickness fonts.now (size_of style)))
-        left right (layout_of num) (layout_of den))) }
-    ensures few { IfOk result (λ row. length row ≤ 3) }
-    ensures fits { IfOk result (λ row. (n : ℕ) → num.level ≤ n → den.level ≤ n → RowFits (n + 3) row) }
-    ensures reach { IfOk result ReachInRange }
+    ensures { (rest : List PieceValue) (n d : Layout)
+        → pieces.old ≡ rest ++ PieceBox (pos 0) n ∷ PieceBox (pos 0) d ∷ []
+        → SetsAtomOn result rest pieces.new (lone_box (Fractions.fraction fonts.now style
+        (unwrap_or thickness (Parameters.default_rule_thickness fonts.now (size_of style))) left right n d)) }
 {
     let thickness = thickness_of(fonts, style, thickness);
-    let whole = fraction_box(alloc, fonts, style, thickness.sp, left, right, num, den)?;
-    let mut pieces = Vec::new(alloc);
-    push_piece(
-        &mut pieces,
-        Piece::Boxed {
-            raise: 0,
-            body: whole,
-        },
-    )?;
-    Ok(Row::from_vec(pieces))
+    part_set(pieces.fraction(fonts, style, thickness, left, right))?;
+    look_at_last(pieces);
+    Ok(())
 }
 
 fn thickness_of(fonts: &FontSet, style: Style, thickness: Option<i64>) -> Length

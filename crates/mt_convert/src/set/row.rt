@@ -1,47 +1,42 @@
-//! Rows of pieces: a piece put to the end, and the test of a whole row.
-ghost use Rattle.std.specs.Prelude.{◌≡◌, ◌≤◌, ◌^◌, ◌++◌, ◌∷◌, [], ℕ, IfOk, OnOk, length};
-ghost use Rattle.mt_box.specs.Layout.{layout_of};
-ghost use Rattle.mt_box.specs.Rows.{AllMeasurable, piece_values};
+//! The test of a whole row.
+ghost use Rattle.std.specs.Prelude.{◌≡◌, ◌≤◌, ◌≤ℤ◌, ◌^◌, ◌++◌, ◌∷◌, [], ℤ, List, OnOk, drop, length, pos};
+ghost use Rattle.mt_scaled.specs.Number.{max_dimen};
+ghost use Rattle.mt_box.specs.Extents.{ExtentsInRange};
+ghost use Rattle.mt_box.specs.Layout.{Layout};
+ghost use Rattle.mt_box.specs.Rows.{PieceBox, PieceValue, row_depth, row_height};
 ghost use Rattle.mt_rules.specs.Setting.{make_row};
-ghost use Rattle.mt_convert.specs.Calls.{SetsRow};
-ghost use Rattle.mt_convert.specs.Halfway.{RowFits};
-ghost use Rattle.mt_convert.specs.inner.Answers.{ReachInRange};
-ghost use Rattle.mt_convert.specs.inner.AtomSteps.{row_of_box};
+ghost use Rattle.mt_convert.specs.inner.OnPieces.{SetsAtomOn, TestsRow};
 
 use crate::SetFault;
-use mt_box::{Packed, Piece, Row, first_out, row_extents};
-use std::alloc::{AllocError, Global};
+use mt_box::first_out;
+use mt_pieces::Pieces;
 
-// A piece at the end of those that are there.
-pub(crate) fn push_piece(pieces: &mut Vec<Piece>, piece: Piece) -> Result<(), AllocError>
-    ensures { OnOk result (pieces.new.items ≡ pieces.old.items ++ piece ∷ []) }
+// The pieces from number `first` on as a row, tested as it packs.
+pub(crate) fn tested(pieces: &Pieces, first: usize) -> Result<(), SetFault>
+    requires few { length (drop first pieces.now) ≤ 2 ^ 21 }
+    ensures is { TestsRow result (drop first pieces.now) }
+    ensures height { OnOk result (row_height (drop first pieces.now) ≤ℤ pos max_dimen) }
+    ensures depth { OnOk result (row_depth (drop first pieces.now) ≤ℤ pos max_dimen) }
 {
-    pieces.push(piece)?;
-    Ok(())
-}
-
-// The row, tested as it packs.
-#[inline(always)]
-pub(crate) fn tested(row: Row) -> Result<Row, SetFault>
-    requires few { length row ≤ 2 ^ 21 }
-    requires measurable { AllMeasurable row }
-    ensures is { SetsRow result (make_row (piece_values row)) }
-    ensures same { IfOk result (λ r. r ≡ row) }
-{
-    match first_out(row_extents(&row)) {
+    match first_out(pieces.reach(first)) {
         Some(value) => Err(SetFault::Overflow(value)),
-        None => Ok(row),
+        None => Ok(()),
     }
 }
 
-// The row of a box alone, tested.
-pub(crate) fn box_row(alloc: Global, body: Packed) -> Result<Row, SetFault>
-    ensures is { SetsRow result (row_of_box (layout_of body)) }
-    ensures few { IfOk result (λ row. length row ≤ 3) }
-    ensures fits { IfOk result (λ row. (n : ℕ) → body.level ≤ n → RowFits n row) }
-    ensures reach { IfOk result ReachInRange }
+// The same of the row of an atom.
+pub(crate) fn test_row(pieces: &Pieces, first: usize) -> Result<(), SetFault>
+    requires few { length (drop first pieces.now) ≤ 4 }
+    ensures is { (before row : List PieceValue) → length before ≡ first → pieces.now ≡ before ++ row
+        → SetsAtomOn result before pieces.now (make_row row) }
 {
-    let mut pieces = Vec::with_capacity(alloc, 1)?;
-    push_piece(&mut pieces, Piece::Boxed { raise: 0, body })?;
-    tested(Row::from_vec(pieces))
+    tested(pieces, first)
+}
+
+// Does nothing. Its contract says that the last box is in range.
+pub(crate) fn look_at_last(pieces: &Pieces)
+    ensures { (before : List PieceValue) (raise : ℤ) (l : Layout) → pieces.now ≡ before ++ PieceBox raise l ∷ []
+        → ExtentsInRange l.extents }
+{
+    pieces.last_extents();
 }

@@ -1,134 +1,68 @@
 //! The last steps of an atom: its scripts, and the test of its row (The TeXbook, Appendix G, rules
 //! 13a and 18).
-ghost use Rattle.std.specs.Prelude.{◌≡◌, ◌≤◌, ◌+◌, ◌^◌, ℕ, IfOk, None, length, max};
+ghost use Rattle.std.specs.Prelude.{◌≡◌, ◌≤◌, ◌^◌, ◌++◌, ◌∷◌, ℤ, List, None, Option, drop, length, pos};
 ghost use Rattle.mt_family.specs.SetValue.{SetValue};
 ghost use Rattle.mt_rules.specs.declared.style.Style.{Style};
-ghost use Rattle.std.specs.Option.{option_map};
 ghost use Rattle.mt_scaled.specs.Number.{Within};
-ghost use Rattle.mt_box.specs.Layout.{layout_of};
-ghost use Rattle.mt_box.specs.Rows.{piece_values};
-ghost use Rattle.mt_rules.specs.Limits.{limits};
-ghost use Rattle.mt_rules.specs.Scripts.{row_with_scripts};
-ghost use Rattle.mt_scripts.specs.Levels.{script_level};
-ghost use Rattle.mt_convert.specs.Calls.{SetsRow};
-ghost use Rattle.mt_convert.specs.Halfway.{RowFits};
-ghost use Rattle.mt_convert.specs.inner.Answers.{ReachInRange, SetsBox};
+ghost use Rattle.mt_box.specs.Layout.{Layout};
+ghost use Rattle.mt_box.specs.Rows.{PieceBox, PieceValue};
+ghost use Rattle.mt_pieces.specs.Attaching.{AreThere, script_boxes};
 ghost use Rattle.mt_convert.specs.inner.AtomSteps.{row_beside, row_between};
-ghost use Rattle.mt_convert.specs.inner.Nucleus.{NucleusIsSmall, nucleus_value};
+ghost use Rattle.mt_convert.specs.inner.OnPieces.{SetsAtomOn};
 
 use crate::SetFault;
-use crate::set::nucleus::SetNucleus;
-use crate::set::row::{box_row, tested};
-use mt_box::{Packed, Row};
+use crate::set::answers::row_packed;
+use crate::set::row::{look_at_last, test_row};
 use mt_family::{FontSet, Size};
+use mt_pieces::{Pieces, Scripts};
 use mt_rules::Style;
 use mt_scaled::Length;
-use mt_scripts::{attach_scripts, limits_box};
-use std::alloc::Global;
 
-// The row of a nucleus with its scripts beside it.
+// The row of a nucleus, which are the pieces from number `first` on, with its scripts, whose boxes come after it.
 #[inline(never)]
 pub(crate) fn with_scripts(
-    alloc: Global,
+    pieces: &mut Pieces,
     fonts: &FontSet,
     style: Style,
-    nucleus: SetNucleus,
-    above: Option<Packed>,
-    below: Option<Packed>,
-) -> Result<Row, SetFault>
-    requires fits { NucleusIsSmall 4000 nucleus }
-    requires above_level { script_level above ≤ 4000 }
-    requires below_level { script_level below ≤ 4000 }
-    ensures is { SetsRow result (row_beside fonts.now style (nucleus_value nucleus)
-        (option_map layout_of above) (option_map layout_of below)) }
-    ensures few { IfOk result (λ row. length row ≤ 3) }
-    ensures fits { IfOk result (λ row. (n : ℕ) → RowFits n nucleus.row
-        → script_level above ≤ n → script_level below ≤ n → RowFits (n + 2) row) }
-    ensures reach { IfOk result ReachInRange }
+    first: usize,
+    delta: Length,
+    scripts: Scripts,
+) -> Result<(), SetFault>
+    requires few { length (drop first pieces.old) ≤ 4 }
+    requires delta { Within (2 ^ 31) delta.sp }
+    ensures is { (before row : List PieceValue) (above below : Option Layout) → AreThere scripts above below
+        → length before ≡ first → length row ≤ 2 → pieces.old ≡ before ++ (row ++ script_boxes above below)
+        → SetsAtomOn result before pieces.new
+        (row_beside fonts.now style (record { row = row; delta = delta.sp }) above below) }
 {
-    let row = attached(alloc, fonts, style, nucleus, above, below)?;
-    tested(row)
+    row_packed(pieces.scripts(fonts, style, first, delta, scripts))
 }
 
-// The row of a nucleus that has no scripts.
-pub(crate) fn without_scripts(nucleus: SetNucleus) -> Result<Row, SetFault>
-    requires fits { NucleusIsSmall 4000 nucleus }
-    ensures is { (fonts : SetValue) (style : Style) →
-        SetsRow result (row_beside fonts style (nucleus_value nucleus) None None) }
-    ensures few { IfOk result (λ row. length row ≤ 3) }
-    ensures fits { IfOk result (λ row. (n : ℕ) → RowFits n nucleus.row → RowFits n row) }
-    ensures reach { IfOk result ReachInRange }
+// The row of a nucleus that has no scripts: the pieces from number `first` on.
+pub(crate) fn without_scripts(pieces: &Pieces, first: usize) -> Result<(), SetFault>
+    requires few { length (drop first pieces.now) ≤ 4 }
+    ensures is { (before row : List PieceValue) → length before ≡ first → pieces.now ≡ before ++ row
+        → (fonts : SetValue) (style : Style) (delta : ℤ) → SetsAtomOn result before pieces.now
+        (row_beside fonts style (record { row = row; delta = delta }) None None) }
 {
-    let SetNucleus { row, .. } = nucleus;
-    tested(row)
+    test_row(pieces, first)
 }
 
-// A nucleus with its scripts after it.
-fn attached(
-    alloc: Global,
-    fonts: &FontSet,
-    style: Style,
-    nucleus: SetNucleus,
-    above: Option<Packed>,
-    below: Option<Packed>,
-) -> Result<Row, SetFault>
-    requires fits { NucleusIsSmall 4000 nucleus }
-    requires above_level { script_level above ≤ 4000 }
-    requires below_level { script_level below ≤ 4000 }
-    ensures is { SetsRow result (row_with_scripts fonts.now style (piece_values nucleus.row) nucleus.delta.sp
-        (option_map layout_of above) (option_map layout_of below)) }
-    ensures few { IfOk result (λ row. length row ≤ 3) }
-    ensures fits { IfOk result (λ row. (n : ℕ) → RowFits n nucleus.row
-        → script_level above ≤ n → script_level below ≤ n → RowFits (n + 2) row) }
-{
-    let SetNucleus { row, delta } = nucleus;
-    Ok(attach_scripts(alloc, fonts, style, row, delta.sp, above, below)?)
-}
-
-// The row of an operator with its scripts above and below it.
+// The row of an operator with its scripts above and below it. Its box and those of the scripts are the last pieces.
 #[inline(never)]
 pub(crate) fn with_limits(
-    alloc: Global,
+    pieces: &mut Pieces,
     fonts: &FontSet,
     size: Size,
-    body: Packed,
     delta: Length,
-    above: Option<Packed>,
-    below: Option<Packed>,
-) -> Result<Row, SetFault>
+    scripts: Scripts,
+) -> Result<(), SetFault>
     requires delta { Within (2 ^ 31) delta.sp }
-    requires body_level { body.level ≤ 4000 }
-    requires above_level { script_level above ≤ 4000 }
-    requires below_level { script_level below ≤ 4000 }
-    ensures is { SetsRow result (row_between fonts.now size (layout_of body) delta.sp
-        (option_map layout_of above) (option_map layout_of below)) }
-    ensures few { IfOk result (λ row. length row ≤ 3) }
-    ensures fits { IfOk result (λ row. (n : ℕ) → body.level ≤ n
-        → script_level above ≤ n → script_level below ≤ n → RowFits (n + 3) row) }
-    ensures reach { IfOk result ReachInRange }
+    ensures is { (rest : List PieceValue) (n : Layout) (above below : Option Layout) → AreThere scripts above below
+        → pieces.old ≡ rest ++ PieceBox (pos 0) n ∷ script_boxes above below
+        → SetsAtomOn result rest pieces.new (row_between fonts.now size n delta.sp above below) }
 {
-    let all = box_between(alloc, fonts, size, body, delta, above, below)?;
-    box_row(alloc, all)
-}
-
-// The box of an operator with its scripts above and below it.
-fn box_between(
-    alloc: Global,
-    fonts: &FontSet,
-    size: Size,
-    body: Packed,
-    delta: Length,
-    above: Option<Packed>,
-    below: Option<Packed>,
-) -> Result<Packed, SetFault>
-    requires delta { Within (2 ^ 31) delta.sp }
-    requires body_level { body.level ≤ 4000 }
-    requires above_level { script_level above ≤ 4000 }
-    requires below_level { script_level below ≤ 4000 }
-    ensures is { SetsBox result (limits fonts.now size (layout_of body) delta.sp
-        (option_map layout_of above) (option_map layout_of below)) }
-    ensures level { IfOk result (λ b. b.level
-        ≤ max body.level (max (script_level above) (script_level below)) + 3) }
-{
-    Ok(limits_box(alloc, fonts, size, body, delta.sp, above, below)?)
+    row_packed(pieces.limits(fonts, size, delta, scripts))?;
+    look_at_last(pieces);
+    Ok(())
 }

@@ -1,21 +1,25 @@
 //! Tables: the strut of a matrix, the cells that have a column, and the boxes of tables (plain TeX's
 //! `\matrix` and `\eqalign`; The TeXbook, chapters 18 and 19 and Appendix B).
-ghost use Rattle.std.specs.Prelude.{◌≡◌, ◌≤◌, ◌+◌, ◌^◌, ◌++◌, ◌∷◌, [], ℕ, All, IfOk, IsTrue, OnOk};
-ghost use Rattle.std.specs.Prelude.{length};
+ghost use Rattle.std.specs.Prelude.{◌≡◌, ◌≤◌, ◌^◌, ◌++◌, ◌∷◌, [], All, IfOk, IsTrue, List, OnOk};
+ghost use Rattle.std.specs.Prelude.{length, map};
 ghost use Rattle.mt_tfm.specs.Font.{exists};
 ghost use Rattle.mt_box.specs.Extents.{ExtentsInRange};
 ghost use Rattle.mt_rules.specs.AtomRow;
 ghost use Rattle.mt_rules.specs.Tables;
+ghost use Rattle.mt_rules.specs.Tables.{Cells};
 ghost use Rattle.mt_rules.specs.declared.list.Look.TheVariants.{Equations};
-ghost use Rattle.mt_align.specs.Cells.{cells_of};
-ghost use Rattle.mt_convert.specs.inner.Answers.{SetsBox, SetsExtents};
+ghost use Rattle.mt_box.specs.Rows.{PieceValue};
+ghost use Rattle.mt_pieces.specs.Celled.{cell_pieces};
+ghost use Rattle.mt_convert.specs.inner.Answers.{SetsExtents};
+ghost use Rattle.mt_convert.specs.inner.OnPieces.{SetsBoxOn};
 ghost use Rattle.mt_convert.specs.inner.Tables.{rows_in_columns, tested_glyph};
 
 use crate::SetFault;
+use crate::set::answers::row_packed;
 use crate::set::clean::find_symbol;
-use mt_align::{CellRow, CellRows, align_equations, align_matrix};
-use mt_box::{Extents, Packed, first_out};
+use mt_box::{Extents, first_out};
 use mt_family::{FontSet, Size};
+use mt_pieces::Pieces;
 use mt_rules::{Look, Symbol, TableRow, extents_without_italic};
 use mt_tfm::Font;
 use std::alloc::{AllocError, Global};
@@ -66,54 +70,50 @@ fn both_sides(row: TableRow) -> TableRow
     TableRow::from_vec(cells)
 }
 
-// A box at the end of those that are there.
-pub(crate) fn push_box(boxes: &mut Vec<Packed>, body: Packed) -> Result<(), AllocError>
-    ensures { OnOk result (boxes.new.items ≡ boxes.old.items ++ body ∷ []) }
+// The count of one more row.
+pub(crate) fn push_count(counts: &mut Vec<usize>, count: usize) -> Result<(), AllocError>
+    ensures { OnOk result (counts.new.items ≡ counts.old.items ++ count ∷ []) }
 {
-    boxes.push(body)?;
+    counts.push(count)?;
     Ok(())
 }
 
-// A row of cells at the end of those that are there.
-pub(crate) fn push_row(rows: &mut Vec<CellRow>, row: CellRow) -> Result<(), AllocError>
-    ensures { OnOk result (rows.new.items ≡ rows.old.items ++ row ∷ []) }
-{
-    rows.push(row)?;
-    Ok(())
-}
-
-// The box of a matrix.
+// The box of a matrix, whose cells are the pieces from number `first` on.
 #[inline(never)]
 pub(crate) fn matrix(
+    pieces: &mut Pieces,
     alloc: Global,
     fonts: &FontSet,
     size: Size,
     strut: Extents,
-    rows: CellRows,
-) -> Result<Packed, SetFault>
+    first: usize,
+    rows: &[usize],
+) -> Result<(), SetFault>
     requires strut { ExtentsInRange strut }
-    requires few { length rows ≤ 2 ^ 18 }
-    requires columns { All (λ row. length row ≤ 2 ^ 18) rows }
-    requires levels { All (All (λ b. b.level ≤ 4000)) rows }
-    ensures is { SetsBox result (Tables.matrix_table fonts.now size strut (cells_of rows)) }
-    ensures level { IfOk result (λ b. (n : ℕ) → All (All (λ c. c.level ≤ n)) rows → b.level ≤ n + 2) }
+    requires few { length rows.now ≤ 2 ^ 18 }
+    requires columns { All (λ n. n ≤ 2 ^ 18) rows.now }
+    ensures { (rest : List PieceValue) (cells : List Cells) → length rest ≡ first → rows.now ≡ map length cells
+        → pieces.old ≡ rest ++ cell_pieces cells
+        → SetsBoxOn result rest pieces.new (Tables.matrix_table fonts.now size strut cells) }
 {
-    Ok(align_matrix(alloc, fonts, size, strut, rows)?)
+    row_packed(pieces.matrix(alloc, fonts, size, strut, first, rows))
 }
 
-// The box of equations.
+// The box of equations, whose sides are the pieces from number `first` on.
 #[inline(never)]
 pub(crate) fn equations(
+    pieces: &mut Pieces,
     alloc: Global,
     fonts: &FontSet,
     size: Size,
-    rows: CellRows,
-) -> Result<Packed, SetFault>
-    requires few { length rows ≤ 2 ^ 18 }
-    requires columns { All (λ row. length row ≤ 2) rows }
-    requires levels { All (All (λ b. b.level ≤ 4000)) rows }
-    ensures is { SetsBox result (Tables.equations_table fonts.now size (cells_of rows)) }
-    ensures level { IfOk result (λ b. (n : ℕ) → All (All (λ c. c.level ≤ n)) rows → b.level ≤ n + 2) }
+    first: usize,
+    rows: &[usize],
+) -> Result<(), SetFault>
+    requires few { length rows.now ≤ 2 ^ 18 }
+    requires columns { All (λ n. n ≤ 2) rows.now }
+    ensures { (rest : List PieceValue) (cells : List Cells) → length rest ≡ first → rows.now ≡ map length cells
+        → pieces.old ≡ rest ++ cell_pieces cells
+        → SetsBoxOn result rest pieces.new (Tables.equations_table fonts.now size cells) }
 {
-    Ok(align_equations(alloc, fonts, size, rows)?)
+    row_packed(pieces.equations(alloc, fonts, size, first, rows))
 }

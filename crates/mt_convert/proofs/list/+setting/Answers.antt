@@ -1,128 +1,125 @@
-use Rattle.std.proofs.Common.{◌≡◌, ◌≤◌, ◌+◌, ◌*◌, ◌^◌, ◌∙◌, ℕ, length, All, ap, sym, subst, max, arith, rules, w64, FitsSigned}
-use Rattle.std.specs.Prelude.{Ok, IfOk, map, not}
-use Rattle.std.specs.Option.{option_map}
+use Rattle.std.proofs.Common.{◌≡◌, ◌≤◌, ◌^◌, ◌∙◌, [], ◌∷◌, ◌++◌, length, take, drop, ap, sym, subst, refl, arith, rules, w64, FitsSigned, length-append, Some, None, pos}
+use Rattle.std.specs.Prelude.{Ok, OnOk, not}
 use Rattle.std.proofs.lemmas.Result.{err_from_is_err_and}
-use Rattle.mt_box.specs.Layout.{layout_of}
-use Rattle.mt_box.specs.Rows.{piece_values}
+use Rattle.mt_box.specs.Rows.{PieceBox}
 use Rattle.mt_box.proofs.Lists.{no_more}
-use Rattle.mt_rules.specs.AtomRow.{overline_part, pack_rows, radical_part, underline_part, vcenter_part, veil_part}
-use Rattle.mt_rules.specs.Lines
 use Rattle.mt_scaled.specs.Number.{Within, max_dimen}
+use Rattle.mt_pieces.specs.Putting.{unraised_boxes}
+use Rattle.mt_rules.specs.AtomRow.{pack_rows}
+use Rattle.mt_rules.specs.declared.class.Class.TheVariants.{Inner}
 use Rattle.mt_rules.specs.Classes.{forward_of}
+use Rattle.mt_rules.specs.Lines
 use Rattle.mt_rules.specs.MathUnits.{in_points}
-use Rattle.mt_rules.specs.Modest.{element_nesting, grid_nesting, list_nesting, part_nesting, rows_nesting}
-use Rattle.mt_rules.specs.Nuclei.{clean_field, clean_list, make_clean}
+use Rattle.mt_rules.specs.Nuclei.{OrdinarySymbol, clean_field, clean_list, is_empty, make_clean, symbol_nucleus}
 use Rattle.mt_rules.specs.Radicals
 use Rattle.mt_rules.specs.Sequence.{RootPart, element_size, part_size, rows_length, rows_size}
-use Rattle.mt_rules.specs.Setting.{empty_layout}
+use Rattle.mt_rules.specs.Setting.{◌>>=◌, empty_layout, pack_row}
 use Rattle.mt_rules.specs.Styles.{cramped_of, size_of}
 use Rattle.mt_rules.specs.Symbols.{find_symbol}
 use Rattle.mt_rules.specs.View.{part_of_field}
-use Rattle.mt_convert.specs.Calls.{SetFails, SetsRow}
+use Rattle.mt_convert.specs.Calls.{SetFails}
+use Rattle.mt_convert.specs.declared.placed.PlacedHalf.TheVariants as placed
 use Rattle.mt_convert.specs.FirstPass
-use Rattle.mt_align.specs.Cells.{cells_of}
 use Rattle.mt_convert.specs.ListRow.{rows_by_style}
-use Rattle.mt_convert.specs.Halfway.{HalfFits, RowFits, count_of}
-use Rattle.mt_convert.specs.inner.Answers.{HalfReachInRange, SetsBox, SetsHalf, SetsNucleus, SetsOperator}
+use Rattle.mt_convert.specs.SecondPass.{second_pass_of}
+use Rattle.mt_convert.specs.inner.AtomSteps.{kind_nucleus, list_box, operator_box, part_box, row_beside, row_between, row_with_fields, row_with_limits}
 use Rattle.mt_convert.specs.inner.Fields.{field_content, list_content}
-use Rattle.mt_convert.specs.inner.AtomSteps.{accent_part, kind_nucleus, operator_box, row_beside, row_between, row_with_fields, row_with_limits}
-use Rattle.mt_convert.specs.inner.Modest.{IsModestElement, IsModestRows, ScriptLevels}
-use Rattle.mt_convert.specs.inner.Nucleus.{NucleusIsSmall, nucleus_value, operator_value}
+use Rattle.mt_convert.specs.inner.Modest.{IsModestElement, IsModestRows}
+use Rattle.mt_convert.specs.inner.OnPieces.{BoxesOn, SetsAtomOn, SetsBoxOn, SetsNucleusOn, SetsOperatorOn, SetsPlaced, SetsRowOn}
+use Rattle.mt_convert.specs.inner.Placed.{IsPlaced, placed_halves}
 use Rattle.mt_convert.specs.inner.Turns.{atom_passed, element_of_passed, flat_item, fraction_passed, passed_value, role_value}
 use Rattle.mt_convert.proofs.Appending.{fails_then}
-use Rattle.mt_convert.proofs.kinds.Accents.{accent_given, accent_part_made, finding_fails, inside_finding_fails, inside_nucleus_fails, inside_plain_fails, inside_row_fails, inside_row_here, over_row_fails, over_row_made, plain_fails, row_packing_fails}
+use Rattle.mt_convert.proofs.Behind.{box_and_scripts, few_behind, few_row, kept_word, nil_right, rest_before, row_and_scripts, row_behind, scripts_few, two_boxes}
+use Rattle.mt_convert.proofs.BothPasses.{list_err, list_set}
+use Rattle.mt_convert.proofs.Going.{again_falls, going_again, going_end, going_err, going_kern_err, going_pass, going_start, leaves_none, leaves_some, next_fits, reaches_on, turned_none, turned_some}
+use Rattle.mt_convert.proofs.Turning.{same_empty}
+use Rattle.mt_convert.proofs.kinds.Accents.{accent_given, accent_part_made, finding_fails, found, inside_accent_fails, inside_body_fails, inside_finding_fails, inside_made, inside_plain_fails, plain_fails}
 use Rattle.mt_convert.proofs.kinds.Atoms.{beside_row, inside_row, limits_row}
-use Rattle.mt_convert.proofs.kinds.Bounds.{body_of_part, degree_of_part, den_of_fraction, row_fits_more, grid_of_part, list_of_part, nucleus_fits_more, modest_nucleus, num_of_fraction, rows_of_part, modest_sub, modest_sup, thickness_of_fraction}
-use Rattle.mt_convert.proofs.SetNuclei.{if_ok_map}
+use Rattle.mt_convert.proofs.kinds.Bounds.{body_of_part, degree_of_part, den_of_fraction, grid_of_part, list_of_part, modest_nucleus, modest_sub, modest_sup, num_of_fraction, rows_of_part, thickness_of_fraction}
 use Rattle.mt_convert.proofs.kinds.Chains.{first_made}
 use Rattle.mt_convert.proofs.kinds.Fractions.{den_fails, fraction_made, num_fails}
-use Rattle.mt_convert.proofs.Fitting.{kept_word}
-use Rattle.mt_convert.proofs.kinds.Items.{atom_item_fails, atom_item_made, fraction_item_fails, fraction_item_made, kern_few, kern_reach, row_reach, space_few, space_reach}
-use Rattle.mt_convert.proofs.Turning.{same_empty}
-use Rattle.mt_convert.proofs.kinds.Parts.{big_nucleus_is, big_operator_is, both_made, clean_empty_is, clean_list_is, clean_symbol_is, empty_nucleus_is, empty_operator_is, has_no_box, has_no_nucleus, list_fails, list_made, list_nucleus_is, list_operator_is, no_script, no_scripts, packed_made, packing_fails, script_fails, script_made, sub_fails, sup_fails, symbol_nucleus_is, symbol_operator_is}
+use Rattle.mt_convert.proofs.kinds.Items.{alone, atom_item_fails, atom_item_made, atom_placed, fraction_item_fails, fraction_item_made, kern_placed, space_placed}
+use Rattle.mt_convert.proofs.kinds.Parts.{big_nucleus_is, big_operator_is, both_made, clean_empty_is, clean_list_is, clean_symbol_is, empty_nucleus_is, empty_operator_is, has_no_box, has_no_nucleus, list_nucleus_is, list_operator_is, no_row, no_script, no_scripts, part_nucleus_is, script_fails, script_made, sub_fails, sup_fails, symbol_nucleus_is, symbol_operator_is}
 use Rattle.mt_convert.proofs.kinds.Roots.{body_fails, degree_fails, field_made, no_degree, nucleus_fails, of_root, root_form, root_made, row_fails as field_row_fails, veil_fails, veil_made}
-use Rattle.mt_convert.proofs.kinds.RowBoxes.{all_of_none, box_fails, next_row, next_size, without_rows, row_fails, rows_count, rows_end, rows_few, rows_start, rows_step, vcenter_empty, vcenter_fails, vcenter_made}
+use Rattle.mt_convert.proofs.kinds.RowBoxes.{count_is, next_row, next_size, row_fails, rows_end, rows_few, rows_start, rows_step, unraised_length, vcenter_empty, vcenter_fails, vcenter_made, without_rows}
 use Rattle.mt_convert.proofs.kinds.TableBoxes.{cells_end, cells_fail, cells_few, cells_start, cells_step, next_cells, next_cells_size, vcenter_table}
-use Rattle.mt_convert.proofs.BothPasses.{list_err, list_set, list_fits}
-use Rattle.mt_convert.proofs.Going.{going_start, next_fits, going_err, going_kern_err, going_pass, going_again, again_falls, going_end, going_settles, turned_some, turned_none, leaves_some, leaves_none}
-use Rattle.mt_convert.proofs.holds.Lists.{call_holds}
 use Rattle.mt_convert.proofs.list.+setting.Goals as goal
 
--- the two public functions: the first pass, and both
+-- ---- `set_list_on` and `first_pass_on`
 
-pub first_pass-loop-front-init : goal.first_pass-loop-front-init
-first_pass-loop-front-init t c = going_start c.args.fonts.now c.args.style c.args.list c.opening-current.result c.of-rest.result c.in_ok-halves.halves.items c.requires.modest c.of-rest.ensures.facts c.opening-current.ensures c.of-rest.ensures.is c.in_ok-halves.ensures.items
+pub set_list_on-first_pass_on-requires : goal.set_list_on-first_pass_on-requires
+set_list_on-first_pass_on-requires t c = (omega (arith, c.decreases), c.requires.modest)
 
-pub first_pass-set_item-requires : goal.first_pass-set_item-requires
-first_pass-set_item-requires t c =
+pub set_list_on-returns-in_err-halves-clause-is : goal.set_list_on-returns-in_err-halves-clause-is
+set_list_on-returns-in_err-halves-clause-is t c =
+    let p = err_from_is_err_and c.from_residual.result c.from_residual.ensures.1 in rw (p.1, p.2) (list_err c.args.fonts.now c.args.style c.args.list _ c.in_err-halves.ensures.is)
+
+pub set_list_on-join_on-requires-clause-first : goal.set_list_on-join_on-requires-clause-first
+set_list_on-join_on-requires-clause-first t c = omega (arith, c.len-first.ensures, ap length c.in_ok-halves.ensures.is.stays, length-append c.args.pieces.now c.in_ok-halves.ensures.is.row)
+
+pub set_list_on-join_on-requires-clause-placed : goal.set_list_on-join_on-requires-clause-placed
+set_list_on-join_on-requires-clause-placed t c = subst (IsPlaced c.in_ok-halves.halves) (sym (row_behind _ c.args.pieces.now c.in_ok-halves.ensures.is.row _ c.len-first.ensures c.in_ok-halves.ensures.is.stays)) c.in_ok-halves.ensures.is.placed
+
+pub set_list_on-returns-clause-is : goal.set_list_on-returns-clause-is
+set_list_on-returns-clause-is t c =
+    let h = c.in_ok-halves.ensures.is in
+    list_set c.args.fonts.now c.args.style c.args.list h.row c.in_ok-halves.halves c.join_on.result c.args.pieces.now c.join_on.new.pieces h.is
+    (subst (λ x. SetsRowOn c.join_on.result x c.join_on.new.pieces (second_pass_of c.args.fonts.now c.args.style (placed_halves c.in_ok-halves.halves h.row))) (rest_before _ c.args.pieces.now h.row _ c.len-first.ensures h.stays)
+    (subst (λ r. SetsRowOn c.join_on.result (take c.len-first.result c.first_pass_on.new.pieces) c.join_on.new.pieces (second_pass_of c.args.fonts.now c.args.style (placed_halves c.in_ok-halves.halves r))) (row_behind _ c.args.pieces.now h.row _ c.len-first.ensures h.stays) c.join_on.ensures.is))
+
+pub set_list_on-returns-clause-few : goal.set_list_on-returns-clause-few
+set_list_on-returns-clause-few t c = subst (λ n. OnOk c.join_on.result (length (drop n c.join_on.new.pieces) ≤ 2 ^ 21)) c.len-first.ensures c.join_on.ensures.few
+
+pub first_pass_on-loop-front-init : goal.first_pass_on-loop-front-init
+first_pass_on-loop-front-init t c = going_start c.args.fonts.now c.args.style c.args.list c.opening-current.result c.of-rest.result c.in_ok-items.items.items c.none-reach.result c.args.pieces.now c.requires.modest c.of-rest.ensures.facts c.opening-current.ensures c.of-rest.ensures.is c.in_ok-items.ensures.items c.none-reach.ensures.height c.none-reach.ensures.depth
+
+pub first_pass_on-set_item-requires : goal.first_pass_on-set_item-requires
+first_pass_on-set_item-requires t c =
     let u = turned_some c.in_ok-passed.field-0 c.in-Some-2.passed c.turn.new.rest _ c.in_ok-passed.ensures.turns c.in-Some-2.is in
-    let n = next_fits _ _ _ c.loop-front.current _ _ _ _ _ _ c.loop-front.invariant c.in-Some.ensures u in
+    let n = next_fits _ _ _ c.loop-front.current _ _ _ _ _ _ _ _ _ c.loop-front.invariant c.in-Some.ensures u in
     (omega (arith, n.smaller, c.decreases), n.modest)
 
-pub first_pass-returns-in_err-half-clause-is : goal.first_pass-returns-in_err-half-clause-is
-first_pass-returns-in_err-half-clause-is t c =
+pub first_pass_on-returns-in_err-half : goal.first_pass_on-returns-in_err-half
+first_pass_on-returns-in_err-half t c =
     let u = turned_some c.in_ok-passed.field-0 c.in-Some-2.passed c.turn.new.rest _ c.in_ok-passed.ensures.turns c.in-Some-2.is in
-    let p = err_from_is_err_and c.from_residual-in_err-half.result c.from_residual-in_err-half.ensures.1 in
-    rw (p.1, p.2) (going_err _ _ _ c.loop-front.current _ _ _ _ (passed_value c.in-Some-2.passed) _ _ c.loop-front.invariant c.in-Some.ensures u c.in_err-half.ensures.is)
+    let p = err_from_is_err_and c.from_residual-in_err-half.result c.from_residual-in_err-half.ensures.1 in rw (p.1, p.2) (record { is = going_err _ _ _ c.loop-front.current _ _ _ _ _ _ _ (passed_value c.in-Some-2.passed) _ _ c.loop-front.invariant c.in-Some.ensures u c.in_err-half.ensures.is })
 
-pub first_pass-returns-in_err-push_with_kern-clause-is : goal.first_pass-returns-in_err-push_with_kern-clause-is
-first_pass-returns-in_err-push_with_kern-clause-is t c =
+pub first_pass_on-returns-in_err-push_with_kern : goal.first_pass_on-returns-in_err-push_with_kern
+first_pass_on-returns-in_err-push_with_kern t c =
     let u = turned_some c.in_ok-passed.field-0 c.in-Some-2.passed c.turn.new.rest _ c.in_ok-passed.ensures.turns c.in-Some-2.is in
-    let p = err_from_is_err_and c.from_residual-in_err-push_with_kern.result c.from_residual-in_err-push_with_kern.ensures.1 in
-    rw (p.1, p.2) (going_kern_err _ _ _ c.loop-front.current _ _ _ _ (passed_value c.in-Some-2.passed) _ _ c.kern-kern.result _ c.loop-front.invariant c.in-Some.ensures u c.in_ok-half.ensures.is c.kern-kern.ensures c.in_err-push_with_kern.ensures.is)
+    let p = err_from_is_err_and c.from_residual-in_err-push_with_kern.result c.from_residual-in_err-push_with_kern.ensures.1 in rw (p.1, p.2) (record { is = going_kern_err _ _ _ c.loop-front.current _ _ _ _ _ _ _ (passed_value c.in-Some-2.passed) _ _ c.kern-kern.result _ c.loop-front.invariant c.in-Some.ensures u c.in_ok-half.ensures.is.is c.kern-kern.ensures c.in_err-push_with_kern.ensures.is })
 
-pub first_pass-loop-front-smaller-in-Some-2 : goal.first_pass-loop-front-smaller-in-Some-2
-first_pass-loop-front-smaller-in-Some-2 t c =
-    let u = turned_some c.in_ok-passed.field-0 c.in-Some-2.passed c.turn.new.rest _ c.in_ok-passed.ensures.turns c.in-Some-2.is in
-    (next_fits _ _ _ c.loop-front.current _ _ _ _ _ _ c.loop-front.invariant c.in-Some.ensures u).falls
+pub first_pass_on-with_pieces-reach-requires : goal.first_pass_on-with_pieces-reach-requires
+first_pass_on-with_pieces-reach-requires t c = record { few = few_behind c.len-first.result (2 ^ 21) _ c.in_ok-half.ensures.is.row _ c.len-first.ensures c.in_ok-half.ensures.is.stays (omega (arith, c.in_ok-half.ensures.is.few)) }
 
-pub first_pass-loop-front-preserved-in-Some-2 : goal.first_pass-loop-front-preserved-in-Some-2
-first_pass-loop-front-preserved-in-Some-2 t c =
+pub first_pass_on-loop-front-smaller-in-Some-2 : goal.first_pass_on-loop-front-smaller-in-Some-2
+first_pass_on-loop-front-smaller-in-Some-2 t c =
     let u = turned_some c.in_ok-passed.field-0 c.in-Some-2.passed c.turn.new.rest _ c.in_ok-passed.ensures.turns c.in-Some-2.is in
-    let e = c.in_ok-half.ensures in
-    going_pass _ _ _ c.loop-front.current c.after_passed-next.result _ _ _ _ _ (passed_value c.in-Some-2.passed) _ c.in_ok-half.half c.kern-kern.result c.loop-front.invariant c.in-Some.ensures u
+    (next_fits _ _ _ c.loop-front.current _ _ _ _ _ _ _ _ _ c.loop-front.invariant c.in-Some.ensures u).falls
+
+pub first_pass_on-loop-front-preserved-in-Some-2 : goal.first_pass_on-loop-front-preserved-in-Some-2
+first_pass_on-loop-front-preserved-in-Some-2 t c =
+    let u = turned_some c.in_ok-passed.field-0 c.in-Some-2.passed c.turn.new.rest _ c.in_ok-passed.ensures.turns c.in-Some-2.is in
+    going_pass _ _ _ c.loop-front.current c.after_passed-next.result _ _ _ _ _ _ _ _ _ _ (passed_value c.in-Some-2.passed) _ c.in_ok-half.half c.kern-kern.result c.loop-front.invariant c.in-Some.ensures u
     (leaves_some _ c.in_ok-passed.field-0 c.in-Some-2.passed c.turn.new.rest c.in_ok-passed.ensures.boundaries c.in-Some-2.is)
     c.kern-kern.ensures
-    (record { is = e.is; kern = c.in_ok-push_with_kern.ensures.is; fits = e.fits; few = e.few; reach = e.reach })
+    (record { half = c.in_ok-half.ensures.is; kern = c.in_ok-push_with_kern.ensures.is })
+    (reaches_on c.len-first.result _ _ c.loop-front.pieces c.set_item.new.pieces c.len-first.ensures c.with_pieces-reach.ensures.height c.with_pieces-reach.ensures.depth)
     c.in_ok-push_with_kern.ensures.pushed c.after_passed-next.ensures
 
-pub first_pass-loop-front-smaller : goal.first_pass-loop-front-smaller
-first_pass-loop-front-smaller t c =
+pub first_pass_on-loop-front-smaller : goal.first_pass_on-loop-front-smaller
+first_pass_on-loop-front-smaller t c =
     let u = turned_none c.in_ok-passed.field-0 c.turn.new.rest _ c.in_ok-passed.ensures.turns c.in_default-2.not-Some in
     again_falls c.args.fonts.now c.loop-front.current _ _ _ _ c.in-Some.ensures u
 
-pub first_pass-loop-front-preserved : goal.first_pass-loop-front-preserved
-first_pass-loop-front-preserved t c =
+pub first_pass_on-loop-front-preserved : goal.first_pass_on-loop-front-preserved
+first_pass_on-loop-front-preserved t c =
     let u = turned_none c.in_ok-passed.field-0 c.turn.new.rest _ c.in_ok-passed.ensures.turns c.in_default-2.not-Some in
-    going_again _ _ _ _ _ _ _ _ _ c.loop-front.invariant c.in-Some.ensures u
+    going_again _ _ _ _ _ _ _ _ _ _ _ _ c.loop-front.invariant c.in-Some.ensures u
     (leaves_none _ c.in_ok-passed.field-0 c.turn.new.rest c.in_ok-passed.ensures.boundaries c.in_default-2.not-Some)
 
-pub first_pass-finish-requires-clause-boundaries : goal.first_pass-finish-requires-clause-boundaries
-first_pass-finish-requires-clause-boundaries t c = (going_settles _ _ _ _ _ _ c.loop-front.invariant c.in_default.ensures.0).boundaries
-
-pub first_pass-finish-requires-clause-fit : goal.first_pass-finish-requires-clause-fit
-first_pass-finish-requires-clause-fit t c = (going_settles _ _ _ _ _ _ c.loop-front.invariant c.in_default.ensures.0).fit
-
-pub first_pass-returns-clause-is : goal.first_pass-returns-clause-is
-first_pass-returns-clause-is t c = going_end _ _ _ _ _ _ _ c.loop-front.invariant c.in_default.ensures.0 c.finish.ensures.is
-
-pub first_pass-returns-clause-fits : goal.first_pass-returns-clause-fits
-first_pass-returns-clause-fits t c = c.finish.ensures.fits (12 * list_nesting c.args.list) c.loop-front.invariant.fits
-
-pub set_list-returns-in_err-half-clause-is : goal.set_list-returns-in_err-half-clause-is
-set_list-returns-in_err-half-clause-is t c =
-    let p = err_from_is_err_and c.from_residual.result c.from_residual.ensures.1 in rw (p.1, p.2) (list_err c.args.fonts.now c.args.style c.args.list _ c.in_err-half.ensures.is)
-
-pub set_list-returns-clause-is : goal.set_list-returns-clause-is
-set_list-returns-clause-is t c = list_set c.args.fonts.now c.args.style c.args.list _ c.second_pass.result c.in_ok-half.ensures.is c.second_pass.ensures.is
-
-pub set_list-returns-clause-fits : goal.set_list-returns-clause-fits
-set_list-returns-clause-fits t c = list_fits c.args.list _ c.second_pass.result c.in_ok-half.ensures.fits c.second_pass.ensures.fits
-
-pub set_list-returns-clause-holds : goal.set_list-returns-clause-holds
-set_list-returns-clause-holds t c =
-    call_holds c.args.fonts.now c.look_at_fonts.ensures c.args.style c.args.list c.second_pass.result
-    (list_set c.args.fonts.now c.args.style c.args.list _ c.second_pass.result c.in_ok-half.ensures.is c.second_pass.ensures.is)
+pub first_pass_on-returns : goal.first_pass_on-returns
+first_pass_on-returns t c = record { is = going_end _ _ _ _ _ _ _ _ _ _ c.loop-front.invariant c.in_default.ensures.0 c.finish.ensures }
 
 -- ---- `set_item`
 
@@ -136,76 +133,37 @@ set_item-set_fraction-requires t c =
     let g = ap element_of_passed (ap passed_value c.in-Fraction.is ∙ ap fraction_passed (sym c.into_inner.ensures)) in
     (omega (arith, ap element_size g, c.decreases), subst IsModestElement g c.requires.modest)
 
-pub set_item-returns-in_err-row-in-Atom-clause-is : goal.set_item-returns-in_err-row-in-Atom-clause-is
-set_item-returns-in_err-row-in-Atom-clause-is t c =
-    let p = err_from_is_err_and c.from_residual.result c.from_residual.ensures.1 in rw (p.1, p.2) (atom_item_fails _ c.args.fonts.now c.args.current (passed_value c.args.passed) c.into_inner-atom.result c.in-Atom.role c.in-Atom.kern (ap passed_value c.in-Atom.is ∙ ap (λ a. atom_passed a c.in-Atom.role c.in-Atom.kern) (sym c.into_inner-atom.ensures)) c.in_err-row-in-Atom.ensures.is)
+pub set_item-returns-in_err-set_atom-in-Atom : goal.set_item-returns-in_err-set_atom-in-Atom
+set_item-returns-in_err-set_atom-in-Atom t c =
+    let p = err_from_is_err_and c.from_residual.result c.from_residual.ensures.1 in rw (p.1, p.2) (record { is = atom_item_fails _ c.args.fonts.now c.args.current (passed_value c.args.passed) c.into_inner-atom.result c.in-Atom.role c.in-Atom.kern (ap passed_value c.in-Atom.is ∙ ap (λ a. atom_passed a c.in-Atom.role c.in-Atom.kern) (sym c.into_inner-atom.ensures)) c.in_err-set_atom-in-Atom.ensures.is })
 
-pub set_item-returns-in_err-row-in-Fraction-clause-is : goal.set_item-returns-in_err-row-in-Fraction-clause-is
-set_item-returns-in_err-row-in-Fraction-clause-is t c =
-    let p = err_from_is_err_and c.from_residual-in_err-row-in-Fraction.result c.from_residual-in_err-row-in-Fraction.ensures.1 in rw (p.1, p.2) (fraction_item_fails _ c.args.fonts.now c.args.current (passed_value c.args.passed) c.into_inner.result (ap passed_value c.in-Fraction.is ∙ ap fraction_passed (sym c.into_inner.ensures)) c.in_err-row-in-Fraction.ensures.is)
+pub set_item-returns-in_err-set_fraction-in-Fraction : goal.set_item-returns-in_err-set_fraction-in-Fraction
+set_item-returns-in_err-set_fraction-in-Fraction t c =
+    let p = err_from_is_err_and c.from_residual-in_err-set_fraction-in-Fraction.result c.from_residual-in_err-set_fraction-in-Fraction.ensures.1 in rw (p.1, p.2) (record { is = fraction_item_fails _ c.args.fonts.now c.args.current (passed_value c.args.passed) c.into_inner.result (ap passed_value c.in-Fraction.is ∙ ap fraction_passed (sym c.into_inner.ensures)) c.in_err-set_fraction-in-Fraction.ensures.is })
 
-pub set_item-returns-in_ok-row-in-Atom-clause-is : goal.set_item-returns-in_ok-row-in-Atom-clause-is
-set_item-returns-in_ok-row-in-Atom-clause-is t c = atom_item_made c.args.fonts.now c.args.current (passed_value c.args.passed) c.into_inner-atom.result c.in-Atom.role c.in-Atom.kern (piece_values c.in_ok-row-in-Atom.row) c.forward-class.result (ap passed_value c.in-Atom.is ∙ ap (λ a. atom_passed a c.in-Atom.role c.in-Atom.kern) (sym c.into_inner-atom.ensures)) (c.forward-class.ensures.is ∙ ap (forward_of c.args.current.last) c.kind_class.ensures) c.in_ok-row-in-Atom.ensures.is
+pub set_item-returns-in_ok-set_atom-in-Atom : goal.set_item-returns-in_ok-set_atom-in-Atom
+set_item-returns-in_ok-set_atom-in-Atom t c = record {
+  is = atom_placed c.forward-class.result c.len-first.result c.placed_after.result c.args.pieces.now c.set_atom.new.pieces _ _ c.len-first.ensures c.placed_after.ensures c.in_ok-set_atom-in-Atom.ensures.is
+      (λ row made. atom_item_made c.args.fonts.now c.args.current (passed_value c.args.passed) c.into_inner-atom.result c.in-Atom.role c.in-Atom.kern row c.forward-class.result (ap passed_value c.in-Atom.is ∙ ap (λ a. atom_passed a c.in-Atom.role c.in-Atom.kern) (sym c.into_inner-atom.ensures)) (c.forward-class.ensures.is ∙ ap (forward_of c.args.current.last) c.kind_class.ensures) made);
+}
 
-pub set_item-returns-in_ok-row-in-Fraction-clause-is : goal.set_item-returns-in_ok-row-in-Fraction-clause-is
-set_item-returns-in_ok-row-in-Fraction-clause-is t c = fraction_item_made c.args.fonts.now c.args.current (passed_value c.args.passed) c.into_inner.result (piece_values c.in_ok-row-in-Fraction.row) (ap passed_value c.in-Fraction.is ∙ ap fraction_passed (sym c.into_inner.ensures)) c.in_ok-row-in-Fraction.ensures.is
+pub set_item-returns-in_ok-set_fraction-in-Fraction : goal.set_item-returns-in_ok-set_fraction-in-Fraction
+set_item-returns-in_ok-set_fraction-in-Fraction t c = record {
+  is = atom_placed Inner c.len-first-in-Fraction.result c.placed_after-in-Fraction.result c.args.pieces.now c.set_fraction.new.pieces _ _ c.len-first-in-Fraction.ensures c.placed_after-in-Fraction.ensures c.in_ok-set_fraction-in-Fraction.ensures.is
+      (λ row made. fraction_item_made c.args.fonts.now c.args.current (passed_value c.args.passed) c.into_inner.result row (ap passed_value c.in-Fraction.is ∙ ap fraction_passed (sym c.into_inner.ensures)) made);
+}
 
-pub set_item-returns-in_ok-row-in-Atom-clause-fits : goal.set_item-returns-in_ok-row-in-Atom-clause-fits
-set_item-returns-in_ok-row-in-Atom-clause-fits t c = subst (λ e. RowFits (12 * element_nesting e) c.in_ok-row-in-Atom.row) (sym (ap element_of_passed (ap passed_value c.in-Atom.is ∙ ap (λ a. atom_passed a c.in-Atom.role c.in-Atom.kern) (sym c.into_inner-atom.ensures)))) c.in_ok-row-in-Atom.ensures.fits
+pub set_item-returns-in-Left : goal.set_item-returns-in-Left
+set_item-returns-in-Left t c = record { is = alone (placed.Left c.in-Left.delim) c.args.pieces.now _ refl tt (ap (λ p. FirstPass.set_item c.args.fonts.now c.args.current (flat_item c.args.fonts.now (passed_value p))) c.in-Left.is) }
 
-pub set_item-returns-in_ok-row-in-Atom-clause-reach : goal.set_item-returns-in_ok-row-in-Atom-clause-reach
-set_item-returns-in_ok-row-in-Atom-clause-reach t c = row_reach _ c.in_ok-row-in-Atom.row c.in_ok-row-in-Atom.ensures.reach
+pub set_item-returns-in-Middle : goal.set_item-returns-in-Middle
+set_item-returns-in-Middle t c = record { is = alone (placed.Middle c.in-Middle.delim) c.args.pieces.now _ refl tt (ap (λ p. FirstPass.set_item c.args.fonts.now c.args.current (flat_item c.args.fonts.now (passed_value p))) c.in-Middle.is) }
 
-pub set_item-returns-in_ok-row-in-Fraction-clause-fits : goal.set_item-returns-in_ok-row-in-Fraction-clause-fits
-set_item-returns-in_ok-row-in-Fraction-clause-fits t c = subst (λ e. RowFits (12 * element_nesting e) c.in_ok-row-in-Fraction.row) (sym (ap element_of_passed (ap passed_value c.in-Fraction.is ∙ ap fraction_passed (sym c.into_inner.ensures)))) c.in_ok-row-in-Fraction.ensures.fits
+pub set_item-returns-in-Right : goal.set_item-returns-in-Right
+set_item-returns-in-Right t c = record { is = alone (placed.Right c.in-Right.delim) c.args.pieces.now _ refl tt (ap (λ p. FirstPass.set_item c.args.fonts.now c.args.current (flat_item c.args.fonts.now (passed_value p))) c.in-Right.is) }
 
-pub set_item-returns-in_ok-row-in-Fraction-clause-reach : goal.set_item-returns-in_ok-row-in-Fraction-clause-reach
-set_item-returns-in_ok-row-in-Fraction-clause-reach t c = row_reach _ c.in_ok-row-in-Fraction.row c.in_ok-row-in-Fraction.ensures.reach
-
-pub set_item-returns-in-Left-clause-is : goal.set_item-returns-in-Left-clause-is
-set_item-returns-in-Left-clause-is t c = ap (λ p. FirstPass.set_item c.args.fonts.now c.args.current (flat_item c.args.fonts.now (passed_value p))) c.in-Left.is
-
-pub set_item-returns-in-Right-clause-is : goal.set_item-returns-in-Right-clause-is
-set_item-returns-in-Right-clause-is t c = ap (λ p. FirstPass.set_item c.args.fonts.now c.args.current (flat_item c.args.fonts.now (passed_value p))) c.in-Right.is
-
-pub set_item-returns-in-Style-clause-is : goal.set_item-returns-in-Style-clause-is
-set_item-returns-in-Style-clause-is t c = ap (λ p. FirstPass.set_item c.args.fonts.now c.args.current (flat_item c.args.fonts.now (passed_value p))) c.in-Style.is
-
-pub set_item-returns-in-MuSpace-clause-fits : goal.set_item-returns-in-MuSpace-clause-fits
-set_item-returns-in-MuSpace-clause-fits t c = if_ok_map c.make_space.result _ (HalfFits (12 * element_nesting (element_of_passed (passed_value c.args.passed)))) c.make_space.ensures.fits (λ h f. f (12 * element_nesting (element_of_passed (passed_value c.args.passed))))
-
-pub set_item-returns-in-MuSpace-clause-few : goal.set_item-returns-in-MuSpace-clause-few
-set_item-returns-in-MuSpace-clause-few t c = if_ok_map c.make_space.result _ (λ h. count_of h ≤ 4) c.make_space.ensures.same (λ h e. space_few h _ e)
-
-pub set_item-returns-in-MuSpace-clause-reach : goal.set_item-returns-in-MuSpace-clause-reach
-set_item-returns-in-MuSpace-clause-reach t c = if_ok_map c.make_space.result _ HalfReachInRange c.make_space.ensures.same (λ h e. space_reach h _ e)
-
-pub set_item-returns-in-Space-clause-fits : goal.set_item-returns-in-Space-clause-fits
-set_item-returns-in-Space-clause-fits t c = if_ok_map c.make_space-in-Space.result _ (HalfFits (12 * element_nesting (element_of_passed (passed_value c.args.passed)))) c.make_space-in-Space.ensures.fits (λ h f. f (12 * element_nesting (element_of_passed (passed_value c.args.passed))))
-
-pub set_item-returns-in-Space-clause-few : goal.set_item-returns-in-Space-clause-few
-set_item-returns-in-Space-clause-few t c = if_ok_map c.make_space-in-Space.result _ (λ h. count_of h ≤ 4) c.make_space-in-Space.ensures.same (λ h e. space_few h _ e)
-
-pub set_item-returns-in-Space-clause-reach : goal.set_item-returns-in-Space-clause-reach
-set_item-returns-in-Space-clause-reach t c = if_ok_map c.make_space-in-Space.result _ HalfReachInRange c.make_space-in-Space.ensures.same (λ h e. space_reach h _ e)
-
-pub set_item-returns-in-MuKern-clause-fits : goal.set_item-returns-in-MuKern-clause-fits
-set_item-returns-in-MuKern-clause-fits t c = if_ok_map c.make_kern.result _ (HalfFits (12 * element_nesting (element_of_passed (passed_value c.args.passed)))) c.make_kern.ensures.fits (λ h f. f (12 * element_nesting (element_of_passed (passed_value c.args.passed))))
-
-pub set_item-returns-in-MuKern-clause-few : goal.set_item-returns-in-MuKern-clause-few
-set_item-returns-in-MuKern-clause-few t c = if_ok_map c.make_kern.result _ (λ h. count_of h ≤ 4) c.make_kern.ensures.same (λ h e. kern_few h _ e)
-
-pub set_item-returns-in-MuKern-clause-reach : goal.set_item-returns-in-MuKern-clause-reach
-set_item-returns-in-MuKern-clause-reach t c = if_ok_map c.make_kern.result _ HalfReachInRange c.make_kern.ensures.same (λ h e. kern_reach h _ e)
-
-pub set_item-returns-in-Kern-clause-fits : goal.set_item-returns-in-Kern-clause-fits
-set_item-returns-in-Kern-clause-fits t c = if_ok_map c.make_kern-in-Kern.result _ (HalfFits (12 * element_nesting (element_of_passed (passed_value c.args.passed)))) c.make_kern-in-Kern.ensures.fits (λ h f. f (12 * element_nesting (element_of_passed (passed_value c.args.passed))))
-
-pub set_item-returns-in-Kern-clause-few : goal.set_item-returns-in-Kern-clause-few
-set_item-returns-in-Kern-clause-few t c = if_ok_map c.make_kern-in-Kern.result _ (λ h. count_of h ≤ 4) c.make_kern-in-Kern.ensures.same (λ h e. kern_few h _ e)
-
-pub set_item-returns-in-Kern-clause-reach : goal.set_item-returns-in-Kern-clause-reach
-set_item-returns-in-Kern-clause-reach t c = if_ok_map c.make_kern-in-Kern.result _ HalfReachInRange c.make_kern-in-Kern.ensures.same (λ h e. kern_reach h _ e)
+pub set_item-returns-in-Style : goal.set_item-returns-in-Style
+set_item-returns-in-Style t c = record { is = alone (placed.Style c.in-Style.style) c.args.pieces.now _ refl tt (ap (λ p. FirstPass.set_item c.args.fonts.now c.args.current (flat_item c.args.fonts.now (passed_value p))) c.in-Style.is) }
 
 pub set_item-glue_in_points-requires : goal.set_item-glue_in_points-requires
 set_item-glue_in_points-requires t c = (subst (λ p. IsModestElement (element_of_passed (passed_value p))) c.in-MuSpace.is c.requires.modest).amounts
@@ -215,93 +173,77 @@ set_item-in_points-requires t c =
     let f : FitsSigned w64 c.in-MuKern.amount = search rules in
     subst (Within max_dimen) (sym (kept_word c.in-MuKern.amount f)) ((subst (λ p. IsModestElement (element_of_passed (passed_value p))) c.in-MuKern.is c.requires.modest).amounts)
 
-pub set_item-returns-in-MuSpace-clause-is : goal.set_item-returns-in-MuSpace-clause-is
-set_item-returns-in-MuSpace-clause-is t c = subst (SetsHalf c.make_space.result) (sym (ap (λ p. FirstPass.set_item c.args.fonts.now c.args.current (flat_item c.args.fonts.now (passed_value p))) c.in-MuSpace.is)) (subst (λ g. SetsHalf c.make_space.result (FirstPass.make_space g)) c.glue_in_points.ensures c.make_space.ensures.is)
+pub set_item-returns-in-MuSpace : goal.set_item-returns-in-MuSpace
+set_item-returns-in-MuSpace t c = record { is = space_placed c.make_space.result c.args.pieces.now _ c.glue_in_points.result (subst (SetsPlaced c.make_space.result) (sym (ap (λ p. FirstPass.set_item c.args.fonts.now c.args.current (flat_item c.args.fonts.now (passed_value p))) c.in-MuSpace.is)) (subst (λ g. SetsPlaced c.make_space.result (FirstPass.make_space g)) c.glue_in_points.ensures c.make_space.ensures.is)) c.make_space.ensures.fits c.make_space.ensures.same }
 
-pub set_item-returns-in-Space-clause-is : goal.set_item-returns-in-Space-clause-is
-set_item-returns-in-Space-clause-is t c = subst (SetsHalf c.make_space-in-Space.result) (sym (ap (λ p. FirstPass.set_item c.args.fonts.now c.args.current (flat_item c.args.fonts.now (passed_value p))) c.in-Space.is)) (c.make_space-in-Space.ensures.is)
+pub set_item-returns-in-Space : goal.set_item-returns-in-Space
+set_item-returns-in-Space t c = record { is = space_placed c.make_space-in-Space.result c.args.pieces.now _ c.in-Space.glue (subst (SetsPlaced c.make_space-in-Space.result) (sym (ap (λ p. FirstPass.set_item c.args.fonts.now c.args.current (flat_item c.args.fonts.now (passed_value p))) c.in-Space.is)) c.make_space-in-Space.ensures.is) c.make_space-in-Space.ensures.fits c.make_space-in-Space.ensures.same }
 
-pub set_item-returns-in-MuKern-clause-is : goal.set_item-returns-in-MuKern-clause-is
-set_item-returns-in-MuKern-clause-is t c =
-    let f : FitsSigned w64 c.in-MuKern.amount = search rules in
-    subst (SetsHalf c.make_kern.result) (sym (ap (λ p. FirstPass.set_item c.args.fonts.now c.args.current (flat_item c.args.fonts.now (passed_value p))) c.in-MuKern.is)) (subst (λ x. SetsHalf c.make_kern.result (FirstPass.make_kern x)) (c.in_points.ensures ∙ ap (in_points c.args.fonts.now c.args.current.style) (kept_word c.in-MuKern.amount f)) c.make_kern.ensures.is)
+pub set_item-returns-in-MuKern : goal.set_item-returns-in-MuKern
+set_item-returns-in-MuKern t c = record {
+  is = let f : FitsSigned w64 c.in-MuKern.amount = search rules in
+      kern_placed c.make_kern.result c.args.pieces.now _ _ (subst (SetsPlaced c.make_kern.result) (sym (ap (λ p. FirstPass.set_item c.args.fonts.now c.args.current (flat_item c.args.fonts.now (passed_value p))) c.in-MuKern.is)) (subst (λ x. SetsPlaced c.make_kern.result (FirstPass.make_kern x)) (c.in_points.ensures ∙ ap (in_points c.args.fonts.now c.args.current.style) (kept_word c.in-MuKern.amount f)) c.make_kern.ensures.is)) c.make_kern.ensures.fits c.make_kern.ensures.same;
+}
 
-pub set_item-returns-in-Kern-clause-is : goal.set_item-returns-in-Kern-clause-is
-set_item-returns-in-Kern-clause-is t c =
-    let f : FitsSigned w64 c.in-Kern.amount = search rules in
-    subst (SetsHalf c.make_kern-in-Kern.result) (sym (ap (λ p. FirstPass.set_item c.args.fonts.now c.args.current (flat_item c.args.fonts.now (passed_value p))) c.in-Kern.is)) (subst (λ x. SetsHalf c.make_kern-in-Kern.result (FirstPass.make_kern x)) (kept_word c.in-Kern.amount f) c.make_kern-in-Kern.ensures.is)
+pub set_item-returns-in-Kern : goal.set_item-returns-in-Kern
+set_item-returns-in-Kern t c = record {
+  is = let f : FitsSigned w64 c.in-Kern.amount = search rules in
+      kern_placed c.make_kern-in-Kern.result c.args.pieces.now _ _ (subst (SetsPlaced c.make_kern-in-Kern.result) (sym (ap (λ p. FirstPass.set_item c.args.fonts.now c.args.current (flat_item c.args.fonts.now (passed_value p))) c.in-Kern.is)) (subst (λ x. SetsPlaced c.make_kern-in-Kern.result (FirstPass.make_kern x)) (kept_word c.in-Kern.amount f) c.make_kern-in-Kern.ensures.is)) c.make_kern-in-Kern.ensures.fits c.make_kern-in-Kern.ensures.same;
+}
 
 -- ---- `set_atom`
 
 pub set_atom-set_under_limits-requires : goal.set_atom-set_under_limits-requires
 set_atom-set_under_limits-requires t c = (omega (arith, c.decreases), (modest_nucleus c.args.atom.kind c.args.atom.limits (part_of_field c.args.atom.nucleus) (part_of_field c.args.atom.sup) (part_of_field c.args.atom.sub) c.requires.modest, (modest_sup c.args.atom.kind c.args.atom.limits (part_of_field c.args.atom.nucleus) (part_of_field c.args.atom.sup) (part_of_field c.args.atom.sub) c.requires.modest, modest_sub c.args.atom.kind c.args.atom.limits (part_of_field c.args.atom.nucleus) (part_of_field c.args.atom.sup) (part_of_field c.args.atom.sub) c.requires.modest)))
 
-pub set_atom-returns-in-Limits-clause-is : goal.set_atom-returns-in-Limits-clause-is
-set_atom-returns-in-Limits-clause-is t c = subst (SetsRow c.set_under_limits.result) (sym (limits_row c.args.fonts.now c.args.style (role_value c.args.role) c.args.atom.kind c.args.atom.limits (part_of_field c.args.atom.nucleus) (part_of_field c.args.atom.sup) (part_of_field c.args.atom.sub) (sym c.in-Limits.is ∙ c.form_of-form.ensures))) c.set_under_limits.ensures.is
-
-pub set_atom-returns-in-Limits-clause-fits : goal.set_atom-returns-in-Limits-clause-fits
-set_atom-returns-in-Limits-clause-fits t c =
-    let most = (max (part_nesting (part_of_field c.args.atom.nucleus)) (max (part_nesting (part_of_field c.args.atom.sup)) (part_nesting (part_of_field c.args.atom.sub)))) in
-    if_ok_map c.set_under_limits.result _ (RowFits (12 * (most + 1))) c.set_under_limits.ensures.fits (λ row f. row_fits_more (12 * most + 4 + 3) (12 * (most + 1)) row (omega arith) (f (12 * most + 4) (omega arith) (record { sup = omega arith; sub = omega arith })))
+pub set_atom-returns-in-Limits : goal.set_atom-returns-in-Limits
+set_atom-returns-in-Limits t c = record { is = subst (SetsAtomOn c.set_under_limits.result c.args.pieces.now c.set_under_limits.new.pieces) (sym (limits_row c.args.fonts.now c.args.style (role_value c.args.role) c.args.atom.kind c.args.atom.limits (part_of_field c.args.atom.nucleus) (part_of_field c.args.atom.sup) (part_of_field c.args.atom.sub) (sym c.in-Limits.is ∙ c.form_of-form.ensures))) c.set_under_limits.ensures.is }
 
 pub set_atom-set_accent_inside-requires : goal.set_atom-set_accent_inside-requires
 set_atom-set_accent_inside-requires t c = (omega (arith, c.decreases), (modest_sup c.args.atom.kind c.args.atom.limits (part_of_field c.args.atom.nucleus) (part_of_field c.args.atom.sup) (part_of_field c.args.atom.sub) c.requires.modest, modest_sub c.args.atom.kind c.args.atom.limits (part_of_field c.args.atom.nucleus) (part_of_field c.args.atom.sup) (part_of_field c.args.atom.sub) c.requires.modest))
 
-pub set_atom-returns-in-AccentInside-clause-is : goal.set_atom-returns-in-AccentInside-clause-is
-set_atom-returns-in-AccentInside-clause-is t c = subst (SetsRow c.set_accent_inside.result) (sym (inside_row c.args.fonts.now c.args.style (role_value c.args.role) c.args.atom.kind c.args.atom.limits (part_of_field c.args.atom.nucleus) (part_of_field c.args.atom.sup) (part_of_field c.args.atom.sub) c.in-AccentInside.accent c.in-AccentInside.symbol (sym c.in-AccentInside.is ∙ c.form_of-form.ensures))) c.set_accent_inside.ensures.is
-
-pub set_atom-returns-in-AccentInside-clause-fits : goal.set_atom-returns-in-AccentInside-clause-fits
-set_atom-returns-in-AccentInside-clause-fits t c =
-    let most = (max (part_nesting (part_of_field c.args.atom.nucleus)) (max (part_nesting (part_of_field c.args.atom.sup)) (part_nesting (part_of_field c.args.atom.sub)))) in
-    if_ok_map c.set_accent_inside.result _ (RowFits (12 * (most + 1))) c.set_accent_inside.ensures.fits (λ row f. row_fits_more (12 * most + 1 + 4) (12 * (most + 1)) row (omega arith) (f (12 * most + 1) (record { sup = omega arith; sub = omega arith })))
+pub set_atom-returns-in-AccentInside : goal.set_atom-returns-in-AccentInside
+set_atom-returns-in-AccentInside t c = record { is = subst (SetsAtomOn c.set_accent_inside.result c.args.pieces.now c.set_accent_inside.new.pieces) (sym (inside_row c.args.fonts.now c.args.style (role_value c.args.role) c.args.atom.kind c.args.atom.limits (part_of_field c.args.atom.nucleus) (part_of_field c.args.atom.sup) (part_of_field c.args.atom.sub) c.in-AccentInside.accent c.in-AccentInside.symbol (sym c.in-AccentInside.is ∙ c.form_of-form.ensures))) c.set_accent_inside.ensures.is }
 
 pub set_atom-set_root-requires : goal.set_atom-set_root-requires
 set_atom-set_root-requires t c =
     let f = root_form c.args.fonts.now c.args.style (role_value c.args.role) c.args.atom.kind c.args.atom.limits (part_of_field c.args.atom.nucleus) (part_of_field c.args.atom.sup) (part_of_field c.args.atom.sub) c.in-Root.sign (sym c.in-Root.is ∙ c.form_of-form.ensures) in
     (omega (arith, c.decreases), (f.degree, modest_nucleus c.args.atom.kind c.args.atom.limits (part_of_field c.args.atom.nucleus) (part_of_field c.args.atom.sup) (part_of_field c.args.atom.sub) c.requires.modest))
 
-pub set_atom-returns-in-Root-clause-is : goal.set_atom-returns-in-Root-clause-is
-set_atom-returns-in-Root-clause-is t c =
-    let f = root_form c.args.fonts.now c.args.style (role_value c.args.role) c.args.atom.kind c.args.atom.limits (part_of_field c.args.atom.nucleus) (part_of_field c.args.atom.sup) (part_of_field c.args.atom.sub) c.in-Root.sign (sym c.in-Root.is ∙ c.form_of-form.ensures) in
-    subst (SetsRow c.set_root.result) (sym f.is) (c.set_root.ensures.is (field_content c.args.fonts.now c.args.atom.sup) (field_content c.args.fonts.now c.args.atom.sub))
-
-pub set_atom-returns-in-Root-clause-fits : goal.set_atom-returns-in-Root-clause-fits
-set_atom-returns-in-Root-clause-fits t c =
-    let most = (max (part_nesting (part_of_field c.args.atom.nucleus)) (max (part_nesting (part_of_field c.args.atom.sup)) (part_nesting (part_of_field c.args.atom.sub)))) in
-    if_ok_map c.set_root.result _ (RowFits (12 * (most + 1))) c.set_root.ensures.fits (λ row f. row_fits_more (12 * part_nesting (part_of_field c.args.atom.nucleus) + 4) (12 * (most + 1)) row (omega arith) f)
+pub set_atom-returns-in-Root : goal.set_atom-returns-in-Root
+set_atom-returns-in-Root t c = record {
+  is = let f = root_form c.args.fonts.now c.args.style (role_value c.args.role) c.args.atom.kind c.args.atom.limits (part_of_field c.args.atom.nucleus) (part_of_field c.args.atom.sup) (part_of_field c.args.atom.sub) c.in-Root.sign (sym c.in-Root.is ∙ c.form_of-form.ensures) in
+      subst (SetsAtomOn c.set_root.result c.args.pieces.now c.set_root.new.pieces) (sym f.is) (c.set_root.ensures.is (field_content c.args.fonts.now c.args.atom.sup) (field_content c.args.fonts.now c.args.atom.sub));
+}
 
 pub set_atom-set_nucleus-requires : goal.set_atom-set_nucleus-requires
 set_atom-set_nucleus-requires t c = (omega (arith, c.decreases), modest_nucleus c.args.atom.kind c.args.atom.limits (part_of_field c.args.atom.nucleus) (part_of_field c.args.atom.sup) (part_of_field c.args.atom.sub) c.requires.modest)
 
-pub set_atom-returns-in_err-nucleus-in-Beside-clause-is : goal.set_atom-returns-in_err-nucleus-in-Beside-clause-is
-set_atom-returns-in_err-nucleus-in-Beside-clause-is t c =
-    let p = err_from_is_err_and c.from_residual.result c.from_residual.ensures.1 in rw (p.1, p.2) (subst (SetFails c.in_err-nucleus-in-Beside.field-0.0) (sym (beside_row c.args.fonts.now c.args.style (role_value c.args.role) c.args.atom.kind c.args.atom.limits (part_of_field c.args.atom.nucleus) (part_of_field c.args.atom.sup) (part_of_field c.args.atom.sub) c.is_empty-has_subscript.result c.is_empty-has_subscript.ensures (sym c.in-Beside.is ∙ c.form_of-form.ensures))) (fails_then _ (kind_nucleus c.args.atom.kind c.args.fonts.now c.args.style (role_value c.args.role) (field_content c.args.fonts.now c.args.atom.nucleus) (not c.is_empty-has_subscript.result)) (λ n. row_with_fields c.args.fonts.now c.args.style n (field_content c.args.fonts.now c.args.atom.sup) (field_content c.args.fonts.now c.args.atom.sub)) c.in_err-nucleus-in-Beside.ensures.is))
+pub set_atom-returns-in_err-delta-in-Beside : goal.set_atom-returns-in_err-delta-in-Beside
+set_atom-returns-in_err-delta-in-Beside t c =
+    let p = err_from_is_err_and c.from_residual.result c.from_residual.ensures.1 in rw (p.1, p.2) (record { is = subst (SetFails c.in_err-delta-in-Beside.field-0.0) (sym (beside_row c.args.fonts.now c.args.style (role_value c.args.role) c.args.atom.kind c.args.atom.limits (part_of_field c.args.atom.nucleus) (part_of_field c.args.atom.sup) (part_of_field c.args.atom.sub) c.is_empty-has_subscript.result c.is_empty-has_subscript.ensures (sym c.in-Beside.is ∙ c.form_of-form.ensures))) (fails_then _ (kind_nucleus c.args.atom.kind c.args.fonts.now c.args.style (role_value c.args.role) (field_content c.args.fonts.now c.args.atom.nucleus) (not c.is_empty-has_subscript.result)) (λ n. row_with_fields c.args.fonts.now c.args.style n (field_content c.args.fonts.now c.args.atom.sup) (field_content c.args.fonts.now c.args.atom.sub)) c.in_err-delta-in-Beside.ensures.is) })
 
 pub set_atom-without_scripts-requires : goal.set_atom-without_scripts-requires
-set_atom-without_scripts-requires t c =
-    let m = modest_nucleus c.args.atom.kind c.args.atom.limits (part_of_field c.args.atom.nucleus) (part_of_field c.args.atom.sup) (part_of_field c.args.atom.sub) c.requires.modest in
-    record { fits = nucleus_fits_more (12 * part_nesting (part_of_field c.args.atom.nucleus) + 4) 4000 c.in_ok-nucleus-in-Beside.nucleus (omega (arith, m.nesting)) c.in_ok-nucleus-in-Beside.ensures.fits }
+set_atom-without_scripts-requires t c = record { few = few_behind c.len-first.result 4 c.args.pieces.now c.in_ok-delta-in-Beside.ensures.is.row c.set_nucleus.new.pieces c.len-first.ensures c.in_ok-delta-in-Beside.ensures.is.stays (omega (arith, c.in_ok-delta-in-Beside.ensures.is.few)) }
 
-pub set_atom-returns-then-not-has_subscript-clause-is : goal.set_atom-returns-then-not-has_subscript-clause-is
-set_atom-returns-then-not-has_subscript-clause-is t c = subst (SetsRow c.without_scripts.result) (sym (beside_row c.args.fonts.now c.args.style (role_value c.args.role) c.args.atom.kind c.args.atom.limits (part_of_field c.args.atom.nucleus) (part_of_field c.args.atom.sup) (part_of_field c.args.atom.sub) c.is_empty-has_subscript.result c.is_empty-has_subscript.ensures (sym c.in-Beside.is ∙ c.form_of-form.ensures))) (first_made (SetsRow c.without_scripts.result) (kind_nucleus c.args.atom.kind c.args.fonts.now c.args.style (role_value c.args.role) (field_content c.args.fonts.now c.args.atom.nucleus) (not c.is_empty-has_subscript.result)) (nucleus_value c.in_ok-nucleus-in-Beside.nucleus) (λ n. row_with_fields c.args.fonts.now c.args.style n (field_content c.args.fonts.now c.args.atom.sup) (field_content c.args.fonts.now c.args.atom.sub)) c.in_ok-nucleus-in-Beside.ensures.is (no_scripts (SetsRow c.without_scripts.result) c.args.fonts.now c.args.style (part_of_field c.args.atom.sup) (part_of_field c.args.atom.sub) (nucleus_value c.in_ok-nucleus-in-Beside.nucleus) (sym c.is_empty.ensures ∙ c.if-is_empty.true) (sym c.is_empty-has_subscript.ensures ∙ c.if-not-has_subscript.true) (c.without_scripts.ensures.is c.args.fonts.now c.args.style)))
-
-pub set_atom-returns-then-not-has_subscript-clause-fits : goal.set_atom-returns-then-not-has_subscript-clause-fits
-set_atom-returns-then-not-has_subscript-clause-fits t c =
-    let most = (max (part_nesting (part_of_field c.args.atom.nucleus)) (max (part_nesting (part_of_field c.args.atom.sup)) (part_nesting (part_of_field c.args.atom.sub)))) in
-    if_ok_map c.without_scripts.result _ (RowFits (12 * (most + 1))) c.without_scripts.ensures.fits (λ row f. row_fits_more (12 * most + 4) (12 * (most + 1)) row (omega arith) (f (12 * most + 4) (row_fits_more (12 * part_nesting (part_of_field c.args.atom.nucleus) + 4) (12 * most + 4) c.in_ok-nucleus-in-Beside.nucleus.row (omega arith) c.in_ok-nucleus-in-Beside.ensures.fits.fits)))
+pub set_atom-returns-then-not-has_subscript : goal.set_atom-returns-then-not-has_subscript
+set_atom-returns-then-not-has_subscript t c = record {
+  is = let P = SetsAtomOn c.without_scripts.result c.args.pieces.now c.set_nucleus.new.pieces in
+      subst P (sym (beside_row c.args.fonts.now c.args.style (role_value c.args.role) c.args.atom.kind c.args.atom.limits (part_of_field c.args.atom.nucleus) (part_of_field c.args.atom.sup) (part_of_field c.args.atom.sub) c.is_empty-has_subscript.result c.is_empty-has_subscript.ensures (sym c.in-Beside.is ∙ c.form_of-form.ensures))) (first_made P (kind_nucleus c.args.atom.kind c.args.fonts.now c.args.style (role_value c.args.role) (field_content c.args.fonts.now c.args.atom.nucleus) (not c.is_empty-has_subscript.result)) (record { row = c.in_ok-delta-in-Beside.ensures.is.row; delta = c.in_ok-delta-in-Beside.delta.sp }) (λ n. row_with_fields c.args.fonts.now c.args.style n (field_content c.args.fonts.now c.args.atom.sup) (field_content c.args.fonts.now c.args.atom.sub)) c.in_ok-delta-in-Beside.ensures.is.is
+      (no_scripts P c.args.fonts.now c.args.style (part_of_field c.args.atom.sup) (part_of_field c.args.atom.sub) (record { row = c.in_ok-delta-in-Beside.ensures.is.row; delta = c.in_ok-delta-in-Beside.delta.sp }) (sym c.is_empty.ensures ∙ c.if-is_empty.true) (sym c.is_empty-has_subscript.ensures ∙ c.if-not-has_subscript.true)
+      (c.without_scripts.ensures.is c.args.pieces.now c.in_ok-delta-in-Beside.ensures.is.row (sym c.len-first.ensures) c.in_ok-delta-in-Beside.ensures.is.stays c.args.fonts.now c.args.style c.in_ok-delta-in-Beside.delta.sp)));
+}
 
 pub set_atom-set_scripts-requires : goal.set_atom-set_scripts-requires
 set_atom-set_scripts-requires t c =
-    let m = modest_nucleus c.args.atom.kind c.args.atom.limits (part_of_field c.args.atom.nucleus) (part_of_field c.args.atom.sup) (part_of_field c.args.atom.sub) c.requires.modest in
-    (omega (arith, c.decreases), (nucleus_fits_more (12 * part_nesting (part_of_field c.args.atom.nucleus) + 4) 3990 c.in_ok-nucleus-in-Beside.nucleus (omega (arith, m.nesting)) c.in_ok-nucleus-in-Beside.ensures.fits, (modest_sup c.args.atom.kind c.args.atom.limits (part_of_field c.args.atom.nucleus) (part_of_field c.args.atom.sup) (part_of_field c.args.atom.sub) c.requires.modest, modest_sub c.args.atom.kind c.args.atom.limits (part_of_field c.args.atom.nucleus) (part_of_field c.args.atom.sup) (part_of_field c.args.atom.sub) c.requires.modest)))
+    let n = c.in_ok-delta-in-Beside.ensures.is in
+    (omega (arith, c.decreases), (few_behind c.len-first.result 2 c.args.pieces.now n.row c.set_nucleus.new.pieces c.len-first.ensures n.stays n.few, (n.small, (modest_sup c.args.atom.kind c.args.atom.limits (part_of_field c.args.atom.nucleus) (part_of_field c.args.atom.sup) (part_of_field c.args.atom.sub) c.requires.modest, modest_sub c.args.atom.kind c.args.atom.limits (part_of_field c.args.atom.nucleus) (part_of_field c.args.atom.sup) (part_of_field c.args.atom.sub) c.requires.modest))))
 
-pub set_atom-returns-else-is_empty-clause-is : goal.set_atom-returns-else-is_empty-clause-is
-set_atom-returns-else-is_empty-clause-is t c = subst (SetsRow c.set_scripts.result) (sym (beside_row c.args.fonts.now c.args.style (role_value c.args.role) c.args.atom.kind c.args.atom.limits (part_of_field c.args.atom.nucleus) (part_of_field c.args.atom.sup) (part_of_field c.args.atom.sub) c.is_empty-has_subscript.result c.is_empty-has_subscript.ensures (sym c.in-Beside.is ∙ c.form_of-form.ensures))) (first_made (SetsRow c.set_scripts.result) (kind_nucleus c.args.atom.kind c.args.fonts.now c.args.style (role_value c.args.role) (field_content c.args.fonts.now c.args.atom.nucleus) (not c.is_empty-has_subscript.result)) (nucleus_value c.in_ok-nucleus-in-Beside.nucleus) (λ n. row_with_fields c.args.fonts.now c.args.style n (field_content c.args.fonts.now c.args.atom.sup) (field_content c.args.fonts.now c.args.atom.sub)) c.in_ok-nucleus-in-Beside.ensures.is c.set_scripts.ensures.is)
-
-pub set_atom-returns-else-is_empty-clause-fits : goal.set_atom-returns-else-is_empty-clause-fits
-set_atom-returns-else-is_empty-clause-fits t c =
-    let most = (max (part_nesting (part_of_field c.args.atom.nucleus)) (max (part_nesting (part_of_field c.args.atom.sup)) (part_nesting (part_of_field c.args.atom.sub)))) in
-    if_ok_map c.set_scripts.result _ (RowFits (12 * (most + 1))) c.set_scripts.ensures.fits (λ row f. row_fits_more (12 * most + 4 + 2) (12 * (most + 1)) row (omega arith) (f (12 * most + 4) (row_fits_more (12 * part_nesting (part_of_field c.args.atom.nucleus) + 4) (12 * most + 4) c.in_ok-nucleus-in-Beside.nucleus.row (omega arith) c.in_ok-nucleus-in-Beside.ensures.fits.fits) (record { sup = omega arith; sub = omega arith })))
+pub set_atom-returns-else-is_empty : goal.set_atom-returns-else-is_empty
+set_atom-returns-else-is_empty t c = record {
+  is = let P = SetsAtomOn c.set_scripts.result c.args.pieces.now c.set_scripts.new.pieces in
+      subst P (sym (beside_row c.args.fonts.now c.args.style (role_value c.args.role) c.args.atom.kind c.args.atom.limits (part_of_field c.args.atom.nucleus) (part_of_field c.args.atom.sup) (part_of_field c.args.atom.sub) c.is_empty-has_subscript.result c.is_empty-has_subscript.ensures (sym c.in-Beside.is ∙ c.form_of-form.ensures))) (first_made P (kind_nucleus c.args.atom.kind c.args.fonts.now c.args.style (role_value c.args.role) (field_content c.args.fonts.now c.args.atom.nucleus) (not c.is_empty-has_subscript.result)) (record { row = c.in_ok-delta-in-Beside.ensures.is.row; delta = c.in_ok-delta-in-Beside.delta.sp }) (λ n. row_with_fields c.args.fonts.now c.args.style n (field_content c.args.fonts.now c.args.atom.sup) (field_content c.args.fonts.now c.args.atom.sub)) c.in_ok-delta-in-Beside.ensures.is.is (c.set_scripts.ensures.is c.args.pieces.now c.in_ok-delta-in-Beside.ensures.is.row (sym c.len-first.ensures) c.in_ok-delta-in-Beside.ensures.is.stays));
+}
 
 -- ---- `set_fraction`
 
@@ -311,32 +253,23 @@ set_fraction-clean_list-requires t c = (omega (arith, c.decreases), num_of_fract
 pub set_fraction-clean_list-requires-2 : goal.set_fraction-clean_list-requires-2
 set_fraction-clean_list-requires-2 t c = (omega (arith, c.decreases), den_of_fraction c.args.fields.thickness c.args.fields.left c.args.fields.right c.args.fields.num c.args.fields.den c.requires.modest)
 
-pub set_fraction-returns-in_err-num-clause-is : goal.set_fraction-returns-in_err-num-clause-is
-set_fraction-returns-in_err-num-clause-is t c =
-    let p = err_from_is_err_and c.from_residual.result c.from_residual.ensures.1 in rw (p.1, p.2) (num_fails _ c.args.fonts.now c.args.style c.num.result c.args.fields.thickness c.args.fields.left c.args.fields.right c.args.fields.num c.args.fields.den c.num.ensures c.in_err-num.ensures.is)
+pub set_fraction-returns-in_err-clean_list : goal.set_fraction-returns-in_err-clean_list
+set_fraction-returns-in_err-clean_list t c =
+    let p = err_from_is_err_and c.from_residual.result c.from_residual.ensures.1 in rw (p.1, p.2) (record { is = num_fails _ c.args.fonts.now c.args.style c.num.result c.args.fields.thickness c.args.fields.left c.args.fields.right c.args.fields.num c.args.fields.den c.num.ensures c.in_err-clean_list.ensures.is })
 
-pub set_fraction-returns-in_err-den-clause-is : goal.set_fraction-returns-in_err-den-clause-is
-set_fraction-returns-in_err-den-clause-is t c =
-    let p = err_from_is_err_and c.from_residual-in_err-den.result c.from_residual-in_err-den.ensures.1 in rw (p.1, p.2) (den_fails _ c.args.fonts.now c.args.style c.num.result c.den-2.result c.args.fields.thickness c.args.fields.left c.args.fields.right c.args.fields.num c.args.fields.den (layout_of c.in_ok-num.num) c.num.ensures c.den-2.ensures c.in_ok-num.ensures.is c.in_err-den.ensures.is)
+pub set_fraction-returns-in_err-clean_list-2 : goal.set_fraction-returns-in_err-clean_list-2
+set_fraction-returns-in_err-clean_list-2 t c =
+    let p = err_from_is_err_and c.from_residual-in_err-clean_list-2.result c.from_residual-in_err-clean_list-2.ensures.1 in rw (p.1, p.2) (record { is = den_fails _ c.args.fonts.now c.args.style c.num.result c.den-2.result c.args.fields.thickness c.args.fields.left c.args.fields.right c.args.fields.num c.args.fields.den c.in_ok-clean_list.ensures.is.box c.num.ensures c.den-2.ensures c.in_ok-clean_list.ensures.is.is c.in_err-clean_list-2.ensures.is })
 
-pub set_fraction-fraction-requires-clause-thickness : goal.set_fraction-fraction-requires-clause-thickness
-set_fraction-fraction-requires-clause-thickness t c = thickness_of_fraction c.args.fields.thickness c.args.fields.left c.args.fields.right c.args.fields.num c.args.fields.den c.requires.modest
+pub set_fraction-fraction-requires : goal.set_fraction-fraction-requires
+set_fraction-fraction-requires t c = record { thickness = thickness_of_fraction c.args.fields.thickness c.args.fields.left c.args.fields.right c.args.fields.num c.args.fields.den c.requires.modest }
 
-pub set_fraction-fraction-requires-clause-num_level : goal.set_fraction-fraction-requires-clause-num_level
-set_fraction-fraction-requires-clause-num_level t c =
-    let m = num_of_fraction c.args.fields.thickness c.args.fields.left c.args.fields.right c.args.fields.num c.args.fields.den c.requires.modest in
-    omega (arith, c.in_ok-num.ensures.level, m.nesting)
-
-pub set_fraction-fraction-requires-clause-den_level : goal.set_fraction-fraction-requires-clause-den_level
-set_fraction-fraction-requires-clause-den_level t c =
-    let m = den_of_fraction c.args.fields.thickness c.args.fields.left c.args.fields.right c.args.fields.num c.args.fields.den c.requires.modest in
-    omega (arith, c.in_ok-den.ensures.level, m.nesting)
-
-pub set_fraction-returns-clause-is : goal.set_fraction-returns-clause-is
-set_fraction-returns-clause-is t c = fraction_made (SetsRow c.fraction.result) c.args.fonts.now c.args.style c.num.result c.den-2.result c.args.fields.thickness c.args.fields.left c.args.fields.right c.args.fields.num c.args.fields.den (layout_of c.in_ok-num.num) (layout_of c.in_ok-den.den) c.num.ensures c.den-2.ensures c.in_ok-num.ensures.is c.in_ok-den.ensures.is c.fraction.ensures.is
-
-pub set_fraction-returns-clause-fits : goal.set_fraction-returns-clause-fits
-set_fraction-returns-clause-fits t c = if_ok_map c.fraction.result _ (RowFits (12 * ((max (list_nesting c.args.fields.num) (list_nesting c.args.fields.den)) + 1))) c.fraction.ensures.fits (λ row f. row_fits_more (12 * (max (list_nesting c.args.fields.num) (list_nesting c.args.fields.den)) + 1 + 3) (12 * ((max (list_nesting c.args.fields.num) (list_nesting c.args.fields.den)) + 1)) row (omega arith) (f (12 * (max (list_nesting c.args.fields.num) (list_nesting c.args.fields.den)) + 1) (omega (arith, c.in_ok-num.ensures.level)) (omega (arith, c.in_ok-den.ensures.level))))
+pub set_fraction-returns : goal.set_fraction-returns
+set_fraction-returns t c = record {
+  is = let n = c.in_ok-clean_list.ensures.is in
+      let d = c.in_ok-clean_list-2.ensures.is in
+      fraction_made (SetsAtomOn c.fraction.result c.args.pieces.now c.fraction.new.pieces) c.args.fonts.now c.args.style c.num.result c.den-2.result c.args.fields.thickness c.args.fields.left c.args.fields.right c.args.fields.num c.args.fields.den n.box d.box c.num.ensures c.den-2.ensures n.is d.is (c.fraction.ensures c.args.pieces.now n.box d.box (two_boxes c.args.pieces.now _ _ n.box d.box n.stays d.stays));
+}
 
 -- ---- `set_nucleus` and `set_part`
 
@@ -344,54 +277,54 @@ pub set_nucleus-set_plain-requires : goal.set_nucleus-set_plain-requires
 set_nucleus-set_plain-requires t c = (omega (arith, c.decreases), c.requires.modest)
 
 pub set_nucleus-returns-in-Plain : goal.set_nucleus-returns-in-Plain
-set_nucleus-returns-in-Plain t c = record { is = subst (λ k. SetsNucleus c.set_plain.result (kind_nucleus k c.args.fonts.now c.args.style (role_value c.args.role) (field_content c.args.fonts.now c.args.field) c.args.has_subscript)) (sym c.in-Plain.is) c.set_plain.ensures.is; fits = if_ok_map c.set_plain.result _ (NucleusIsSmall (12 * part_nesting (part_of_field c.args.field) + 4)) c.set_plain.ensures.fits (λ n h. nucleus_fits_more (12 * part_nesting (part_of_field c.args.field) + 3) (12 * part_nesting (part_of_field c.args.field) + 4) n (omega arith) h) }
+set_nucleus-returns-in-Plain t c = record { is = subst (λ k. SetsNucleusOn c.set_plain.result c.args.pieces.now c.set_plain.new.pieces (kind_nucleus k c.args.fonts.now c.args.style (role_value c.args.role) (field_content c.args.fonts.now c.args.field) c.args.has_subscript)) (sym c.in-Plain.is) c.set_plain.ensures.is }
 
 pub set_nucleus-set_part-requires : goal.set_nucleus-set_part-requires
 set_nucleus-set_part-requires t c = (omega (arith, c.decreases), (c.requires.modest, c.in_default.not-Plain))
 
 pub set_nucleus-returns-in_default : goal.set_nucleus-returns-in_default
-set_nucleus-returns-in_default t c = record { is = c.set_part.ensures.is (role_value c.args.role) c.args.has_subscript; fits = c.set_part.ensures.fits }
+set_nucleus-returns-in_default t c = record { is = subst (SetsNucleusOn c.part_nucleus.result c.args.pieces.now c.set_part.new.pieces) (sym (part_nucleus_is c.args.kind c.args.fonts.now c.args.style (role_value c.args.role) (field_content c.args.fonts.now c.args.field) c.args.has_subscript c.in_default.not-Plain)) (c.part_nucleus.ensures c.args.pieces.now c.set_part.new.pieces (part_box c.args.kind c.args.fonts.now c.args.style (field_content c.args.fonts.now c.args.field)) c.set_part.ensures.is) }
 
 pub set_part-set_radical-requires : goal.set_part-set_radical-requires
 set_part-set_radical-requires t c = (omega (arith, c.decreases), c.requires.modest)
 
 pub set_part-returns-in-Radical : goal.set_part-returns-in-Radical
-set_part-returns-in-Radical t c = record { is = λ role has_subscript. subst (λ k. SetsNucleus c.part_nucleus.result (kind_nucleus k c.args.fonts.now c.args.style role (field_content c.args.fonts.now c.args.field) has_subscript)) (sym c.in-Radical.is) (c.part_nucleus.ensures.is (radical_part c.args.fonts.now c.args.style c.in-Radical.sign (field_content c.args.fonts.now c.args.field)) c.set_radical.ensures.is); fits = c.part_nucleus.ensures.fits (12 * part_nesting (part_of_field c.args.field) + 4) (if_ok_map c.set_radical.result _ (λ b. b.level ≤ 12 * part_nesting (part_of_field c.args.field) + 4) c.set_radical.ensures.level (λ b h. omega (arith, h))) }
+set_part-returns-in-Radical t c = record { is = subst (λ k. SetsBoxOn c.set_radical.result c.args.pieces.now c.set_radical.new.pieces (part_box k c.args.fonts.now c.args.style (field_content c.args.fonts.now c.args.field))) (sym c.in-Radical.is) c.set_radical.ensures.is }
 
 pub set_part-set_accent-requires : goal.set_part-set_accent-requires
 set_part-set_accent-requires t c = (omega (arith, c.decreases), c.requires.modest)
 
 pub set_part-returns-in-Accent : goal.set_part-returns-in-Accent
-set_part-returns-in-Accent t c = record { is = λ role has_subscript. subst (λ k. SetsNucleus c.part_nucleus-in-Accent.result (kind_nucleus k c.args.fonts.now c.args.style role (field_content c.args.fonts.now c.args.field) has_subscript)) (sym c.in-Accent.is) (c.part_nucleus-in-Accent.ensures.is (accent_part c.args.fonts.now c.args.style c.in-Accent.accent (field_content c.args.fonts.now c.args.field)) c.set_accent.ensures.is); fits = c.part_nucleus-in-Accent.ensures.fits (12 * part_nesting (part_of_field c.args.field) + 4) (if_ok_map c.set_accent.result _ (λ b. b.level ≤ 12 * part_nesting (part_of_field c.args.field) + 4) c.set_accent.ensures.level (λ b h. omega (arith, h))) }
+set_part-returns-in-Accent t c = record { is = subst (λ k. SetsBoxOn c.set_accent.result c.args.pieces.now c.set_accent.new.pieces (part_box k c.args.fonts.now c.args.style (field_content c.args.fonts.now c.args.field))) (sym c.in-Accent.is) c.set_accent.ensures.is }
 
 pub set_part-set_overline-requires : goal.set_part-set_overline-requires
 set_part-set_overline-requires t c = (omega (arith, c.decreases), c.requires.modest)
 
 pub set_part-returns-in-Over : goal.set_part-returns-in-Over
-set_part-returns-in-Over t c = record { is = λ role has_subscript. subst (λ k. SetsNucleus c.part_nucleus-in-Over.result (kind_nucleus k c.args.fonts.now c.args.style role (field_content c.args.fonts.now c.args.field) has_subscript)) (sym c.in-Over.is) (c.part_nucleus-in-Over.ensures.is (overline_part c.args.fonts.now c.args.style (field_content c.args.fonts.now c.args.field)) c.set_overline.ensures.is); fits = c.part_nucleus-in-Over.ensures.fits (12 * part_nesting (part_of_field c.args.field) + 4) (if_ok_map c.set_overline.result _ (λ b. b.level ≤ 12 * part_nesting (part_of_field c.args.field) + 4) c.set_overline.ensures.level (λ b h. omega (arith, h))) }
+set_part-returns-in-Over t c = record { is = subst (λ k. SetsBoxOn c.set_overline.result c.args.pieces.now c.set_overline.new.pieces (part_box k c.args.fonts.now c.args.style (field_content c.args.fonts.now c.args.field))) (sym c.in-Over.is) c.set_overline.ensures.is }
 
 pub set_part-set_underline-requires : goal.set_part-set_underline-requires
 set_part-set_underline-requires t c = (omega (arith, c.decreases), c.requires.modest)
 
 pub set_part-returns-in-Under : goal.set_part-returns-in-Under
-set_part-returns-in-Under t c = record { is = λ role has_subscript. subst (λ k. SetsNucleus c.part_nucleus-in-Under.result (kind_nucleus k c.args.fonts.now c.args.style role (field_content c.args.fonts.now c.args.field) has_subscript)) (sym c.in-Under.is) (c.part_nucleus-in-Under.ensures.is (underline_part c.args.fonts.now c.args.style (field_content c.args.fonts.now c.args.field)) c.set_underline.ensures.is); fits = c.part_nucleus-in-Under.ensures.fits (12 * part_nesting (part_of_field c.args.field) + 4) (if_ok_map c.set_underline.result _ (λ b. b.level ≤ 12 * part_nesting (part_of_field c.args.field) + 4) c.set_underline.ensures.level (λ b h. omega (arith, h))) }
-
-pub set_part-set_veil-requires : goal.set_part-set_veil-requires
-set_part-set_veil-requires t c = (omega (arith, c.decreases), c.requires.modest)
-
-pub set_part-returns-in-Veil : goal.set_part-returns-in-Veil
-set_part-returns-in-Veil t c = record { is = λ role has_subscript. subst (λ k. SetsNucleus c.part_nucleus-in-Veil.result (kind_nucleus k c.args.fonts.now c.args.style role (field_content c.args.fonts.now c.args.field) has_subscript)) (sym c.in-Veil.is) (c.part_nucleus-in-Veil.ensures.is (veil_part c.args.fonts.now c.args.style c.in-Veil.width c.in-Veil.height c.in-Veil.marks (field_content c.args.fonts.now c.args.field)) c.set_veil.ensures.is); fits = c.part_nucleus-in-Veil.ensures.fits (12 * part_nesting (part_of_field c.args.field) + 4) c.set_veil.ensures.level }
+set_part-returns-in-Under t c = record { is = subst (λ k. SetsBoxOn c.set_underline.result c.args.pieces.now c.set_underline.new.pieces (part_box k c.args.fonts.now c.args.style (field_content c.args.fonts.now c.args.field))) (sym c.in-Under.is) c.set_underline.ensures.is }
 
 pub set_part-set_vcenter-requires : goal.set_part-set_vcenter-requires
 set_part-set_vcenter-requires t c = (omega (arith, c.decreases), c.requires.modest)
 
 pub set_part-returns-in-Vcenter : goal.set_part-returns-in-Vcenter
-set_part-returns-in-Vcenter t c = record { is = λ role has_subscript. subst (λ k. SetsNucleus c.part_nucleus-in-Vcenter.result (kind_nucleus k c.args.fonts.now c.args.style role (field_content c.args.fonts.now c.args.field) has_subscript)) (sym c.in-Vcenter.is) (c.part_nucleus-in-Vcenter.ensures.is (vcenter_part c.args.fonts.now c.args.style (field_content c.args.fonts.now c.args.field)) c.set_vcenter.ensures.is); fits = c.part_nucleus-in-Vcenter.ensures.fits (12 * part_nesting (part_of_field c.args.field) + 4) (if_ok_map c.set_vcenter.result _ (λ b. b.level ≤ 12 * part_nesting (part_of_field c.args.field) + 4) c.set_vcenter.ensures.level (λ b h. omega (arith, h))) }
+set_part-returns-in-Vcenter t c = record { is = subst (λ k. SetsBoxOn c.set_vcenter.result c.args.pieces.now c.set_vcenter.new.pieces (part_box k c.args.fonts.now c.args.style (field_content c.args.fonts.now c.args.field))) (sym c.in-Vcenter.is) c.set_vcenter.ensures.is }
+
+pub set_part-set_veil-requires : goal.set_part-set_veil-requires
+set_part-set_veil-requires t c = (omega (arith, c.decreases), c.requires.modest)
+
+pub set_part-returns-in-Veil : goal.set_part-returns-in-Veil
+set_part-returns-in-Veil t c = record { is = subst (λ k. SetsBoxOn c.set_veil.result c.args.pieces.now c.set_veil.new.pieces (part_box k c.args.fonts.now c.args.style (field_content c.args.fonts.now c.args.field))) (sym c.in-Veil.is) c.set_veil.ensures.is }
 
 -- ---- `set_plain`
 
 pub set_plain-returns-in-Sym : goal.set_plain-returns-in-Sym
-set_plain-returns-in-Sym t c = record { is = subst (SetsNucleus c.class_nucleus.result) (sym (symbol_nucleus_is c.args.class c.args.fonts.now c.args.style (role_value c.args.role) (part_of_field c.args.field) c.in-Sym.symbol c.args.has_subscript (ap part_of_field c.in-Sym.is))) c.class_nucleus.ensures.is; fits = if_ok_map c.class_nucleus.result _ (NucleusIsSmall (12 * part_nesting (part_of_field c.args.field) + 3)) c.class_nucleus.ensures.fits (λ n h. nucleus_fits_more 1 (12 * part_nesting (part_of_field c.args.field) + 3) n (omega arith) h) }
+set_plain-returns-in-Sym t c = record { is = subst (SetsNucleusOn c.class_nucleus.result c.args.pieces.now c.class_nucleus.new.pieces) (sym (symbol_nucleus_is c.args.class c.args.fonts.now c.args.style (role_value c.args.role) (part_of_field c.args.field) c.in-Sym.symbol c.args.has_subscript (ap part_of_field c.in-Sym.is))) c.class_nucleus.ensures.is }
 
 pub set_plain-pack_list-requires : goal.set_plain-pack_list-requires
 set_plain-pack_list-requires t c =
@@ -400,75 +333,92 @@ set_plain-pack_list-requires t c =
     (omega (arith, s, c.decreases), list_of_part (part_of_field c.args.field) c.in-List.list e c.requires.modest)
 
 pub set_plain-returns-in-List : goal.set_plain-returns-in-List
-set_plain-returns-in-List t c = record { is = subst (SetsNucleus c.pack_list.result) (sym (list_nucleus_is c.args.class c.args.fonts.now c.args.style (role_value c.args.role) (part_of_field c.args.field) c.in-List.list c.args.has_subscript (ap part_of_field c.in-List.is))) c.pack_list.ensures.is; fits = subst (λ p. IfOk c.pack_list.result (NucleusIsSmall (12 * part_nesting p + 3))) (sym (ap part_of_field c.in-List.is)) (if_ok_map c.pack_list.result _ (NucleusIsSmall (12 * list_nesting c.in-List.list + 3)) c.pack_list.ensures.fits (λ n h. nucleus_fits_more (12 * list_nesting c.in-List.list + 1) (12 * list_nesting c.in-List.list + 3) n (omega arith) h)) }
+set_plain-returns-in-List t c = record { is = subst (SetsNucleusOn c.part_nucleus.result c.args.pieces.now c.pack_list.new.pieces) (sym (list_nucleus_is c.args.class c.args.fonts.now c.args.style (role_value c.args.role) (part_of_field c.args.field) c.in-List.list c.args.has_subscript (ap part_of_field c.in-List.is))) (c.part_nucleus.ensures c.args.pieces.now c.pack_list.new.pieces (list_box (list_content c.args.fonts.now c.in-List.list) c.args.style) c.pack_list.ensures.is) }
 
 pub set_plain-returns-in-Big : goal.set_plain-returns-in-Big
-set_plain-returns-in-Big t c = record { is = subst (SetsNucleus c.big_nucleus.result) (sym (big_nucleus_is c.args.class c.args.fonts.now c.args.style (role_value c.args.role) (part_of_field c.args.field) c.in-Big.delim c.in-Big.level c.args.has_subscript (ap part_of_field c.in-Big.is))) c.big_nucleus.ensures.is; fits = if_ok_map c.big_nucleus.result _ (NucleusIsSmall (12 * part_nesting (part_of_field c.args.field) + 3)) c.big_nucleus.ensures.fits (λ n h. nucleus_fits_more 3 (12 * part_nesting (part_of_field c.args.field) + 3) n (omega arith) h) }
+set_plain-returns-in-Big t c = record { is = subst (SetsNucleusOn c.big_nucleus.result c.args.pieces.now c.big_nucleus.new.pieces) (sym (big_nucleus_is c.args.class c.args.fonts.now c.args.style (role_value c.args.role) (part_of_field c.args.field) c.in-Big.delim c.in-Big.level c.args.has_subscript (ap part_of_field c.in-Big.is))) c.big_nucleus.ensures.is }
 
 pub set_plain-returns : goal.set_plain-returns
-set_plain-returns t c = record { is = empty_nucleus_is c.args.class c.args.fonts.now c.args.style (role_value c.args.role) (part_of_field c.args.field) c.args.has_subscript (has_no_nucleus c.args.field c.in_default.not-Sym c.in_default.not-List c.in_default.not-Big) ∙ ap (λ n. Ok n) (sym c.empty_nucleus.ensures.is); fits = nucleus_fits_more 0 (12 * part_nesting (part_of_field c.args.field) + 3) c.empty_nucleus.result (omega arith) c.empty_nucleus.ensures.fits }
+set_plain-returns t c = record { is = no_row c.args.pieces.now _ (empty_nucleus_is c.args.class c.args.fonts.now c.args.style (role_value c.args.role) (part_of_field c.args.field) c.args.has_subscript (has_no_nucleus c.args.field c.in_default.not-Sym c.in_default.not-List c.in_default.not-Big)) }
 
--- ---- `pack_list`
+-- ---- `clean_list` and `pack_list`
 
-pub pack_list-set_list-requires : goal.pack_list-set_list-requires
-pack_list-set_list-requires t c = (omega (arith, c.decreases), c.requires.modest)
+pub clean_list-set_list_on-requires : goal.clean_list-set_list_on-requires
+clean_list-set_list_on-requires t c = (omega (arith, c.decreases), c.requires.modest)
 
-pub pack_list-returns-in_err-row-clause-is : goal.pack_list-returns-in_err-row-clause-is
-pack_list-returns-in_err-row-clause-is t c =
-    let p = err_from_is_err_and c.from_residual.result c.from_residual.ensures.1 in rw (p.1, p.2) (list_fails _ c.args.fonts.now c.args.list c.args.style _ c.in_err-row.ensures.is)
+pub clean_list-returns-in_err-set_list_on : goal.clean_list-returns-in_err-set_list_on
+clean_list-returns-in_err-set_list_on t c =
+    let p = err_from_is_err_and c.from_residual.result c.from_residual.ensures.1 in rw (p.1, p.2) (record { is = fails_then _ (list_content c.args.fonts.now c.args.list c.args.style) make_clean c.in_err-set_list_on.ensures.is })
 
-pub pack_list-packed-requires-clause-fits : goal.pack_list-packed-requires-clause-fits
-pack_list-packed-requires-clause-fits t c = row_fits_more (12 * list_nesting c.args.list) 4000 c.in_ok-row.row (omega (arith, c.requires.modest.nesting)) c.in_ok-row.ensures.fits
+pub clean_list-cleaned-requires : goal.clean_list-cleaned-requires
+clean_list-cleaned-requires t c = record { few = subst (λ n. length (drop n c.set_list_on.new.pieces) ≤ 2 ^ 21) (sym c.len-first.ensures) c.in_ok-set_list_on.ensures.few }
 
-pub pack_list-returns-in_err-body-clause-is : goal.pack_list-returns-in_err-body-clause-is
-pack_list-returns-in_err-body-clause-is t c =
-    let p = err_from_is_err_and c.from_residual-in_err-body.result c.from_residual-in_err-body.ensures.1 in rw (p.1, p.2) (packing_fails _ c.args.fonts.now c.args.list c.args.style (piece_values c.in_ok-row.row) c.in_ok-row.ensures.is c.in_err-body.ensures.is)
+pub clean_list-returns : goal.clean_list-returns
+clean_list-returns t c = record {
+  is = let r = c.in_ok-set_list_on.ensures.is in
+      first_made (SetsBoxOn c.cleaned.result c.args.pieces.now c.cleaned.new.pieces) (list_content c.args.fonts.now c.args.list c.args.style) r.row make_clean r.is (c.cleaned.ensures.is c.args.pieces.now r.row (sym c.len-first.ensures) r.stays);
+}
+
+pub pack_list-set_list_on-requires : goal.pack_list-set_list_on-requires
+pack_list-set_list_on-requires t c = (omega (arith, c.decreases), c.requires.modest)
+
+pub pack_list-returns-in_err-set_list_on : goal.pack_list-returns-in_err-set_list_on
+pack_list-returns-in_err-set_list_on t c =
+    let p = err_from_is_err_and c.from_residual.result c.from_residual.ensures.1 in rw (p.1, p.2) (record { is = fails_then _ (list_content c.args.fonts.now c.args.list c.args.style) pack_row c.in_err-set_list_on.ensures.is })
+
+pub pack_list-packed-requires : goal.pack_list-packed-requires
+pack_list-packed-requires t c = record { few = subst (λ n. length (drop n c.set_list_on.new.pieces) ≤ 2 ^ 21) (sym c.len-first.ensures) c.in_ok-set_list_on.ensures.few }
 
 pub pack_list-returns : goal.pack_list-returns
-pack_list-returns t c = record { is = packed_made (SetsNucleus c.box_nucleus.result) c.args.fonts.now c.args.list c.args.style (piece_values c.in_ok-row.row) (layout_of c.in_ok-body.body) c.in_ok-row.ensures.is c.in_ok-body.ensures.is c.box_nucleus.ensures.is; fits = if_ok_map c.box_nucleus.result _ (NucleusIsSmall (12 * list_nesting c.args.list + 1)) c.box_nucleus.ensures.fits (λ n h. nucleus_fits_more c.in_ok-body.body.level (12 * list_nesting c.args.list + 1) n (c.in_ok-body.ensures.level (12 * list_nesting c.args.list) c.in_ok-row.ensures.fits) h) }
+pack_list-returns t c = record {
+  is = let r = c.in_ok-set_list_on.ensures.is in
+      first_made (SetsBoxOn c.packed.result c.args.pieces.now c.packed.new.pieces) (list_content c.args.fonts.now c.args.list c.args.style) r.row pack_row r.is (c.packed.ensures.is c.args.pieces.now r.row (sym c.len-first.ensures) r.stays);
+}
 
--- ---- `pack_field`
+-- ---- `pack_field` and `set_veil`
 
 pub pack_field-set_plain-requires : goal.pack_field-set_plain-requires
 pack_field-set_plain-requires t c = (omega (arith, c.decreases), c.requires.modest)
 
-pub pack_field-returns-in_err-nucleus-clause-is : goal.pack_field-returns-in_err-nucleus-clause-is
-pack_field-returns-in_err-nucleus-clause-is t c =
-    let p = err_from_is_err_and c.from_residual.result c.from_residual.ensures.1 in rw (p.1, p.2) (nucleus_fails _ c.args.fonts.now c.args.style (field_content c.args.fonts.now c.args.field) c.in_err-nucleus.ensures.is)
+pub pack_field-returns-in_err-set_plain : goal.pack_field-returns-in_err-set_plain
+pack_field-returns-in_err-set_plain t c =
+    let p = err_from_is_err_and c.from_residual.result c.from_residual.ensures.1 in rw (p.1, p.2) (record { is = nucleus_fails _ c.args.fonts.now c.args.style (field_content c.args.fonts.now c.args.field) c.in_err-set_plain.ensures.is })
 
 pub pack_field-without_scripts-requires : goal.pack_field-without_scripts-requires
-pack_field-without_scripts-requires t c = record { fits = nucleus_fits_more (12 * part_nesting (part_of_field c.args.field) + 3) 4000 c.in_ok-nucleus.nucleus (omega (arith, c.requires.modest.nesting)) c.in_ok-nucleus.ensures.fits }
+pack_field-without_scripts-requires t c = record { few = few_behind c.len-first.result 4 c.args.pieces.now c.in_ok-set_plain.ensures.is.row c.set_plain.new.pieces c.len-first.ensures c.in_ok-set_plain.ensures.is.stays (omega (arith, c.in_ok-set_plain.ensures.is.few)) }
 
-pub pack_field-returns-in_err-without_scripts-clause-is : goal.pack_field-returns-in_err-without_scripts-clause-is
-pack_field-returns-in_err-without_scripts-clause-is t c =
-    let p = err_from_is_err_and c.from_residual-in_err-without_scripts.result c.from_residual-in_err-without_scripts.ensures.1 in rw (p.1, p.2) (field_row_fails _ c.args.fonts.now c.args.style (field_content c.args.fonts.now c.args.field) (nucleus_value c.in_ok-nucleus.nucleus) c.in_ok-nucleus.ensures.is (c.in_err-without_scripts.ensures.is c.args.fonts.now c.args.style))
+pub pack_field-returns-in_err-without_scripts : goal.pack_field-returns-in_err-without_scripts
+pack_field-returns-in_err-without_scripts t c =
+    let n = c.in_ok-set_plain.ensures.is in
+    let p = err_from_is_err_and c.from_residual-in_err-without_scripts.result c.from_residual-in_err-without_scripts.ensures.1 in rw (p.1, p.2) (record { is = field_row_fails _ c.args.fonts.now c.args.style (field_content c.args.fonts.now c.args.field) (record { row = n.row; delta = c.in_ok-set_plain.field-0.sp }) n.is (c.in_err-without_scripts.ensures.is c.args.pieces.now n.row (sym c.len-first.ensures) n.stays c.args.fonts.now c.args.style c.in_ok-set_plain.field-0.sp) })
 
 pub pack_field-packed-requires : goal.pack_field-packed-requires
-pack_field-packed-requires t c =
-    record { few = omega (arith, c.in_ok-without_scripts.ensures.few); fits = c.in_ok-without_scripts.ensures.fits 4000 (row_fits_more (12 * part_nesting (part_of_field c.args.field) + 3) 4000 c.in_ok-nucleus.nucleus.row (omega (arith, c.requires.modest.nesting)) c.in_ok-nucleus.ensures.fits.fits) }
+pack_field-packed-requires t c = record { few = few_behind c.len-first.result (2 ^ 21) c.args.pieces.now c.in_ok-set_plain.ensures.is.row c.set_plain.new.pieces c.len-first.ensures c.in_ok-set_plain.ensures.is.stays (omega (arith, c.in_ok-set_plain.ensures.is.few)) }
 
 pub pack_field-returns : goal.pack_field-returns
-pack_field-returns t c = record { is = field_made (SetsBox c.packed.result) c.args.fonts.now c.args.style (field_content c.args.fonts.now c.args.field) (nucleus_value c.in_ok-nucleus.nucleus) (piece_values c.in_ok-without_scripts.field-0) c.in_ok-nucleus.ensures.is (c.in_ok-without_scripts.ensures.is c.args.fonts.now c.args.style) c.packed.ensures.is; level = if_ok_map c.packed.result _ (λ b. b.level ≤ 12 * part_nesting (part_of_field c.args.field) + 4) c.packed.ensures.level (λ b f. omega (arith, f (12 * part_nesting (part_of_field c.args.field) + 3) (c.in_ok-without_scripts.ensures.fits (12 * part_nesting (part_of_field c.args.field) + 3) c.in_ok-nucleus.ensures.fits.fits))) }
-
--- ---- `set_veil`
+pack_field-returns t c = record {
+  is = let n = c.in_ok-set_plain.ensures.is in
+      let a = c.in_ok-without_scripts.ensures.is c.args.pieces.now n.row (sym c.len-first.ensures) n.stays c.args.fonts.now c.args.style c.in_ok-set_plain.field-0.sp in
+      field_made (SetsBoxOn c.packed.result c.args.pieces.now c.packed.new.pieces) c.args.fonts.now c.args.style (field_content c.args.fonts.now c.args.field) (record { row = n.row; delta = c.in_ok-set_plain.field-0.sp }) a.row n.is a.is (c.packed.ensures.is c.args.pieces.now a.row (sym c.len-first.ensures) a.stays);
+}
 
 pub set_veil-pack_field-requires : goal.set_veil-pack_field-requires
 set_veil-pack_field-requires t c = (omega (arith, c.decreases), c.requires.modest)
 
-pub set_veil-returns-in_err-body-clause-is : goal.set_veil-returns-in_err-body-clause-is
-set_veil-returns-in_err-body-clause-is t c =
-    let p = err_from_is_err_and c.from_residual.result c.from_residual.ensures.1 in rw (p.1, p.2) (veil_fails _ c.args.fonts.now c.args.style c.uncramped.result c.args.width c.args.height c.args.marks (field_content c.args.fonts.now c.args.field) c.uncramped.ensures c.in_err-body.ensures.is)
+pub set_veil-returns-in_err-pack_field : goal.set_veil-returns-in_err-pack_field
+set_veil-returns-in_err-pack_field t c =
+    let p = err_from_is_err_and c.from_residual.result c.from_residual.ensures.1 in rw (p.1, p.2) (record { is = veil_fails _ c.args.fonts.now c.args.style c.uncramped.result c.args.width c.args.height c.args.marks (field_content c.args.fonts.now c.args.field) c.uncramped.ensures c.in_err-pack_field.ensures.is })
 
 pub set_veil-returns : goal.set_veil-returns
-set_veil-returns t c = record { is = veil_made c.args.fonts.now c.args.style c.uncramped.result c.args.width c.args.height c.args.marks (field_content c.args.fonts.now c.args.field) (layout_of c.in_ok-body.body) (layout_of c.veil_box.result) c.uncramped.ensures c.in_ok-body.ensures.is c.veil_box.ensures.is; level = omega (arith, c.in_ok-body.ensures.level, c.veil_box.ensures.level) }
+set_veil-returns t c = record {
+  is = let b = c.in_ok-pack_field.ensures.is in
+      veil_made (SetsBoxOn c.veil.result c.args.pieces.now c.veil.new.pieces) c.args.fonts.now c.args.style c.uncramped.result c.args.width c.args.height c.args.marks (field_content c.args.fonts.now c.args.field) b.box c.uncramped.ensures b.is (c.veil.ensures c.args.pieces.now b.box b.stays);
+}
 
 -- ---- `set_operator`
 
-pub set_operator-returns-in-Sym-clause-is : goal.set_operator-returns-in-Sym-clause-is
-set_operator-returns-in-Sym-clause-is t c = subst (SetsOperator c.symbol_operator.result) (sym (symbol_operator_is c.args.fonts.now c.args.style (part_of_field c.args.field) c.in-Sym.symbol (ap part_of_field c.in-Sym.is))) c.symbol_operator.ensures.is
-
-pub set_operator-returns-in-Sym-clause-level : goal.set_operator-returns-in-Sym-clause-level
-set_operator-returns-in-Sym-clause-level t c = if_ok_map c.symbol_operator.result _ (λ o. o.body.level ≤ 12 * part_nesting (part_of_field c.args.field) + 4) c.symbol_operator.ensures.level (λ o h. omega (arith, h))
+pub set_operator-returns-in-Sym : goal.set_operator-returns-in-Sym
+set_operator-returns-in-Sym t c = record { is = subst (SetsOperatorOn c.symbol_operator.result c.args.pieces.now c.symbol_operator.new.pieces) (sym (symbol_operator_is c.args.fonts.now c.args.style (part_of_field c.args.field) c.in-Sym.symbol (ap part_of_field c.in-Sym.is))) c.symbol_operator.ensures.is }
 
 pub set_operator-clean_list-requires : goal.set_operator-clean_list-requires
 set_operator-clean_list-requires t c =
@@ -476,25 +426,16 @@ set_operator-clean_list-requires t c =
     let s = ap part_size e in
     (omega (arith, s, c.decreases), list_of_part (part_of_field c.args.field) c.in-List.list e c.requires.modest)
 
-pub set_operator-returns-in-List-clause-is : goal.set_operator-returns-in-List-clause-is
-set_operator-returns-in-List-clause-is t c = subst (SetsOperator c.part_operator.result) (sym (list_operator_is c.args.fonts.now c.args.style (part_of_field c.args.field) c.in-List.list (ap part_of_field c.in-List.is))) (c.part_operator.ensures.is (clean_list (list_content c.args.fonts.now c.in-List.list) c.args.style) c.clean_list.ensures.is)
+pub set_operator-returns-in-List : goal.set_operator-returns-in-List
+set_operator-returns-in-List t c = record { is = subst (SetsOperatorOn c.part_operator.result c.args.pieces.now c.clean_list.new.pieces) (sym (list_operator_is c.args.fonts.now c.args.style (part_of_field c.args.field) c.in-List.list (ap part_of_field c.in-List.is))) (c.part_operator.ensures c.args.pieces.now c.clean_list.new.pieces (clean_list (list_content c.args.fonts.now c.in-List.list) c.args.style) c.clean_list.ensures.is) }
 
-pub set_operator-returns-in-List-clause-level : goal.set_operator-returns-in-List-clause-level
-set_operator-returns-in-List-clause-level t c = c.part_operator.ensures.level (12 * part_nesting (part_of_field c.args.field) + 4) (subst (λ p. IfOk c.clean_list.result (λ b. b.level ≤ 12 * part_nesting p + 4)) (sym (ap part_of_field c.in-List.is)) (if_ok_map c.clean_list.result _ (λ b. b.level ≤ 12 * list_nesting c.in-List.list + 4) c.clean_list.ensures.level (λ b h. omega (arith, h))))
+pub set_operator-returns-in-Big : goal.set_operator-returns-in-Big
+set_operator-returns-in-Big t c = record { is = subst (SetsOperatorOn c.big_operator.result c.args.pieces.now c.big_operator.new.pieces) (sym (big_operator_is c.args.fonts.now c.args.style (part_of_field c.args.field) c.in-Big.delim c.in-Big.level (ap part_of_field c.in-Big.is))) (c.big_operator.ensures.is c.args.style) }
 
-pub set_operator-returns-in-Big-clause-is : goal.set_operator-returns-in-Big-clause-is
-set_operator-returns-in-Big-clause-is t c = subst (SetsOperator c.big_operator.result) (sym (big_operator_is c.args.fonts.now c.args.style (part_of_field c.args.field) c.in-Big.delim c.in-Big.level (ap part_of_field c.in-Big.is))) (c.big_operator.ensures.is c.args.style)
+pub set_operator-returns : goal.set_operator-returns
+set_operator-returns t c = record { is = subst (SetsOperatorOn c.part_operator-in_default.result c.args.pieces.now c.empty_box.new.pieces) (sym (empty_operator_is c.args.fonts.now c.args.style (part_of_field c.args.field) (has_no_nucleus c.args.field c.in_default.not-Sym c.in_default.not-List c.in_default.not-Big))) (c.part_operator-in_default.ensures c.args.pieces.now c.empty_box.new.pieces (Ok empty_layout) c.empty_box.ensures.is) }
 
-pub set_operator-returns-in-Big-clause-level : goal.set_operator-returns-in-Big-clause-level
-set_operator-returns-in-Big-clause-level t c = if_ok_map c.big_operator.result _ (λ o. o.body.level ≤ 12 * part_nesting (part_of_field c.args.field) + 4) c.big_operator.ensures.level (λ o h. omega (arith, h))
-
-pub set_operator-returns-clause-is : goal.set_operator-returns-clause-is
-set_operator-returns-clause-is t c = subst (SetsOperator c.part_operator-in_default.result) (sym (empty_operator_is c.args.fonts.now c.args.style (part_of_field c.args.field) (has_no_nucleus c.args.field c.in_default.not-Sym c.in_default.not-List c.in_default.not-Big))) (c.part_operator-in_default.ensures.is (Ok empty_layout) c.empty_box.ensures.is)
-
-pub set_operator-returns-clause-level : goal.set_operator-returns-clause-level
-set_operator-returns-clause-level t c = c.part_operator-in_default.ensures.level (12 * part_nesting (part_of_field c.args.field) + 4) (if_ok_map c.empty_box.result _ (λ b. b.level ≤ 12 * part_nesting (part_of_field c.args.field) + 4) c.empty_box.ensures.level (λ b h. omega (arith, h)))
-
--- ---- `set_scripts`
+-- ---- `set_scripts`, `set_under_limits` and `set_script`
 
 pub set_scripts-set_script-requires : goal.set_scripts-set_script-requires
 set_scripts-set_script-requires t c = (omega (arith, c.decreases), c.requires.sup)
@@ -502,98 +443,82 @@ set_scripts-set_script-requires t c = (omega (arith, c.decreases), c.requires.su
 pub set_scripts-set_script-requires-2 : goal.set_scripts-set_script-requires-2
 set_scripts-set_script-requires-2 t c = (omega (arith, c.decreases), c.requires.sub)
 
-pub set_scripts-returns-in_err-above-clause-is : goal.set_scripts-returns-in_err-above-clause-is
-set_scripts-returns-in_err-above-clause-is t c =
-    let p = err_from_is_err_and c.from_residual.result c.from_residual.ensures.1 in rw (p.1, p.2) (sup_fails _ c.args.fonts.now c.args.style c.sup.result (field_content c.args.fonts.now c.args.sup) (field_content c.args.fonts.now c.args.sub) (row_beside c.args.fonts.now c.args.style (nucleus_value c.args.nucleus)) c.sup.ensures c.in_err-above.ensures.is)
+pub set_scripts-returns-in_err-sup : goal.set_scripts-returns-in_err-sup
+set_scripts-returns-in_err-sup t c =
+    let p = err_from_is_err_and c.from_residual.result c.from_residual.ensures.1 in rw (p.1, p.2) (record { is = λ before row f e. sup_fails _ c.args.fonts.now c.args.style c.sup.result (field_content c.args.fonts.now c.args.sup) (field_content c.args.fonts.now c.args.sub) (row_beside c.args.fonts.now c.args.style (record { row = row; delta = c.args.delta.sp })) c.sup.ensures c.in_err-sup.ensures.is })
 
-pub set_scripts-returns-in_err-below-clause-is : goal.set_scripts-returns-in_err-below-clause-is
-set_scripts-returns-in_err-below-clause-is t c =
-    let p = err_from_is_err_and c.from_residual-in_err-below.result c.from_residual-in_err-below.ensures.1 in rw (p.1, p.2) (sub_fails _ c.args.fonts.now c.args.style c.sup.result c.sub.result (field_content c.args.fonts.now c.args.sup) (field_content c.args.fonts.now c.args.sub) (option_map layout_of c.in_ok-above.above) (row_beside c.args.fonts.now c.args.style (nucleus_value c.args.nucleus)) c.sup.ensures c.sub.ensures c.in_ok-above.ensures.is c.in_err-below.ensures.is)
+pub set_scripts-returns-in_err-sub : goal.set_scripts-returns-in_err-sub
+set_scripts-returns-in_err-sub t c =
+    let p = err_from_is_err_and c.from_residual-in_err-sub.result c.from_residual-in_err-sub.ensures.1 in rw (p.1, p.2) (record { is = λ before row f e. sub_fails _ c.args.fonts.now c.args.style c.sup.result c.sub.result (field_content c.args.fonts.now c.args.sup) (field_content c.args.fonts.now c.args.sub) c.in_ok-sup.ensures.is.box (row_beside c.args.fonts.now c.args.style (record { row = row; delta = c.args.delta.sp })) c.sup.ensures c.sub.ensures c.in_ok-sup.ensures.is.is c.in_err-sub.ensures.is })
 
-pub set_scripts-with_scripts-requires-clause-above_level : goal.set_scripts-with_scripts-requires-clause-above_level
-set_scripts-with_scripts-requires-clause-above_level t c = omega (arith, c.in_ok-above.ensures.level, c.requires.sup.nesting)
+pub set_scripts-with_scripts-requires-clause-few : goal.set_scripts-with_scripts-requires-clause-few
+set_scripts-with_scripts-requires-clause-few t c = scripts_few c.args.first c.args.pieces.now _ _ c.in_ok-sup.ensures.is.box c.in_ok-sub.ensures.is.box c.requires.few c.in_ok-sup.ensures.is.stays c.in_ok-sub.ensures.is.stays
 
-pub set_scripts-with_scripts-requires-clause-below_level : goal.set_scripts-with_scripts-requires-clause-below_level
-set_scripts-with_scripts-requires-clause-below_level t c = omega (arith, c.in_ok-below.ensures.level, c.requires.sub.nesting)
-
-pub set_scripts-returns-clause-is : goal.set_scripts-returns-clause-is
-set_scripts-returns-clause-is t c = both_made (SetsRow c.with_scripts.result) c.args.fonts.now c.args.style c.sup.result c.sub.result (field_content c.args.fonts.now c.args.sup) (field_content c.args.fonts.now c.args.sub) (option_map layout_of c.in_ok-above.above) (option_map layout_of c.in_ok-below.below) (row_beside c.args.fonts.now c.args.style (nucleus_value c.args.nucleus)) c.sup.ensures c.sub.ensures c.in_ok-above.ensures.is c.in_ok-below.ensures.is c.with_scripts.ensures.is
-
-pub set_scripts-with_scripts-requires-clause-fits : goal.set_scripts-with_scripts-requires-clause-fits
-set_scripts-with_scripts-requires-clause-fits t c = nucleus_fits_more 3990 4000 c.args.nucleus (omega arith) c.requires.nucleus
-
-pub set_scripts-returns-clause-fits : goal.set_scripts-returns-clause-fits
-set_scripts-returns-clause-fits t c = if_ok_map c.with_scripts.result _ (λ row. (n : ℕ) → RowFits n c.args.nucleus.row → ScriptLevels n (part_of_field c.args.sup) (part_of_field c.args.sub) → RowFits (n + 2) row) c.with_scripts.ensures.fits (λ row f n h s. f n h (omega (arith, c.in_ok-above.ensures.level, s.sup)) (omega (arith, c.in_ok-below.ensures.level, s.sub)))
-
--- ---- `set_under_limits` and `set_limits`
+pub set_scripts-returns : goal.set_scripts-returns
+set_scripts-returns t c = record {
+  is = λ before row f e.
+      let a = c.in_ok-sup.ensures.is in
+      let b = c.in_ok-sub.ensures.is in
+      both_made (SetsAtomOn c.with_scripts.result before c.with_scripts.new.pieces) c.args.fonts.now c.args.style c.sup.result c.sub.result (field_content c.args.fonts.now c.args.sup) (field_content c.args.fonts.now c.args.sub) a.box b.box (row_beside c.args.fonts.now c.args.style (record { row = row; delta = c.args.delta.sp })) c.sup.ensures c.sub.ensures a.is b.is
+      (c.with_scripts.ensures.is before row a.box b.box (record { sup = a.known; sub = b.known }) f (few_row c.args.first 2 before row c.args.pieces.now f e c.requires.few) (row_and_scripts before row c.args.pieces.now _ _ a.box b.box e a.stays b.stays));
+}
 
 pub set_under_limits-set_operator-requires : goal.set_under_limits-set_operator-requires
 set_under_limits-set_operator-requires t c = (omega (arith, c.decreases), c.requires.nucleus)
 
-pub set_under_limits-returns-in_err-operator-clause-is : goal.set_under_limits-returns-in_err-operator-clause-is
-set_under_limits-returns-in_err-operator-clause-is t c =
-    let p = err_from_is_err_and c.from_residual.result c.from_residual.ensures.1 in rw (p.1, p.2) (fails_then _ (operator_box c.args.fonts.now c.args.style (field_content c.args.fonts.now c.args.nucleus)) (λ o. row_with_limits c.args.fonts.now c.args.style o (field_content c.args.fonts.now c.args.sup) (field_content c.args.fonts.now c.args.sub)) c.in_err-operator.ensures.is)
+pub set_under_limits-set_script-requires : goal.set_under_limits-set_script-requires
+set_under_limits-set_script-requires t c = (omega (arith, c.decreases), c.requires.sup)
 
-pub set_under_limits-set_limits-requires : goal.set_under_limits-set_limits-requires
-set_under_limits-set_limits-requires t c =
-    (omega (arith, c.decreases), (omega (arith, c.in_ok-operator.ensures.level, c.requires.nucleus.nesting), (c.in_ok-operator.ensures.delta, (c.requires.sup, c.requires.sub))))
+pub set_under_limits-set_script-requires-2 : goal.set_under_limits-set_script-requires-2
+set_under_limits-set_script-requires-2 t c = (omega (arith, c.decreases), c.requires.sub)
 
-pub set_under_limits-returns-clause-is : goal.set_under_limits-returns-clause-is
-set_under_limits-returns-clause-is t c = first_made (SetsRow c.set_limits.result) (operator_box c.args.fonts.now c.args.style (field_content c.args.fonts.now c.args.nucleus)) (operator_value c.in_ok-operator.operator) (λ o. row_with_limits c.args.fonts.now c.args.style o (field_content c.args.fonts.now c.args.sup) (field_content c.args.fonts.now c.args.sub)) c.in_ok-operator.ensures.is c.set_limits.ensures.is
+pub set_under_limits-returns-in_err-delta : goal.set_under_limits-returns-in_err-delta
+set_under_limits-returns-in_err-delta t c =
+    let p = err_from_is_err_and c.from_residual.result c.from_residual.ensures.1 in rw (p.1, p.2) (record { is = fails_then _ (operator_box c.args.fonts.now c.args.style (field_content c.args.fonts.now c.args.nucleus)) (λ o. row_with_limits c.args.fonts.now c.args.style o (field_content c.args.fonts.now c.args.sup) (field_content c.args.fonts.now c.args.sub)) c.in_err-delta.ensures.is })
 
-pub set_under_limits-returns-clause-fits : goal.set_under_limits-returns-clause-fits
-set_under_limits-returns-clause-fits t c =
-    if_ok_map c.set_limits.result _ (λ row. (n : ℕ) → 12 * part_nesting (part_of_field c.args.nucleus) + 4 ≤ n → ScriptLevels n (part_of_field c.args.sup) (part_of_field c.args.sub) → RowFits (n + 3) row) c.set_limits.ensures.fits
-    (λ row f n h s. f n (omega (arith, c.in_ok-operator.ensures.level, h)) s)
+pub set_under_limits-returns-in_err-sup : goal.set_under_limits-returns-in_err-sup
+set_under_limits-returns-in_err-sup t c =
+    let p = err_from_is_err_and c.from_residual-in_err-sup.result c.from_residual-in_err-sup.ensures.1 in rw (p.1, p.2) (record { is = first_made (SetFails _) (operator_box c.args.fonts.now c.args.style (field_content c.args.fonts.now c.args.nucleus)) (record { box = c.in_ok-delta.ensures.is.box; delta = c.in_ok-delta.delta.sp }) (λ o. row_with_limits c.args.fonts.now c.args.style o (field_content c.args.fonts.now c.args.sup) (field_content c.args.fonts.now c.args.sub)) c.in_ok-delta.ensures.is.is (sup_fails _ c.args.fonts.now c.args.style c.sup.result (field_content c.args.fonts.now c.args.sup) (field_content c.args.fonts.now c.args.sub) (row_between c.args.fonts.now (size_of c.args.style) c.in_ok-delta.ensures.is.box c.in_ok-delta.delta.sp) c.sup.ensures c.in_err-sup.ensures.is) })
 
-pub set_limits-set_script-requires : goal.set_limits-set_script-requires
-set_limits-set_script-requires t c = (omega (arith, c.decreases), c.requires.sup)
+pub set_under_limits-returns-in_err-sub : goal.set_under_limits-returns-in_err-sub
+set_under_limits-returns-in_err-sub t c =
+    let p = err_from_is_err_and c.from_residual-in_err-sub.result c.from_residual-in_err-sub.ensures.1 in rw (p.1, p.2) (record { is = first_made (SetFails _) (operator_box c.args.fonts.now c.args.style (field_content c.args.fonts.now c.args.nucleus)) (record { box = c.in_ok-delta.ensures.is.box; delta = c.in_ok-delta.delta.sp }) (λ o. row_with_limits c.args.fonts.now c.args.style o (field_content c.args.fonts.now c.args.sup) (field_content c.args.fonts.now c.args.sub)) c.in_ok-delta.ensures.is.is (sub_fails _ c.args.fonts.now c.args.style c.sup.result c.sub.result (field_content c.args.fonts.now c.args.sup) (field_content c.args.fonts.now c.args.sub) c.in_ok-sup.ensures.is.box (row_between c.args.fonts.now (size_of c.args.style) c.in_ok-delta.ensures.is.box c.in_ok-delta.delta.sp) c.sup.ensures c.sub.ensures c.in_ok-sup.ensures.is.is c.in_err-sub.ensures.is) })
 
-pub set_limits-set_script-requires-2 : goal.set_limits-set_script-requires-2
-set_limits-set_script-requires-2 t c = (omega (arith, c.decreases), c.requires.sub)
+pub set_under_limits-with_limits-requires : goal.set_under_limits-with_limits-requires
+set_under_limits-with_limits-requires t c = record { delta = c.in_ok-delta.ensures.is.small }
 
-pub set_limits-returns-in_err-upper-clause-is : goal.set_limits-returns-in_err-upper-clause-is
-set_limits-returns-in_err-upper-clause-is t c =
-    let p = err_from_is_err_and c.from_residual.result c.from_residual.ensures.1 in rw (p.1, p.2) (sup_fails _ c.args.fonts.now c.args.style c.sup.result (field_content c.args.fonts.now c.args.sup) (field_content c.args.fonts.now c.args.sub) (row_between c.args.fonts.now (size_of c.args.style) (layout_of c.args.operator.body) c.args.operator.delta.sp) c.sup.ensures c.in_err-upper.ensures.is)
+pub set_under_limits-returns : goal.set_under_limits-returns
+set_under_limits-returns t c = record {
+  is = let o = c.in_ok-delta.ensures.is in
+      let a = c.in_ok-sup.ensures.is in
+      let b = c.in_ok-sub.ensures.is in
+      let P = SetsAtomOn c.with_limits.result c.args.pieces.now c.with_limits.new.pieces in
+      first_made P (operator_box c.args.fonts.now c.args.style (field_content c.args.fonts.now c.args.nucleus)) (record { box = c.in_ok-delta.ensures.is.box; delta = c.in_ok-delta.delta.sp }) (λ o. row_with_limits c.args.fonts.now c.args.style o (field_content c.args.fonts.now c.args.sup) (field_content c.args.fonts.now c.args.sub)) o.is
+      (both_made P c.args.fonts.now c.args.style c.sup.result c.sub.result (field_content c.args.fonts.now c.args.sup) (field_content c.args.fonts.now c.args.sub) a.box b.box (row_between c.args.fonts.now (size_of c.args.style) c.in_ok-delta.ensures.is.box c.in_ok-delta.delta.sp) c.sup.ensures c.sub.ensures a.is b.is
+      (subst (λ s. P (row_between c.args.fonts.now s o.box c.in_ok-delta.delta.sp a.box b.box)) c.size.ensures
+      (c.with_limits.ensures.is c.args.pieces.now o.box a.box b.box (record { sup = a.known; sub = b.known }) (box_and_scripts c.args.pieces.now _ _ _ o.box a.box b.box o.stays a.stays b.stays))));
+}
 
-pub set_limits-returns-in_err-lower-clause-is : goal.set_limits-returns-in_err-lower-clause-is
-set_limits-returns-in_err-lower-clause-is t c =
-    let p = err_from_is_err_and c.from_residual-in_err-lower.result c.from_residual-in_err-lower.ensures.1 in rw (p.1, p.2) (sub_fails _ c.args.fonts.now c.args.style c.sup.result c.sub.result (field_content c.args.fonts.now c.args.sup) (field_content c.args.fonts.now c.args.sub) (option_map layout_of c.in_ok-upper.upper) (row_between c.args.fonts.now (size_of c.args.style) (layout_of c.args.operator.body) c.args.operator.delta.sp) c.sup.ensures c.sub.ensures c.in_ok-upper.ensures.is c.in_err-lower.ensures.is)
-
-pub set_limits-with_limits-requires-clause-above_level : goal.set_limits-with_limits-requires-clause-above_level
-set_limits-with_limits-requires-clause-above_level t c = omega (arith, c.in_ok-upper.ensures.level, c.requires.sup.nesting)
-
-pub set_limits-with_limits-requires-clause-below_level : goal.set_limits-with_limits-requires-clause-below_level
-set_limits-with_limits-requires-clause-below_level t c = omega (arith, c.in_ok-lower.ensures.level, c.requires.sub.nesting)
-
-pub set_limits-returns-clause-is : goal.set_limits-returns-clause-is
-set_limits-returns-clause-is t c = both_made (SetsRow c.with_limits.result) c.args.fonts.now c.args.style c.sup.result c.sub.result (field_content c.args.fonts.now c.args.sup) (field_content c.args.fonts.now c.args.sub) (option_map layout_of c.in_ok-upper.upper) (option_map layout_of c.in_ok-lower.lower) (row_between c.args.fonts.now (size_of c.args.style) (layout_of c.args.operator.body) c.args.operator.delta.sp) c.sup.ensures c.sub.ensures c.in_ok-upper.ensures.is c.in_ok-lower.ensures.is (subst (λ s. SetsRow c.with_limits.result (row_between c.args.fonts.now s (layout_of c.args.operator.body) c.args.operator.delta.sp (option_map layout_of c.in_ok-upper.upper) (option_map layout_of c.in_ok-lower.lower))) c.size.ensures c.with_limits.ensures.is)
-
-pub set_limits-with_limits-requires-clause-body_level : goal.set_limits-with_limits-requires-clause-body_level
-set_limits-with_limits-requires-clause-body_level t c = omega (arith, c.requires.level)
-
-pub set_limits-returns-clause-fits : goal.set_limits-returns-clause-fits
-set_limits-returns-clause-fits t c = if_ok_map c.with_limits.result _ (λ row. (n : ℕ) → c.args.operator.body.level ≤ n → ScriptLevels n (part_of_field c.args.sup) (part_of_field c.args.sub) → RowFits (n + 3) row) c.with_limits.ensures.fits (λ row f n h s. f n h (omega (arith, c.in_ok-upper.ensures.level, s.sup)) (omega (arith, c.in_ok-lower.ensures.level, s.sub)))
-
--- ---- `set_script`
-
-pub set_script-returns-then-is_empty-clause-is : goal.set_script-returns-then-is_empty-clause-is
-set_script-returns-then-is_empty-clause-is t c = no_script c.args.fonts.now c.args.style (part_of_field c.args.field) (sym c.is_empty.ensures ∙ c.if-is_empty.true)
+pub set_script-returns-then-is_empty : goal.set_script-returns-then-is_empty
+set_script-returns-then-is_empty t c = record { is = record { box = None; is = no_script c.args.fonts.now c.args.style (part_of_field c.args.field) (sym c.is_empty.ensures ∙ c.if-is_empty.true); known = refl; stays = nil_right c.args.pieces.now } }
 
 pub set_script-clean_field-requires : goal.set_script-clean_field-requires
 set_script-clean_field-requires t c = (omega (arith, c.decreases), c.requires.modest)
 
-pub set_script-returns-in_err-body-clause-is : goal.set_script-returns-in_err-body-clause-is
-set_script-returns-in_err-body-clause-is t c =
-    let p = err_from_is_err_and c.from_residual.result c.from_residual.ensures.1 in rw (p.1, p.2) (script_fails _ c.args.fonts.now c.args.style (part_of_field c.args.field) (sym c.is_empty.ensures ∙ c.if-is_empty.false) c.in_err-body.ensures.is)
+pub set_script-returns-in_err-clean_field : goal.set_script-returns-in_err-clean_field
+set_script-returns-in_err-clean_field t c =
+    let p = err_from_is_err_and c.from_residual.result c.from_residual.ensures.1 in rw (p.1, p.2) (record { is = script_fails _ c.args.fonts.now c.args.style (part_of_field c.args.field) (sym c.is_empty.ensures ∙ c.if-is_empty.false) c.in_err-clean_field.ensures.is })
 
-pub set_script-returns-clause-is : goal.set_script-returns-clause-is
-set_script-returns-clause-is t c = script_made c.args.fonts.now c.args.style (part_of_field c.args.field) (layout_of c.in_ok-body.body) (sym c.is_empty.ensures ∙ c.if-is_empty.false) c.in_ok-body.ensures.is
+pub set_script-returns : goal.set_script-returns
+set_script-returns t c = record {
+  is = let b = c.in_ok-clean_field.ensures.is in
+      record { box = Some b.box; is = script_made c.args.fonts.now c.args.style (part_of_field c.args.field) b.box (sym c.is_empty.ensures ∙ c.if-is_empty.false) b.is; known = refl; stays = b.stays };
+}
 
 -- ---- `clean_field`
 
 pub clean_field-returns-in-Sym : goal.clean_field-returns-in-Sym
-clean_field-returns-in-Sym t c = record { is = subst (SetsBox c.clean_symbol.result) (sym (clean_symbol_is c.args.fonts.now c.args.style (part_of_field c.args.field) c.in-Sym.symbol (ap part_of_field c.in-Sym.is))) c.clean_symbol.ensures.is; level = if_ok_map c.clean_symbol.result _ (λ b. b.level ≤ 12 * part_nesting (part_of_field c.args.field) + 1) c.clean_symbol.ensures.level (λ b h. omega (arith, h)) }
+clean_field-returns-in-Sym t c = record { is = subst (SetsBoxOn c.clean_symbol.result c.args.pieces.now c.clean_symbol.new.pieces) (sym (clean_symbol_is c.args.fonts.now c.args.style (part_of_field c.args.field) c.in-Sym.symbol (ap part_of_field c.in-Sym.is))) c.clean_symbol.ensures.is }
 
 pub clean_field-clean_list-requires : goal.clean_field-clean_list-requires
 clean_field-clean_list-requires t c =
@@ -602,42 +527,51 @@ clean_field-clean_list-requires t c =
     (omega (arith, s, c.decreases), list_of_part (part_of_field c.args.field) c.in-List.list e c.requires.modest)
 
 pub clean_field-returns-in-List : goal.clean_field-returns-in-List
-clean_field-returns-in-List t c = record { is = subst (SetsBox c.clean_list.result) (sym (clean_list_is c.args.fonts.now c.args.style (part_of_field c.args.field) c.in-List.list (ap part_of_field c.in-List.is))) c.clean_list.ensures.is; level = subst (λ p. IfOk c.clean_list.result (λ b. b.level ≤ 12 * part_nesting p + 1)) (sym (ap part_of_field c.in-List.is)) c.clean_list.ensures.level }
+clean_field-returns-in-List t c = record { is = subst (SetsBoxOn c.clean_list.result c.args.pieces.now c.clean_list.new.pieces) (sym (clean_list_is c.args.fonts.now c.args.style (part_of_field c.args.field) c.in-List.list (ap part_of_field c.in-List.is))) c.clean_list.ensures.is }
 
 pub clean_field-returns : goal.clean_field-returns
-clean_field-returns t c = record { is = subst (SetsBox c.empty_box.result) (sym (clean_empty_is c.args.fonts.now c.args.style (part_of_field c.args.field) (has_no_box c.args.field c.in_default.not-Sym c.in_default.not-List))) c.empty_box.ensures.is; level = if_ok_map c.empty_box.result _ (λ b. b.level ≤ 12 * part_nesting (part_of_field c.args.field) + 1) c.empty_box.ensures.level (λ b h. omega (arith, h)) }
+clean_field-returns t c = record { is = subst (SetsBoxOn c.empty_box.result c.args.pieces.now c.empty_box.new.pieces) (sym (clean_empty_is c.args.fonts.now c.args.style (part_of_field c.args.field) (has_no_box c.args.field c.in_default.not-Sym c.in_default.not-List))) c.empty_box.ensures.is }
 
--- ---- `clean_list`
-
-pub clean_list-set_list-requires : goal.clean_list-set_list-requires
-clean_list-set_list-requires t c = (omega (arith, c.decreases), c.requires.modest)
-
-pub clean_list-returns-in_err-row-clause-is : goal.clean_list-returns-in_err-row-clause-is
-clean_list-returns-in_err-row-clause-is t c =
-    let p = err_from_is_err_and c.from_residual.result c.from_residual.ensures.1 in rw (p.1, p.2) (list_fails _ c.args.fonts.now c.args.list c.args.style make_clean c.in_err-row.ensures.is)
-
-pub clean_list-cleaned-requires-clause-fits : goal.clean_list-cleaned-requires-clause-fits
-clean_list-cleaned-requires-clause-fits t c = row_fits_more (12 * list_nesting c.args.list) 4000 c.in_ok-row.row (omega (arith, c.requires.modest.nesting)) c.in_ok-row.ensures.fits
-
-pub clean_list-returns : goal.clean_list-returns
-clean_list-returns t c = record { is = list_made (SetsBox c.cleaned.result) c.args.fonts.now c.args.list c.args.style (piece_values c.in_ok-row.row) make_clean c.in_ok-row.ensures.is c.cleaned.ensures.is; level = if_ok_map c.cleaned.result _ (λ b. b.level ≤ 12 * list_nesting c.args.list + 1) c.cleaned.ensures.level (λ b f. f (12 * list_nesting c.args.list) c.in_ok-row.ensures.fits) }
-
--- ---- `set_radical`
+-- ---- parts round a nucleus
 
 pub set_radical-clean_field-requires : goal.set_radical-clean_field-requires
 set_radical-clean_field-requires t c = (omega (arith, c.decreases), c.requires.modest)
 
-pub set_radical-returns-in_err-body-clause-is : goal.set_radical-returns-in_err-body-clause-is
-set_radical-returns-in_err-body-clause-is t c =
-    let p = err_from_is_err_and c.from_residual.result c.from_residual.ensures.1 in rw (p.1, p.2) (fails_then _ (clean_field c.args.fonts.now (cramped_of c.args.style) (field_content c.args.fonts.now c.args.field)) (λ b. Radicals.radical c.args.fonts.now c.args.style c.args.sign b) (subst (λ t. SetFails c.in_err-body.field-0.0 (clean_field c.args.fonts.now t (field_content c.args.fonts.now c.args.field))) c.cramped.ensures c.in_err-body.ensures.is))
-
-pub set_radical-radical-requires : goal.set_radical-radical-requires
-set_radical-radical-requires t c = omega (arith, c.in_ok-body.ensures.level, c.requires.modest.nesting)
+pub set_radical-returns-in_err-clean_field : goal.set_radical-returns-in_err-clean_field
+set_radical-returns-in_err-clean_field t c =
+    let p = err_from_is_err_and c.from_residual.result c.from_residual.ensures.1 in rw (p.1, p.2) (record { is = fails_then _ (clean_field c.args.fonts.now (cramped_of c.args.style) (field_content c.args.fonts.now c.args.field)) (Radicals.radical c.args.fonts.now c.args.style c.args.sign) (subst (λ t. SetFails c.in_err-clean_field.field-0.0 (clean_field c.args.fonts.now t (field_content c.args.fonts.now c.args.field))) c.cramped.ensures c.in_err-clean_field.ensures.is) })
 
 pub set_radical-returns : goal.set_radical-returns
-set_radical-returns t c = record { is = first_made (SetsBox c.radical.result) (clean_field c.args.fonts.now (cramped_of c.args.style) (field_content c.args.fonts.now c.args.field)) (layout_of c.in_ok-body.body) (λ b. Radicals.radical c.args.fonts.now c.args.style c.args.sign b) (ap (λ t. clean_field c.args.fonts.now t (field_content c.args.fonts.now c.args.field)) (sym c.cramped.ensures) ∙ c.in_ok-body.ensures.is) c.radical.ensures.is; level = if_ok_map c.radical.result _ (λ b. b.level ≤ 12 * part_nesting (part_of_field c.args.field) + 3) c.radical.ensures.level (λ b h. omega (arith, h, c.in_ok-body.ensures.level)) }
+set_radical-returns t c = record {
+  is = let b = c.in_ok-clean_field.ensures.is in
+      first_made (SetsBoxOn c.radical.result c.args.pieces.now c.radical.new.pieces) (clean_field c.args.fonts.now (cramped_of c.args.style) (field_content c.args.fonts.now c.args.field)) b.box (Radicals.radical c.args.fonts.now c.args.style c.args.sign) (ap (λ t. clean_field c.args.fonts.now t (field_content c.args.fonts.now c.args.field)) (sym c.cramped.ensures) ∙ b.is) (c.radical.ensures c.args.pieces.now b.box b.stays);
+}
 
--- ---- `set_root`
+pub set_overline-clean_field-requires : goal.set_overline-clean_field-requires
+set_overline-clean_field-requires t c = (omega (arith, c.decreases), c.requires.modest)
+
+pub set_overline-returns-in_err-clean_field : goal.set_overline-returns-in_err-clean_field
+set_overline-returns-in_err-clean_field t c =
+    let p = err_from_is_err_and c.from_residual.result c.from_residual.ensures.1 in rw (p.1, p.2) (record { is = fails_then _ (clean_field c.args.fonts.now (cramped_of c.args.style) (field_content c.args.fonts.now c.args.field)) (Lines.overline c.args.fonts.now (size_of c.args.style)) (subst (λ t. SetFails c.in_err-clean_field.field-0.0 (clean_field c.args.fonts.now t (field_content c.args.fonts.now c.args.field))) c.cramped.ensures c.in_err-clean_field.ensures.is) })
+
+pub set_overline-returns : goal.set_overline-returns
+set_overline-returns t c = record {
+  is = let b = c.in_ok-clean_field.ensures.is in
+      first_made (SetsBoxOn c.overline.result c.args.pieces.now c.overline.new.pieces) (clean_field c.args.fonts.now (cramped_of c.args.style) (field_content c.args.fonts.now c.args.field)) b.box (Lines.overline c.args.fonts.now (size_of c.args.style)) (ap (λ t. clean_field c.args.fonts.now t (field_content c.args.fonts.now c.args.field)) (sym c.cramped.ensures) ∙ b.is) (subst (λ s. SetsBoxOn c.overline.result c.args.pieces.now c.overline.new.pieces (Lines.overline c.args.fonts.now s b.box)) c.size.ensures (c.overline.ensures c.args.pieces.now b.box b.stays));
+}
+
+pub set_underline-clean_field-requires : goal.set_underline-clean_field-requires
+set_underline-clean_field-requires t c = (omega (arith, c.decreases), c.requires.modest)
+
+pub set_underline-returns-in_err-clean_field : goal.set_underline-returns-in_err-clean_field
+set_underline-returns-in_err-clean_field t c =
+    let p = err_from_is_err_and c.from_residual.result c.from_residual.ensures.1 in rw (p.1, p.2) (record { is = fails_then _ (clean_field c.args.fonts.now c.args.style (field_content c.args.fonts.now c.args.field)) (Lines.underline c.args.fonts.now (size_of c.args.style)) c.in_err-clean_field.ensures.is })
+
+pub set_underline-returns : goal.set_underline-returns
+set_underline-returns t c = record {
+  is = let b = c.in_ok-clean_field.ensures.is in
+      first_made (SetsBoxOn c.underline.result c.args.pieces.now c.underline.new.pieces) (clean_field c.args.fonts.now c.args.style (field_content c.args.fonts.now c.args.field)) b.box (Lines.underline c.args.fonts.now (size_of c.args.style)) b.is (subst (λ s. SetsBoxOn c.underline.result c.args.pieces.now c.underline.new.pieces (Lines.underline c.args.fonts.now s b.box)) c.size.ensures (c.underline.ensures c.args.pieces.now b.box b.stays));
+}
 
 pub set_root-pack_field-requires : goal.set_root-pack_field-requires
 set_root-pack_field-requires t c =
@@ -645,12 +579,10 @@ set_root-pack_field-requires t c =
     let s = ap part_size e in
     (omega (arith, s, c.decreases), degree_of_part (part_of_field c.args.nucleus) c.root.inside.degree (part_of_field c.root.inside.body) e c.requires.modest)
 
-pub set_root-returns-in_err-degree-clause-is : goal.set_root-returns-in_err-degree-clause-is
-set_root-returns-in_err-degree-clause-is t c =
+pub set_root-returns-in_err-pack_field : goal.set_root-returns-in_err-pack_field
+set_root-returns-in_err-pack_field t c =
     let e = ap part_of_field c.in-Root.is ∙ ap (λ r. RootPart r.degree r.body) (sym c.into_inner-root.ensures ∙ sym c.root.view_is) in
-    let p = err_from_is_err_and c.from_residual.result c.from_residual.ensures.1 in
-    rw (p.1, p.2) (λ sup sub. of_root (SetFails c.in_err-degree.field-0.0) c.args.fonts.now c.args.style c.args.sign (part_of_field c.args.nucleus) c.root.inside.degree (part_of_field c.root.inside.body) sup sub e
-    (degree_fails _ c.args.fonts.now c.args.style c.args.sign (list_content c.args.fonts.now c.root.inside.degree) (field_content c.args.fonts.now c.root.inside.body) c.in_err-degree.ensures.is))
+    let p = err_from_is_err_and c.from_residual.result c.from_residual.ensures.1 in rw (p.1, p.2) (record { is = λ sup sub. of_root (SetFails _) c.args.fonts.now c.args.style c.args.sign (part_of_field c.args.nucleus) c.root.inside.degree (part_of_field c.root.inside.body) sup sub e (degree_fails _ c.args.fonts.now c.args.style c.args.sign (list_content c.args.fonts.now c.root.inside.degree) (field_content c.args.fonts.now c.root.inside.body) c.in_err-pack_field.ensures.is) })
 
 pub set_root-set_radical-requires : goal.set_root-set_radical-requires
 set_root-set_radical-requires t c =
@@ -658,136 +590,119 @@ set_root-set_radical-requires t c =
     let s = ap part_size e in
     (omega (arith, s, c.decreases), body_of_part (part_of_field c.args.nucleus) c.root.inside.degree (part_of_field c.root.inside.body) e c.requires.modest)
 
-pub set_root-returns-in_err-radical-clause-is : goal.set_root-returns-in_err-radical-clause-is
-set_root-returns-in_err-radical-clause-is t c =
+pub set_root-returns-in_err-set_radical : goal.set_root-returns-in_err-set_radical
+set_root-returns-in_err-set_radical t c =
     let e = ap part_of_field c.in-Root.is ∙ ap (λ r. RootPart r.degree r.body) (sym c.into_inner-root.ensures ∙ sym c.root.view_is) in
-    let p = err_from_is_err_and c.from_residual-in_err-radical.result c.from_residual-in_err-radical.ensures.1 in
-    rw (p.1, p.2) (λ sup sub. of_root (SetFails c.in_err-radical.field-0.0) c.args.fonts.now c.args.style c.args.sign (part_of_field c.args.nucleus) c.root.inside.degree (part_of_field c.root.inside.body) sup sub e
-    (body_fails _ c.args.fonts.now c.args.style c.uncramped.result c.args.sign (list_content c.args.fonts.now c.root.inside.degree) (field_content c.args.fonts.now c.root.inside.body) (layout_of c.in_ok-degree.degree) c.uncramped.ensures c.in_ok-degree.ensures.is c.in_err-radical.ensures.is))
+    let p = err_from_is_err_and c.from_residual-in_err-set_radical.result c.from_residual-in_err-set_radical.ensures.1 in rw (p.1, p.2) (record { is = λ sup sub. of_root (SetFails _) c.args.fonts.now c.args.style c.args.sign (part_of_field c.args.nucleus) c.root.inside.degree (part_of_field c.root.inside.body) sup sub e (body_fails _ c.args.fonts.now c.args.style c.uncramped.result c.args.sign (list_content c.args.fonts.now c.root.inside.degree) (field_content c.args.fonts.now c.root.inside.body) c.in_ok-pack_field.ensures.is.box c.uncramped.ensures c.in_ok-pack_field.ensures.is.is c.in_err-set_radical.ensures.is) })
 
-pub set_root-with_degree-requires-clause-degree_level : goal.set_root-with_degree-requires-clause-degree_level
-set_root-with_degree-requires-clause-degree_level t c =
-    let e = ap part_of_field c.in-Root.is ∙ ap (λ r. RootPart r.degree r.body) (sym c.into_inner-root.ensures ∙ sym c.root.view_is) in
-    omega (arith, ap part_nesting e, c.in_ok-degree.ensures.level, c.requires.modest.nesting)
+pub set_root-returns : goal.set_root-returns
+set_root-returns t c = record {
+  is = λ sup sub.
+      let e = ap part_of_field c.in-Root.is ∙ ap (λ r. RootPart r.degree r.body) (sym c.into_inner-root.ensures ∙ sym c.root.view_is) in
+      let d = c.in_ok-pack_field.ensures.is in
+      let r = c.in_ok-set_radical.ensures.is in
+      let P = SetsAtomOn c.with_degree.result c.args.pieces.now c.with_degree.new.pieces in
+      of_root P c.args.fonts.now c.args.style c.args.sign (part_of_field c.args.nucleus) c.root.inside.degree (part_of_field c.root.inside.body) sup sub e (root_made P c.args.fonts.now c.args.style c.uncramped.result c.args.sign (list_content c.args.fonts.now c.root.inside.degree) (field_content c.args.fonts.now c.root.inside.body) d.box r.box c.uncramped.ensures d.is r.is (c.with_degree.ensures c.args.pieces.now d.box r.box (sym c.len-first.ensures) (two_boxes c.args.pieces.now _ _ d.box r.box d.stays r.stays)));
+}
 
-pub set_root-with_degree-requires-clause-radical_level : goal.set_root-with_degree-requires-clause-radical_level
-set_root-with_degree-requires-clause-radical_level t c =
-    let e = ap part_of_field c.in-Root.is ∙ ap (λ r. RootPart r.degree r.body) (sym c.into_inner-root.ensures ∙ sym c.root.view_is) in
-    omega (arith, ap part_nesting e, c.in_ok-radical.ensures.level, c.requires.modest.nesting)
+pub set_root-with_degree-requires : goal.set_root-with_degree-requires
+set_root-with_degree-requires t c =
+    let d = c.in_ok-pack_field.ensures.is in
+    let r = c.in_ok-set_radical.ensures.is in
+    record { before = c.args.pieces.now; one = d.box; two = r.box; at = sym c.len-first.ensures; is = two_boxes c.args.pieces.now _ _ d.box r.box d.stays r.stays }
 
-pub set_root-returns-clause-is : goal.set_root-returns-clause-is
-set_root-returns-clause-is t c =
-    let e = ap part_of_field c.in-Root.is ∙ ap (λ r. RootPart r.degree r.body) (sym c.into_inner-root.ensures ∙ sym c.root.view_is) in
-    λ sup sub. of_root (SetsRow c.with_degree.result) c.args.fonts.now c.args.style c.args.sign (part_of_field c.args.nucleus) c.root.inside.degree (part_of_field c.root.inside.body) sup sub e
-    (root_made (SetsRow c.with_degree.result) c.args.fonts.now c.args.style c.uncramped.result c.args.sign (list_content c.args.fonts.now c.root.inside.degree) (field_content c.args.fonts.now c.root.inside.body) (layout_of c.in_ok-degree.degree) (layout_of c.in_ok-radical.radical) c.uncramped.ensures c.in_ok-degree.ensures.is c.in_ok-radical.ensures.is c.with_degree.ensures.is)
-
-pub set_root-returns-clause-fits : goal.set_root-returns-clause-fits
-set_root-returns-clause-fits t c =
-    let e = ap part_of_field c.in-Root.is ∙ ap (λ r. RootPart r.degree r.body) (sym c.into_inner-root.ensures ∙ sym c.root.view_is) in
-    let n = ap part_nesting e in
-    if_ok_map c.with_degree.result _ (RowFits (12 * part_nesting (part_of_field c.args.nucleus) + 4)) c.with_degree.ensures.fits
-    (λ row f. f (12 * part_nesting (part_of_field c.args.nucleus) + 4) (omega (arith, n, c.in_ok-degree.ensures.level)) (omega (arith, n, c.in_ok-radical.ensures.level)))
-
--- ---- `set_overline`
-
-pub set_overline-clean_field-requires : goal.set_overline-clean_field-requires
-set_overline-clean_field-requires t c = (omega (arith, c.decreases), c.requires.modest)
-
-pub set_overline-returns-in_err-body-clause-is : goal.set_overline-returns-in_err-body-clause-is
-set_overline-returns-in_err-body-clause-is t c =
-    let p = err_from_is_err_and c.from_residual.result c.from_residual.ensures.1 in rw (p.1, p.2) (fails_then _ (clean_field c.args.fonts.now (cramped_of c.args.style) (field_content c.args.fonts.now c.args.field)) (λ b. Lines.overline c.args.fonts.now (size_of c.args.style) b) (subst (λ t. SetFails c.in_err-body.field-0.0 (clean_field c.args.fonts.now t (field_content c.args.fonts.now c.args.field))) c.cramped.ensures c.in_err-body.ensures.is))
-
-pub set_overline-overline-requires : goal.set_overline-overline-requires
-set_overline-overline-requires t c = omega (arith, c.in_ok-body.ensures.level, c.requires.modest.nesting)
-
-pub set_overline-returns : goal.set_overline-returns
-set_overline-returns t c = record { is = first_made (SetsBox c.overline.result) (clean_field c.args.fonts.now (cramped_of c.args.style) (field_content c.args.fonts.now c.args.field)) (layout_of c.in_ok-body.body) (λ b. Lines.overline c.args.fonts.now (size_of c.args.style) b) (ap (λ t. clean_field c.args.fonts.now t (field_content c.args.fonts.now c.args.field)) (sym c.cramped.ensures) ∙ c.in_ok-body.ensures.is) (subst (λ t. SetsBox c.overline.result (Lines.overline c.args.fonts.now t (layout_of c.in_ok-body.body))) c.size.ensures c.overline.ensures.is); level = if_ok_map c.overline.result _ (λ b. b.level ≤ 12 * part_nesting (part_of_field c.args.field) + 3) c.overline.ensures.level (λ b h. omega (arith, h, c.in_ok-body.ensures.level)) }
-
--- ---- `set_underline`
-
-pub set_underline-clean_field-requires : goal.set_underline-clean_field-requires
-set_underline-clean_field-requires t c = (omega (arith, c.decreases), c.requires.modest)
-
-pub set_underline-returns-in_err-body-clause-is : goal.set_underline-returns-in_err-body-clause-is
-set_underline-returns-in_err-body-clause-is t c =
-    let p = err_from_is_err_and c.from_residual.result c.from_residual.ensures.1 in rw (p.1, p.2) (fails_then _ (clean_field c.args.fonts.now c.args.style (field_content c.args.fonts.now c.args.field)) (λ b. Lines.underline c.args.fonts.now (size_of c.args.style) b) c.in_err-body.ensures.is)
-
-pub set_underline-underline-requires : goal.set_underline-underline-requires
-set_underline-underline-requires t c = omega (arith, c.in_ok-body.ensures.level, c.requires.modest.nesting)
-
-pub set_underline-returns : goal.set_underline-returns
-set_underline-returns t c = record { is = first_made (SetsBox c.underline.result) (clean_field c.args.fonts.now c.args.style (field_content c.args.fonts.now c.args.field)) (layout_of c.in_ok-body.body) (λ b. Lines.underline c.args.fonts.now (size_of c.args.style) b) c.in_ok-body.ensures.is (subst (λ t. SetsBox c.underline.result (Lines.underline c.args.fonts.now t (layout_of c.in_ok-body.body))) c.size.ensures c.underline.ensures.is); level = if_ok_map c.underline.result _ (λ b. b.level ≤ 12 * part_nesting (part_of_field c.args.field) + 3) c.underline.ensures.level (λ b h. omega (arith, h, c.in_ok-body.ensures.level)) }
+pub set_root-unreachable-requires : goal.set_root-unreachable-requires
+set_root-unreachable-requires t c = no_degree c.args.nucleus c.in_default.not-Root c.requires.degree
 
 -- ---- `set_accent`
 
-pub set_accent-returns-in_err-number-clause-is : goal.set_accent-returns-in_err-number-clause-is
-set_accent-returns-in_err-number-clause-is t c =
-    let p = err_from_is_err_and c.from_residual.result c.from_residual.ensures.1 in rw (p.1, p.2) (finding_fails _ c.args.fonts.now c.args.style c.size.result c.args.symbol (field_content c.args.fonts.now c.args.field) c.size.ensures c.in_err-number.ensures.is)
+pub set_accent-returns-in_err-find_symbol : goal.set_accent-returns-in_err-find_symbol
+set_accent-returns-in_err-find_symbol t c =
+    let p = err_from_is_err_and c.from_residual.result c.from_residual.ensures.1 in rw (p.1, p.2) (record { is = finding_fails _ c.args.fonts.now c.args.style c.size.result c.args.symbol (field_content c.args.fonts.now c.args.field) c.size.ensures c.in_err-find_symbol.ensures.is })
 
 pub set_accent-clean_field-requires : goal.set_accent-clean_field-requires
 set_accent-clean_field-requires t c = (omega (arith, c.decreases), c.requires.modest)
 
-pub set_accent-returns-in_err-plain-clause-is : goal.set_accent-returns-in_err-plain-clause-is
-set_accent-returns-in_err-plain-clause-is t c =
-    let p = err_from_is_err_and c.from_residual-in_err-plain.result c.from_residual-in_err-plain.ensures.1 in rw (p.1, p.2) (plain_fails _ c.args.fonts.now c.args.style c.cramped.result c.size.result c.args.symbol (field_content c.args.fonts.now c.args.field) c.in_ok-number.number c.size.ensures c.cramped.ensures c.in_ok-number.ensures.is c.in_err-plain.ensures.is)
+pub set_accent-returns-in_err-clean_field : goal.set_accent-returns-in_err-clean_field
+set_accent-returns-in_err-clean_field t c =
+    let p = err_from_is_err_and c.from_residual-in_err-clean_field.result c.from_residual-in_err-clean_field.ensures.1 in rw (p.1, p.2) (record { is = plain_fails _ c.args.fonts.now c.args.style c.cramped.result c.size.result c.args.symbol (field_content c.args.fonts.now c.args.field) c.in_ok-find_symbol.field-0 c.size.ensures c.cramped.ensures c.in_ok-find_symbol.ensures.is c.in_err-clean_field.ensures.is })
 
 pub set_accent-accent-requires-clause-found : goal.set_accent-accent-requires-clause-found
-set_accent-accent-requires-clause-found t c = ap (λ t. find_symbol c.args.fonts.now t c.args.symbol) (c.size-3.ensures ∙ sym c.size.ensures) ∙ c.in_ok-number.ensures.is
-
-pub set_accent-accent-requires-clause-level : goal.set_accent-accent-requires-clause-level
-set_accent-accent-requires-clause-level t c = omega (arith, c.in_ok-plain.ensures.level, c.requires.modest.nesting)
+set_accent-accent-requires-clause-found t c = found c.args.fonts.now c.size.result c.size-3.result c.args.symbol c.in_ok-find_symbol.field-0 (c.size.ensures ∙ sym c.size-3.ensures) c.in_ok-find_symbol.ensures.is
 
 pub set_accent-returns : goal.set_accent-returns
-set_accent-returns t c = record { is = accent_part_made (SetsBox c.accent.result) c.args.fonts.now c.args.style c.cramped.result c.size.result c.size-2.result c.args.symbol (field_content c.args.fonts.now c.args.field) c.in_ok-number.number c.in_ok-plain.plain c.field_skew-skew.result.sp c.extents-extents.result c.size.ensures c.size-2.ensures c.cramped.ensures c.in_ok-number.ensures.is c.in_ok-plain.ensures.is c.field_skew-skew.ensures.is c.extents-extents.ensures.is c.accent.ensures.is; level = if_ok_map c.accent.result _ (λ b. b.level ≤ 12 * part_nesting (part_of_field c.args.field) + 3) c.accent.ensures.level (λ b h. omega (arith, h, c.in_ok-plain.ensures.level)) }
+set_accent-returns t c = record {
+  is = let b = c.in_ok-clean_field.ensures.is in
+      let k = c.in_ok-find_symbol.field-0 in
+      accent_part_made (SetsBoxOn c.accent.result c.args.pieces.now c.accent.new.pieces) c.args.fonts.now c.args.style c.cramped.result c.size.result c.size-2.result c.args.symbol (field_content c.args.fonts.now c.args.field) k b.box c.field_skew-skew.result.sp c.last_extents-plain.result c.size.ensures c.size-2.ensures c.cramped.ensures c.in_ok-find_symbol.ensures.is b.is c.field_skew-skew.ensures.is (c.last_extents-plain.ensures.is c.args.pieces.now (pos 0) b.box b.stays)
+      (c.accent.ensures k (ap (λ s. find_symbol c.args.fonts.now s c.args.symbol) (c.size-3.ensures ∙ sym c.size.ensures) ∙ c.in_ok-find_symbol.ensures.is) c.args.pieces.now b.box b.stays);
+}
 
--- ---- `set_accent_inside`
+-- ---- `set_accent_inside` and `set_symbol`
 
-pub set_accent_inside-returns-in_err-number-clause-is : goal.set_accent_inside-returns-in_err-number-clause-is
-set_accent_inside-returns-in_err-number-clause-is t c =
-    let p = err_from_is_err_and c.from_residual.result c.from_residual.ensures.1 in rw (p.1, p.2) (inside_finding_fails _ c.args.fonts.now c.args.style c.size.result c.args.accent_symbol c.args.symbol (field_content c.args.fonts.now c.args.sup) (field_content c.args.fonts.now c.args.sub) c.size.ensures c.in_err-number.ensures.is)
+pub set_accent_inside-returns-in_err-find_symbol : goal.set_accent_inside-returns-in_err-find_symbol
+set_accent_inside-returns-in_err-find_symbol t c =
+    let p = err_from_is_err_and c.from_residual.result c.from_residual.ensures.1 in rw (p.1, p.2) (record { is = inside_finding_fails _ c.args.fonts.now c.args.style c.size.result c.args.accent_symbol c.args.symbol (field_content c.args.fonts.now c.args.sup) (field_content c.args.fonts.now c.args.sub) c.size.ensures c.in_err-find_symbol.ensures.is })
 
-pub set_accent_inside-returns-in_err-clean_symbol-clause-is : goal.set_accent_inside-returns-in_err-clean_symbol-clause-is
-set_accent_inside-returns-in_err-clean_symbol-clause-is t c =
-    let p = err_from_is_err_and c.from_residual-in_err-clean_symbol.result c.from_residual-in_err-clean_symbol.ensures.1 in rw (p.1, p.2) (inside_plain_fails _ c.args.fonts.now c.args.style c.cramped.result c.size.result c.args.accent_symbol c.args.symbol (field_content c.args.fonts.now c.args.sup) (field_content c.args.fonts.now c.args.sub) c.in_ok-number.number c.size.ensures c.cramped.ensures c.in_ok-number.ensures.is c.in_err-clean_symbol.ensures.is)
+pub set_accent_inside-returns-in_err-plain : goal.set_accent_inside-returns-in_err-plain
+set_accent_inside-returns-in_err-plain t c =
+    let p = err_from_is_err_and c.from_residual-in_err-plain.result c.from_residual-in_err-plain.ensures.1 in rw (p.1, p.2) (record { is = inside_plain_fails _ c.args.fonts.now c.args.style c.cramped.result c.size.result c.args.accent_symbol c.args.symbol (field_content c.args.fonts.now c.args.sup) (field_content c.args.fonts.now c.args.sub) c.in_ok-find_symbol.field-0 c.size.ensures c.cramped.ensures c.in_ok-find_symbol.ensures.is c.in_err-plain.ensures.is })
 
-pub set_accent_inside-returns-in_err-nucleus-clause-is : goal.set_accent_inside-returns-in_err-nucleus-clause-is
-set_accent_inside-returns-in_err-nucleus-clause-is t c =
-    let p = err_from_is_err_and c.from_residual-in_err-nucleus.result c.from_residual-in_err-nucleus.ensures.1 in rw (p.1, p.2) (inside_nucleus_fails _ c.args.fonts.now c.args.style c.cramped.result c.size.result c.args.accent_symbol c.args.symbol (not c.is_empty-has_subscript.result) (field_content c.args.fonts.now c.args.sup) (field_content c.args.fonts.now c.args.sub) c.in_ok-number.number (layout_of c.in_ok-clean_symbol.field-0) (record { cramped_is = c.cramped.ensures; size_is = c.size.ensures; subscript = ap not (c.is_empty-has_subscript.ensures ∙ sym (same_empty c.args.fonts.now (part_of_field c.args.sub))) }) c.in_ok-number.ensures.is c.in_ok-clean_symbol.ensures.is c.in_err-nucleus.ensures.is)
+pub set_accent_inside-set_symbol-requires : goal.set_accent_inside-set_symbol-requires
+set_accent_inside-set_symbol-requires t c = (omega (arith, c.decreases), (c.requires.sup, c.requires.sub))
 
-pub set_accent_inside-set_scripts-requires : goal.set_accent_inside-set_scripts-requires
-set_accent_inside-set_scripts-requires t c = (omega (arith, c.decreases), (nucleus_fits_more 0 3990 c.in_ok-nucleus.nucleus (omega arith) c.in_ok-nucleus.ensures.fits, (c.requires.sup, c.requires.sub)))
-
-pub set_accent_inside-returns-in_err-row-clause-is : goal.set_accent_inside-returns-in_err-row-clause-is
-set_accent_inside-returns-in_err-row-clause-is t c =
-    let p = err_from_is_err_and c.from_residual-in_err-row.result c.from_residual-in_err-row.ensures.1 in rw (p.1, p.2) (inside_row_fails _ c.args.fonts.now c.args.style c.cramped.result c.size.result c.args.accent_symbol c.args.symbol (not c.is_empty-has_subscript.result) (field_content c.args.fonts.now c.args.sup) (field_content c.args.fonts.now c.args.sub) c.in_ok-number.number (layout_of c.in_ok-clean_symbol.field-0) (nucleus_value c.in_ok-nucleus.nucleus) (record { cramped_is = c.cramped.ensures; size_is = c.size.ensures; subscript = ap not (c.is_empty-has_subscript.ensures ∙ sym (same_empty c.args.fonts.now (part_of_field c.args.sub))) }) c.in_ok-number.ensures.is c.in_ok-clean_symbol.ensures.is c.in_ok-nucleus.ensures.is c.in_err-row.ensures.is)
-
-pub set_accent_inside-packed-requires-clause-few : goal.set_accent_inside-packed-requires-clause-few
-set_accent_inside-packed-requires-clause-few t c = omega (arith, c.in_ok-row.ensures.few)
-
-pub set_accent_inside-packed-requires-clause-fits : goal.set_accent_inside-packed-requires-clause-fits
-set_accent_inside-packed-requires-clause-fits t c = row_fits_more 3992 4000 c.in_ok-row.row (omega arith) (c.in_ok-row.ensures.fits 3990 (row_fits_more 0 3990 c.in_ok-nucleus.nucleus.row (omega arith) c.in_ok-nucleus.ensures.fits.fits) (record { sup = omega (arith, c.requires.sup.nesting); sub = omega (arith, c.requires.sub.nesting) }))
-
-pub set_accent_inside-returns-in_err-body-clause-is : goal.set_accent_inside-returns-in_err-body-clause-is
-set_accent_inside-returns-in_err-body-clause-is t c =
-    let p = err_from_is_err_and c.from_residual-in_err-body.result c.from_residual-in_err-body.ensures.1 in rw (p.1, p.2) (inside_row_here (SetFails c.in_err-body.field-0.0) c.args.fonts.now c.args.style c.cramped.result c.size.result c.args.accent_symbol c.args.symbol (not c.is_empty-has_subscript.result) (field_content c.args.fonts.now c.args.sup) (field_content c.args.fonts.now c.args.sub) c.in_ok-number.number (layout_of c.in_ok-clean_symbol.field-0) (nucleus_value c.in_ok-nucleus.nucleus) (piece_values c.in_ok-row.row) (record { cramped_is = c.cramped.ensures; size_is = c.size.ensures; subscript = ap not (c.is_empty-has_subscript.ensures ∙ sym (same_empty c.args.fonts.now (part_of_field c.args.sub))) }) c.in_ok-number.ensures.is c.in_ok-clean_symbol.ensures.is c.in_ok-nucleus.ensures.is c.in_ok-row.ensures.is (row_packing_fails _ c.args.fonts.now c.args.style c.args.accent_symbol c.args.symbol c.in_ok-number.number (layout_of c.in_ok-clean_symbol.field-0) (piece_values c.in_ok-row.row) c.in_err-body.ensures.is))
+pub set_accent_inside-returns-in_err-set_symbol : goal.set_accent_inside-returns-in_err-set_symbol
+set_accent_inside-returns-in_err-set_symbol t c =
+    let p = err_from_is_err_and c.from_residual-in_err-set_symbol.result c.from_residual-in_err-set_symbol.ensures.1 in rw (p.1, p.2) (record { is = inside_body_fails _ c.args.fonts.now c.args.style c.cramped.result c.size.result c.args.accent_symbol c.args.symbol (field_content c.args.fonts.now c.args.sup) (field_content c.args.fonts.now c.args.sub) c.in_ok-find_symbol.field-0 c.in_ok-plain.ensures.is.box c.size.ensures c.cramped.ensures c.in_ok-find_symbol.ensures.is c.in_ok-plain.ensures.is.is c.in_err-set_symbol.ensures.is })
 
 pub set_accent_inside-accent-requires-clause-found : goal.set_accent_inside-accent-requires-clause-found
-set_accent_inside-accent-requires-clause-found t c = ap (λ t. find_symbol c.args.fonts.now t c.args.accent_symbol) (c.size-3.ensures ∙ sym c.size.ensures) ∙ c.in_ok-number.ensures.is
+set_accent_inside-accent-requires-clause-found t c = found c.args.fonts.now c.size.result c.size-3.result c.args.accent_symbol c.in_ok-find_symbol.field-0 (c.size.ensures ∙ sym c.size-3.ensures) c.in_ok-find_symbol.ensures.is
 
-pub set_accent_inside-accent-requires-clause-level : goal.set_accent_inside-accent-requires-clause-level
-set_accent_inside-accent-requires-clause-level t c = omega (arith, c.in_ok-body.ensures.level 3992 (c.in_ok-row.ensures.fits 3990 (row_fits_more 0 3990 c.in_ok-nucleus.nucleus.row (omega arith) c.in_ok-nucleus.ensures.fits.fits) (record { sup = omega (arith, c.requires.sup.nesting); sub = omega (arith, c.requires.sub.nesting) })))
+pub set_accent_inside-returns-in_err-accent : goal.set_accent_inside-returns-in_err-accent
+set_accent_inside-returns-in_err-accent t c =
+    let p = err_from_is_err_and c.from_residual-in_err-accent.result c.from_residual-in_err-accent.ensures.1 in rw (p.1, p.2) (record { is = inside_accent_fails _ c.args.fonts.now c.args.style c.cramped.result c.size.result c.args.accent_symbol c.args.symbol (field_content c.args.fonts.now c.args.sup) (field_content c.args.fonts.now c.args.sub) c.in_ok-find_symbol.field-0 c.in_ok-plain.ensures.is.box c.size.ensures c.cramped.ensures c.in_ok-find_symbol.ensures.is c.in_ok-plain.ensures.is.is c.in_ok-set_symbol.ensures.is.box c.in_ok-set_symbol.ensures.is.is (accent_given c.args.fonts.now c.args.style c.size-2.result c.args.accent_symbol c.args.symbol c.in_ok-find_symbol.field-0 c.in_ok-plain.ensures.is.box c.in_ok-set_symbol.ensures.is.box c.skew_of-skew.result.sp c.in_ok-plain.plain (SetFails _) c.size-2.ensures c.skew_of-skew.ensures.is c.in_ok-plain.ensures.is.same (c.in_err-accent.ensures c.in_ok-find_symbol.field-0 (ap (λ s. find_symbol c.args.fonts.now s c.args.accent_symbol) (c.size-3.ensures ∙ sym c.size.ensures) ∙ c.in_ok-find_symbol.ensures.is) c.args.pieces.now c.in_ok-set_symbol.ensures.is.box (subst (λ ps. c.set_symbol.new.pieces ≡ ps ++ PieceBox (pos 0) c.in_ok-set_symbol.ensures.is.box ∷ []) c.in_ok-plain.ensures.others c.in_ok-set_symbol.ensures.is.stays))) })
 
-pub set_accent_inside-returns-in_err-whole-clause-is : goal.set_accent_inside-returns-in_err-whole-clause-is
-set_accent_inside-returns-in_err-whole-clause-is t c =
-    let p = err_from_is_err_and c.from_residual-in_err-whole.result c.from_residual-in_err-whole.ensures.1 in rw (p.1, p.2) (inside_row_here (SetFails c.in_err-whole.field-0.0) c.args.fonts.now c.args.style c.cramped.result c.size.result c.args.accent_symbol c.args.symbol (not c.is_empty-has_subscript.result) (field_content c.args.fonts.now c.args.sup) (field_content c.args.fonts.now c.args.sub) c.in_ok-number.number (layout_of c.in_ok-clean_symbol.field-0) (nucleus_value c.in_ok-nucleus.nucleus) (piece_values c.in_ok-row.row) (record { cramped_is = c.cramped.ensures; size_is = c.size.ensures; subscript = ap not (c.is_empty-has_subscript.ensures ∙ sym (same_empty c.args.fonts.now (part_of_field c.args.sub))) }) c.in_ok-number.ensures.is c.in_ok-clean_symbol.ensures.is c.in_ok-nucleus.ensures.is c.in_ok-row.ensures.is (over_row_fails _ c.args.fonts.now c.args.style c.args.accent_symbol c.args.symbol c.in_ok-number.number (layout_of c.in_ok-clean_symbol.field-0) (layout_of c.in_ok-body.body) (piece_values c.in_ok-row.row) c.in_ok-body.ensures.is (accent_given c.args.fonts.now c.args.style c.size-2.result c.args.accent_symbol c.args.symbol c.in_ok-number.number c.in_ok-clean_symbol.field-0 (layout_of c.in_ok-body.body) c.skew_of-skew.result.sp c.extents-plain.result (SetFails c.in_err-whole.field-0.0) c.size-2.ensures c.skew_of-skew.ensures.is c.extents-plain.ensures.is c.in_err-whole.ensures.is)))
+pub set_accent_inside-test_row-requires : goal.set_accent_inside-test_row-requires
+set_accent_inside-test_row-requires t c =
+    let w = c.in_ok-accent.ensures c.in_ok-find_symbol.field-0 (ap (λ s. find_symbol c.args.fonts.now s c.args.accent_symbol) (c.size-3.ensures ∙ sym c.size.ensures) ∙ c.in_ok-find_symbol.ensures.is) c.args.pieces.now c.in_ok-set_symbol.ensures.is.box (subst (λ ps. c.set_symbol.new.pieces ≡ ps ++ PieceBox (pos 0) c.in_ok-set_symbol.ensures.is.box ∷ []) c.in_ok-plain.ensures.others c.in_ok-set_symbol.ensures.is.stays) in
+    record { few = few_behind c.len-first.result 4 c.args.pieces.now (PieceBox (pos 0) w.box ∷ []) c.accent.new.pieces (c.len-first.ensures ∙ ap length c.in_ok-plain.ensures.others) w.stays (omega arith) }
 
-pub set_accent_inside-returns-clause-is : goal.set_accent_inside-returns-clause-is
-set_accent_inside-returns-clause-is t c = inside_row_here (SetsRow c.box_row.result) c.args.fonts.now c.args.style c.cramped.result c.size.result c.args.accent_symbol c.args.symbol (not c.is_empty-has_subscript.result) (field_content c.args.fonts.now c.args.sup) (field_content c.args.fonts.now c.args.sub) c.in_ok-number.number (layout_of c.in_ok-clean_symbol.field-0) (nucleus_value c.in_ok-nucleus.nucleus) (piece_values c.in_ok-row.row) (record { cramped_is = c.cramped.ensures; size_is = c.size.ensures; subscript = ap not (c.is_empty-has_subscript.ensures ∙ sym (same_empty c.args.fonts.now (part_of_field c.args.sub))) }) c.in_ok-number.ensures.is c.in_ok-clean_symbol.ensures.is c.in_ok-nucleus.ensures.is c.in_ok-row.ensures.is (over_row_made (SetsRow c.box_row.result) c.args.fonts.now c.args.style c.args.accent_symbol c.args.symbol c.in_ok-number.number (layout_of c.in_ok-clean_symbol.field-0) (layout_of c.in_ok-body.body) (layout_of c.in_ok-whole.whole) (piece_values c.in_ok-row.row) c.in_ok-body.ensures.is (accent_given c.args.fonts.now c.args.style c.size-2.result c.args.accent_symbol c.args.symbol c.in_ok-number.number c.in_ok-clean_symbol.field-0 (layout_of c.in_ok-body.body) c.skew_of-skew.result.sp c.extents-plain.result (λ s. s ≡ Ok (layout_of c.in_ok-whole.whole)) c.size-2.ensures c.skew_of-skew.ensures.is c.extents-plain.ensures.is c.in_ok-whole.ensures.is) c.box_row.ensures.is)
+pub set_accent_inside-returns : goal.set_accent_inside-returns
+set_accent_inside-returns t c = record {
+  is = let w = c.in_ok-accent.ensures c.in_ok-find_symbol.field-0 (ap (λ s. find_symbol c.args.fonts.now s c.args.accent_symbol) (c.size-3.ensures ∙ sym c.size.ensures) ∙ c.in_ok-find_symbol.ensures.is) c.args.pieces.now c.in_ok-set_symbol.ensures.is.box (subst (λ ps. c.set_symbol.new.pieces ≡ ps ++ PieceBox (pos 0) c.in_ok-set_symbol.ensures.is.box ∷ []) c.in_ok-plain.ensures.others c.in_ok-set_symbol.ensures.is.stays) in
+      inside_made (SetsAtomOn c.test_row.result c.args.pieces.now c.accent.new.pieces) c.args.fonts.now c.args.style c.cramped.result c.size.result c.args.accent_symbol c.args.symbol (field_content c.args.fonts.now c.args.sup) (field_content c.args.fonts.now c.args.sub) c.in_ok-find_symbol.field-0 c.in_ok-plain.ensures.is.box c.size.ensures c.cramped.ensures c.in_ok-find_symbol.ensures.is c.in_ok-plain.ensures.is.is c.in_ok-set_symbol.ensures.is.box w.box c.in_ok-set_symbol.ensures.is.is (accent_given c.args.fonts.now c.args.style c.size-2.result c.args.accent_symbol c.args.symbol c.in_ok-find_symbol.field-0 c.in_ok-plain.ensures.is.box c.in_ok-set_symbol.ensures.is.box c.skew_of-skew.result.sp c.in_ok-plain.plain (λ s. s ≡ Ok w.box) c.size-2.ensures c.skew_of-skew.ensures.is c.in_ok-plain.ensures.is.same w.is)
+      (c.test_row.ensures.is c.args.pieces.now (PieceBox (pos 0) w.box ∷ []) (sym (c.len-first.ensures ∙ ap length c.in_ok-plain.ensures.others)) w.stays);
+}
 
-pub set_accent_inside-returns-clause-fits : goal.set_accent_inside-returns-clause-fits
-set_accent_inside-returns-clause-fits t c = if_ok_map c.box_row.result _ (λ row. (n : ℕ) → ScriptLevels n (part_of_field c.args.sup) (part_of_field c.args.sub) → RowFits (n + 4) row) c.box_row.ensures.fits (λ row f n s. f (n + 4) (omega (arith, c.in_ok-whole.ensures.level, c.in_ok-body.ensures.level (n + 2) (c.in_ok-row.ensures.fits n (row_fits_more 0 n c.in_ok-nucleus.nucleus.row (omega arith) c.in_ok-nucleus.ensures.fits.fits) s))))
+pub set_symbol-returns-in_err-delta : goal.set_symbol-returns-in_err-delta
+set_symbol-returns-in_err-delta t c =
+    let p = err_from_is_err_and c.from_residual.result c.from_residual.ensures.1 in rw (p.1, p.2) (record { is = fails_then _ (symbol_nucleus c.args.fonts.now (size_of c.args.style) c.args.symbol OrdinarySymbol (not (is_empty (field_content c.args.fonts.now c.args.sub)))) (λ n. row_with_fields c.args.fonts.now c.args.style n (field_content c.args.fonts.now c.args.sup) (field_content c.args.fonts.now c.args.sub) >>= pack_row) (subst (λ b. SetFails c.in_err-delta.field-0.0 (symbol_nucleus c.args.fonts.now (size_of c.args.style) c.args.symbol OrdinarySymbol b)) (ap not (c.is_empty.ensures ∙ sym (same_empty c.args.fonts.now (part_of_field c.args.sub)))) c.in_err-delta.ensures.is) })
 
--- ---- `set_vcenter`
+pub set_symbol-set_scripts-requires : goal.set_symbol-set_scripts-requires
+set_symbol-set_scripts-requires t c =
+    let n = c.in_ok-delta.ensures.is in
+    (omega (arith, c.decreases), (few_behind c.len-first.result 2 c.args.pieces.now n.row c.symbol_nucleus.new.pieces c.len-first.ensures n.stays n.few, (n.small, (c.requires.sup, c.requires.sub))))
+
+pub set_symbol-returns-in_err-set_scripts : goal.set_symbol-returns-in_err-set_scripts
+set_symbol-returns-in_err-set_scripts t c =
+    let n = c.in_ok-delta.ensures.is in
+    let p = err_from_is_err_and c.from_residual-in_err-set_scripts.result c.from_residual-in_err-set_scripts.ensures.1 in rw (p.1, p.2) (record { is = first_made (SetFails _) (symbol_nucleus c.args.fonts.now (size_of c.args.style) c.args.symbol OrdinarySymbol (not (is_empty (field_content c.args.fonts.now c.args.sub)))) (record { row = n.row; delta = c.in_ok-delta.delta.sp }) (λ n. row_with_fields c.args.fonts.now c.args.style n (field_content c.args.fonts.now c.args.sup) (field_content c.args.fonts.now c.args.sub) >>= pack_row) (ap (λ b. symbol_nucleus c.args.fonts.now (size_of c.args.style) c.args.symbol OrdinarySymbol b) (sym (ap not (c.is_empty.ensures ∙ sym (same_empty c.args.fonts.now (part_of_field c.args.sub))))) ∙ n.is) (fails_then _ (row_with_fields c.args.fonts.now c.args.style (record { row = n.row; delta = c.in_ok-delta.delta.sp }) (field_content c.args.fonts.now c.args.sup) (field_content c.args.fonts.now c.args.sub)) pack_row (c.in_err-set_scripts.ensures.is c.args.pieces.now n.row (sym c.len-first.ensures) n.stays)) })
+
+pub set_symbol-packed-requires : goal.set_symbol-packed-requires
+set_symbol-packed-requires t c =
+    let n = c.in_ok-delta.ensures.is in
+    let a = c.in_ok-set_scripts.ensures.is c.args.pieces.now n.row (sym c.len-first.ensures) n.stays in
+    record { few = few_behind c.len-first.result (2 ^ 21) c.args.pieces.now a.row c.set_scripts.new.pieces c.len-first.ensures a.stays (omega (arith, a.few)) }
+
+pub set_symbol-returns : goal.set_symbol-returns
+set_symbol-returns t c = record {
+  is = let n = c.in_ok-delta.ensures.is in
+      let a = c.in_ok-set_scripts.ensures.is c.args.pieces.now n.row (sym c.len-first.ensures) n.stays in
+      let P = SetsBoxOn c.packed.result c.args.pieces.now c.packed.new.pieces in
+      first_made P (symbol_nucleus c.args.fonts.now (size_of c.args.style) c.args.symbol OrdinarySymbol (not (is_empty (field_content c.args.fonts.now c.args.sub)))) (record { row = n.row; delta = c.in_ok-delta.delta.sp }) (λ n. row_with_fields c.args.fonts.now c.args.style n (field_content c.args.fonts.now c.args.sup) (field_content c.args.fonts.now c.args.sub) >>= pack_row) (ap (λ b. symbol_nucleus c.args.fonts.now (size_of c.args.style) c.args.symbol OrdinarySymbol b) (sym (ap not (c.is_empty.ensures ∙ sym (same_empty c.args.fonts.now (part_of_field c.args.sub))))) ∙ n.is) (first_made P (row_with_fields c.args.fonts.now c.args.style (record { row = n.row; delta = c.in_ok-delta.delta.sp }) (field_content c.args.fonts.now c.args.sup) (field_content c.args.fonts.now c.args.sub)) a.row pack_row a.is (c.packed.ensures.is c.args.pieces.now a.row (sym c.len-first.ensures) a.stays));
+}
+
+-- ---- `set_vcenter`, rows and tables
 
 pub set_vcenter-set_rows-requires : goal.set_vcenter-set_rows-requires
 set_vcenter-set_rows-requires t c =
@@ -795,17 +710,22 @@ set_vcenter-set_rows-requires t c =
     let s = ap part_size e in
     (omega (arith, s, c.decreases), rows_of_part (part_of_field c.args.field) c.in-Rows.rows e c.requires.modest)
 
-pub set_vcenter-returns-in_err-rows-in-Rows-clause-is : goal.set_vcenter-returns-in_err-rows-in-Rows-clause-is
-set_vcenter-returns-in_err-rows-in-Rows-clause-is t c =
-    let p = err_from_is_err_and c.from_residual.result c.from_residual.ensures.1 in rw (p.1, p.2) (vcenter_fails _ c.args.fonts.now c.args.style (part_of_field c.args.field) c.in-Rows.rows (ap part_of_field c.in-Rows.is) c.in_err-rows-in-Rows.ensures.is)
+pub set_vcenter-returns-in_err-set_rows-in-Rows : goal.set_vcenter-returns-in_err-set_rows-in-Rows
+set_vcenter-returns-in_err-set_rows-in-Rows t c =
+    let p = err_from_is_err_and c.from_residual.result c.from_residual.ensures.1 in rw (p.1, p.2) (record { is = vcenter_fails _ c.args.fonts.now c.args.style (part_of_field c.args.field) c.in-Rows.rows (ap part_of_field c.in-Rows.is) c.in_err-set_rows-in-Rows.ensures.is })
 
-pub set_vcenter-vcenter-requires-clause-levels : goal.set_vcenter-vcenter-requires-clause-levels
-set_vcenter-vcenter-requires-clause-levels t c =
-    let m = rows_of_part (part_of_field c.args.field) c.in-Rows.rows (ap part_of_field c.in-Rows.is) c.requires.modest in
-    λ k d lt. omega (arith, c.in_ok-rows-in-Rows.ensures.levels k d lt, m.nesting)
+pub set_vcenter-vcenter-requires : goal.set_vcenter-vcenter-requires
+set_vcenter-vcenter-requires t c = record {
+  few =
+      let b = c.in_ok-set_rows-in-Rows.ensures.is in
+      few_behind c.len-first.result (2 ^ 18) c.args.pieces.now (unraised_boxes b.boxes) c.set_rows.new.pieces c.len-first.ensures b.stays (omega (arith, unraised_length b.boxes, b.counted, c.in_ok-set_rows-in-Rows.ensures.few));
+}
 
 pub set_vcenter-returns-in-Rows : goal.set_vcenter-returns-in-Rows
-set_vcenter-returns-in-Rows t c = record { is = vcenter_made (SetsBox c.vcenter.result) c.args.fonts.now c.args.style c.size.result (part_of_field c.args.field) c.in-Rows.rows (map layout_of c.in_ok-rows-in-Rows.rows) (ap part_of_field c.in-Rows.is) c.size.ensures c.in_ok-rows-in-Rows.ensures.is c.vcenter.ensures.is; level = let n = ap (λ f. part_nesting (part_of_field f)) c.in-Rows.is in if_ok_map c.vcenter.result _ (λ b. b.level ≤ 12 * part_nesting (part_of_field c.args.field) + 3) c.vcenter.ensures.level (λ b f. omega (arith, n, f (12 * rows_nesting c.in-Rows.rows + 1) c.in_ok-rows-in-Rows.ensures.levels)) }
+set_vcenter-returns-in-Rows t c = record {
+  is = let b = c.in_ok-set_rows-in-Rows.ensures.is in
+      vcenter_made (SetsBoxOn c.vcenter.result c.args.pieces.now c.vcenter.new.pieces) c.args.fonts.now c.args.style c.size.result (part_of_field c.args.field) c.in-Rows.rows b.boxes (ap part_of_field c.in-Rows.is) c.size.ensures b.is (c.vcenter.ensures c.args.pieces.now b.boxes (sym c.len-first.ensures) b.stays);
+}
 
 pub set_vcenter-set_table-requires : goal.set_vcenter-set_table-requires
 set_vcenter-set_table-requires t c =
@@ -814,101 +734,65 @@ set_vcenter-set_table-requires t c =
     (omega (arith, s, c.decreases), grid_of_part (part_of_field c.args.field) c.in-Table.table.look c.in-Table.table.rows e c.requires.modest)
 
 pub set_vcenter-returns-in-Table : goal.set_vcenter-returns-in-Table
-set_vcenter-returns-in-Table t c = record { is = vcenter_table (SetsBox c.set_table.result) c.args.fonts.now c.args.style (part_of_field c.args.field) c.in-Table.table.look c.in-Table.table.rows (ap part_of_field c.in-Table.is) c.set_table.ensures.is; level = let n = ap (λ f. part_nesting (part_of_field f)) c.in-Table.is in if_ok_map c.set_table.result _ (λ b. b.level ≤ 12 * part_nesting (part_of_field c.args.field) + 3) c.set_table.ensures.level (λ b h. omega (arith, n, h)) }
+set_vcenter-returns-in-Table t c = record { is = vcenter_table (SetsBoxOn c.set_table.result c.args.pieces.now c.set_table.new.pieces) c.args.fonts.now c.args.style (part_of_field c.args.field) c.in-Table.table.look c.in-Table.table.rows (ap part_of_field c.in-Table.is) c.set_table.ensures.is }
 
 pub set_vcenter-vcenter-requires-in_default : goal.set_vcenter-vcenter-requires-in_default
-set_vcenter-vcenter-requires-in_default t c =
-    let e = c.from_vec.ensures ∙ c.new.ensures.items in
-    record { few = subst (λ b. length b ≤ 2 ^ 18) (sym e) (omega arith); levels = all_of_none (λ b. b.level ≤ 4000) c.from_vec.result e }
+set_vcenter-vcenter-requires-in_default t c = record { few = few_behind c.len-first.result (2 ^ 18) c.args.pieces.now [] c.args.pieces.now c.len-first.ensures (nil_right c.args.pieces.now) (omega arith) }
 
 pub set_vcenter-returns : goal.set_vcenter-returns
-set_vcenter-returns t c =
-    let e = c.from_vec.ensures ∙ c.new.ensures.items in
-    record {
-      is = vcenter_empty (SetsBox c.vcenter-in_default.result) c.args.fonts.now c.args.style c.size-in_default.result (part_of_field c.args.field) (map layout_of c.from_vec.result) (without_rows c.args.field c.in_default.not-Rows c.in_default.not-Table) c.size-in_default.ensures (ap (map layout_of) e) c.vcenter-in_default.ensures.is;
-      level = if_ok_map c.vcenter-in_default.result _ (λ b. b.level ≤ 12 * part_nesting (part_of_field c.args.field) + 3) c.vcenter-in_default.ensures.level (λ b f. omega (arith, f 0 (all_of_none (λ r. r.level ≤ 0) c.from_vec.result e)));
-    }
-
--- ---- `set_rows`
+set_vcenter-returns t c = record { is = vcenter_empty (SetsBoxOn c.vcenter-in_default.result c.args.pieces.now c.vcenter-in_default.new.pieces) c.args.fonts.now c.args.style c.size-in_default.result (part_of_field c.args.field) [] (without_rows c.args.field c.in_default.not-Rows c.in_default.not-Table) c.size-in_default.ensures refl (c.vcenter-in_default.ensures c.args.pieces.now [] (sym c.len-first.ensures) (nil_right c.args.pieces.now)) }
 
 pub set_rows-loop-list-init : goal.set_rows-loop-list-init
-set_rows-loop-list-init t c = (tt, tt, rows_start c.args.fonts.now c.args.rows _ _ _ c.requires.modest c.into_iter-list-iterator.ensures.into_iter_gives.0 c.into_vec-list-items.ensures c.new-boxes.ensures.items)
+set_rows-loop-list-init t c = (tt, tt, rows_start c.args.fonts.now c.args.rows _ _ c.args.pieces.now c.requires.modest c.into_iter-list-iterator.ensures.into_iter_gives.0 c.into_vec-rows.ensures)
 
-pub set_rows-set_list-requires : goal.set_rows-set_list-requires
-set_rows-set_list-requires t c = (omega (arith, next_size _ _ _ _ _ _ c.loop-list.invariant.2 c.in-Some.ensures.steps.0, c.decreases), next_row _ _ _ _ _ _ c.loop-list.invariant.2 c.in-Some.ensures.steps.0)
+pub set_rows-pack_list-requires : goal.set_rows-pack_list-requires
+set_rows-pack_list-requires t c = (omega (arith, next_size _ _ _ _ _ _ _ c.loop-list.invariant.2 c.in-Some.ensures.steps.0, c.decreases), next_row _ _ _ _ _ _ _ c.loop-list.invariant.2 c.in-Some.ensures.steps.0)
 
-pub set_rows-returns-in_err-row-clause-is : goal.set_rows-returns-in_err-row-clause-is
-set_rows-returns-in_err-row-clause-is t c =
-    let p = err_from_is_err_and c.from_residual.result c.from_residual.ensures.1 in rw (p.1, p.2) (row_fails _ _ _ _ _ c.in-Some.list _ c.loop-list.invariant.2 c.in-Some.ensures.steps.0 c.in_err-row.ensures.is)
-
-pub set_rows-packed-requires-clause-fits : goal.set_rows-packed-requires-clause-fits
-set_rows-packed-requires-clause-fits t c =
-    let m = next_row _ _ _ _ _ _ c.loop-list.invariant.2 c.in-Some.ensures.steps.0 in
-    row_fits_more (12 * list_nesting c.in-Some.list) 4000 c.in_ok-row.row (omega (arith, m.nesting)) c.in_ok-row.ensures.fits
-
-pub set_rows-returns-in_err-packed-clause-is : goal.set_rows-returns-in_err-packed-clause-is
-set_rows-returns-in_err-packed-clause-is t c =
-    let p = err_from_is_err_and c.from_residual-in_err-packed.result c.from_residual-in_err-packed.ensures.1 in rw (p.1, p.2) (box_fails _ _ _ _ _ c.in-Some.list _ (piece_values c.in_ok-row.row) c.loop-list.invariant.2 c.in-Some.ensures.steps.0 c.in_ok-row.ensures.is c.in_err-packed.ensures.is)
+pub set_rows-returns-in_err-pack_list-clause-is : goal.set_rows-returns-in_err-pack_list-clause-is
+set_rows-returns-in_err-pack_list-clause-is t c =
+    let p = err_from_is_err_and c.from_residual.result c.from_residual.ensures.1 in rw (p.1, p.2) (row_fails _ _ _ _ _ _ c.in-Some.list _ c.loop-list.invariant.2 c.in-Some.ensures.steps.0 c.in_err-pack_list.ensures.is)
 
 pub set_rows-loop-list-preserved : goal.set_rows-loop-list-preserved
-set_rows-loop-list-preserved t c = (tt, tt, rows_step _ _ _ _ _ c.in-Some.list _ (piece_values c.in_ok-row.row) c.in_ok-packed.field-0 c.loop-list.invariant.2 c.in-Some.ensures.steps.0 c.in_ok-row.ensures.is c.in_ok-packed.ensures.is (c.in_ok-packed.ensures.level (12 * list_nesting c.in-Some.list) c.in_ok-row.ensures.fits) c.in_ok-push_box.ensures)
+set_rows-loop-list-preserved t c = (tt, tt, rows_step _ _ _ _ _ _ c.in-Some.list _ c.loop-list.invariant.2 c.in-Some.ensures.steps.0 c.in_ok-pack_list.ensures.is)
 
 pub set_rows-returns : goal.set_rows-returns
-set_rows-returns t c = record { is = rows_end _ _ _ _ c.loop-list.invariant.2 (no_more _ _ c.loop-list.list-iterator.rest.ok.0 c.in-None.ensures.steps.0) ∙ ap (λ b. Ok (map layout_of b)) (sym c.from_vec.ensures); few = rw c.from_vec.ensures (rows_few _ _ _ _ c.requires.modest c.loop-list.invariant.2); count = rw c.from_vec.ensures (rows_count _ _ _ _ c.loop-list.invariant.2 (no_more _ _ c.loop-list.list-iterator.rest.ok.0 c.in-None.ensures.steps.0)); levels = subst (All (λ b. b.level ≤ 12 * rows_nesting c.args.rows + 1)) (sym c.from_vec.ensures) c.loop-list.invariant.2.levels }
-
-pub set_rows-returns-in_err-push_box-clause-is : goal.set_rows-returns-in_err-push_box-clause-is
-set_rows-returns-in_err-push_box-clause-is t c =
-    let p = err_from_is_err_and c.from_residual-in_err-push_box.result c.from_residual-in_err-push_box.ensures.1 in rw (p.1, p.2) tt
-
--- ---- `set_table`
-
-pub set_table-returns-in_ok-cells-in-Matrix-clause-level : goal.set_table-returns-in_ok-cells-in-Matrix-clause-level
-set_table-returns-in_ok-cells-in-Matrix-clause-level t c =
-    if_ok_map c.matrix.result _ (λ b. b.level ≤ 12 * grid_nesting c.args.table.rows + 3) c.matrix.ensures.level (λ b f. omega (arith, f (12 * grid_nesting c.args.table.rows + 1) c.in_ok-cells-in-Matrix.ensures.levels))
-
-pub set_table-returns-in_ok-cells-in-Equations-clause-level : goal.set_table-returns-in_ok-cells-in-Equations-clause-level
-set_table-returns-in_ok-cells-in-Equations-clause-level t c =
-    if_ok_map c.equations.result _ (λ b. b.level ≤ 12 * grid_nesting c.args.table.rows + 3) c.equations.ensures.level (λ b f. omega (arith, f (12 * grid_nesting c.args.table.rows + 1) c.in_ok-cells-in-Equations.ensures.levels))
-
--- ---- `set_cells`
+set_rows-returns t c = record { is = rows_end _ _ _ _ _ _ c.loop-list.invariant.2 (no_more _ _ c.loop-list.list-iterator.rest.ok.0 c.in-None.ensures.steps.0) (count_is c.args.rows c.into_vec-rows.result.items c.len-count.result c.into_vec-rows.ensures (c.len-count.ensures ∙ c.into_vec-rows.result.ok.0)); few = rows_few c.args.rows _ c.requires.modest (count_is c.args.rows c.into_vec-rows.result.items c.len-count.result c.into_vec-rows.ensures (c.len-count.ensures ∙ c.into_vec-rows.result.ok.0)); count = (count_is c.args.rows c.into_vec-rows.result.items c.len-count.result c.into_vec-rows.ensures (c.len-count.ensures ∙ c.into_vec-rows.result.ok.0)) }
 
 pub set_cells-loop-row-init : goal.set_cells-loop-row-init
-set_cells-loop-row-init t c = (tt, tt, cells_start c.args.fonts.now c.args.look c.args.rows _ _ _ c.requires.modest c.into_iter-row-iterator.ensures.into_iter_gives.0 c.into_vec-row-items.ensures c.new-done.ensures.items)
+set_cells-loop-row-init t c = (tt, tt, cells_start c.args.fonts.now c.args.look c.args.rows _ _ _ c.args.pieces.now c.requires.modest c.into_iter-row-iterator.ensures.into_iter_gives.0 c.into_vec-row-items.ensures c.new-counts.ensures.items)
 
 pub set_cells-set_rows-requires : goal.set_cells-set_rows-requires
 set_cells-set_rows-requires t c =
     let e = c.in_columns.ensures in
-    let h = next_cells _ _ _ _ _ _ _ c.loop-row.invariant.2 c.in-Some.ensures.steps.0 in
-    let s = next_cells_size _ _ _ _ _ _ _ c.loop-row.invariant.2 c.in-Some.ensures.steps.0 in
+    let h = next_cells _ _ _ _ _ _ _ _ _ c.loop-row.invariant.2 c.in-Some.ensures.steps.0 in
+    let s = next_cells_size _ _ _ _ _ _ _ _ _ c.loop-row.invariant.2 c.in-Some.ensures.steps.0 in
     (omega (arith, ap rows_size e, s, c.decreases), subst IsModestRows (sym e) h)
 
-pub set_cells-returns-in_err-cells-clause-is : goal.set_cells-returns-in_err-cells-clause-is
-set_cells-returns-in_err-cells-clause-is t c =
-    let p = err_from_is_err_and c.from_residual.result c.from_residual.ensures.1 in
-    rw (p.1, p.2) (cells_fail _ _ _ _ _ _ c.in-Some.row _ c.loop-row.invariant.2 c.in-Some.ensures.steps.0 (subst (λ r. SetFails c.in_err-cells.field-0.0 (pack_rows (rows_by_style c.args.fonts.now r))) c.in_columns.ensures c.in_err-cells.ensures.is))
+pub set_cells-returns-in_err-count-clause-fault : goal.set_cells-returns-in_err-count-clause-fault
+set_cells-returns-in_err-count-clause-fault t c =
+    let p = err_from_is_err_and c.from_residual.result c.from_residual.ensures.1 in rw (p.1, p.2) (cells_fail _ _ _ _ _ _ _ _ c.in-Some.row _ c.loop-row.invariant.2 c.in-Some.ensures.steps.0 (subst (λ r. SetFails c.in_err-count.field-0.0 (pack_rows (rows_by_style c.args.fonts.now r))) c.in_columns.ensures c.in_err-count.ensures.is))
 
 pub set_cells-loop-row-preserved : goal.set_cells-loop-row-preserved
 set_cells-loop-row-preserved t c =
     let e = c.in_columns.ensures in
-    let h = c.in_ok-cells.ensures in (
+    let h = c.in_ok-count.ensures in (
       tt,
       tt,
-      cells_step _ _ _ _ _ _ c.in-Some.row _ c.in_ok-cells.cells c.loop-row.invariant.2 c.in-Some.ensures.steps.0
-          (subst (λ r. pack_rows (rows_by_style c.args.fonts.now r) ≡ Ok (map layout_of c.in_ok-cells.cells)) e h.is) h.few
-          (h.count ∙ ap rows_length e) (subst (λ r. All (λ b. b.level ≤ 12 * rows_nesting r + 1) c.in_ok-cells.cells) e h.levels) c.in_ok-push_row.ensures,
+      cells_step _ _ _ _ _ _ _ _ _ c.in-Some.row _ c.in_ok-count.count c.loop-row.invariant.2 c.in-Some.ensures.steps.0
+          (subst (λ r. BoxesOn c.in_ok-count.count c.loop-row.pieces c.set_rows.new.pieces (pack_rows (rows_by_style c.args.fonts.now r))) e h.is) h.few (h.count ∙ ap rows_length e) c.in_ok-push_count.ensures,
     )
 
 pub set_cells-returns : goal.set_cells-returns
 set_cells-returns t c =
     let i = c.loop-row.invariant.2 in
     record {
-      is = cells_end _ _ _ _ _ i (no_more _ _ c.loop-row.row-iterator.rest.ok.0 c.in-None.ensures.steps.0) ∙ ap (λ b. Ok (cells_of b)) (sym c.from_vec.ensures);
-      few = rw c.from_vec.ensures (cells_few _ _ _ _ _ c.requires.modest i);
-      columns = subst (All (λ row. length row ≤ 2 ^ 18)) (sym c.from_vec.ensures) i.columns;
-      sides = λ same. subst (All (λ row. length row ≤ 2)) (sym c.from_vec.ensures) (i.sides same);
-      levels = subst (All (All (λ b. b.level ≤ 12 * grid_nesting c.args.rows + 1))) (sym c.from_vec.ensures) i.levels;
+      is = cells_end _ _ _ _ _ _ _ i (no_more _ _ c.loop-row.row-iterator.rest.ok.0 c.in-None.ensures.steps.0);
+      fault = tt;
+      few = cells_few _ _ _ _ _ _ _ c.requires.modest i;
+      columns = i.columns;
+      sides = i.sides;
     }
 
-pub set_cells-returns-in_err-push_row-clause-is : goal.set_cells-returns-in_err-push_row-clause-is
-set_cells-returns-in_err-push_row-clause-is t c =
-    let p = err_from_is_err_and c.from_residual-in_err-push_row.result c.from_residual-in_err-push_row.ensures.1 in rw (p.1, p.2) tt
+pub set_cells-returns-in_err-push_count-clause-fault : goal.set_cells-returns-in_err-push_count-clause-fault
+set_cells-returns-in_err-push_count-clause-fault t c =
+    let p = err_from_is_err_and c.from_residual-in_err-push_count.result c.from_residual-in_err-push_count.ensures.1 in rw (p.1, p.2) (tt)

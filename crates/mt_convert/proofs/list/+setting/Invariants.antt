@@ -8,11 +8,11 @@ use Rattle.mt_convert.proofs.kinds.RowBoxes.{RowsSoFar}
 use Rattle.mt_convert.proofs.kinds.TableBoxes.{CellsSoFar}
 use Rattle.mt_convert.proofs.list.+setting.Given as goal
 
-abbrev pub decreases-set_list : goal.decreases-set_list
-decreases-set_list l = 10 * sequence_size l.list + 2
+abbrev pub decreases-set_list_on : goal.decreases-set_list_on
+decreases-set_list_on l = 10 * sequence_size l.list + 2
 
-abbrev pub decreases-first_pass : goal.decreases-first_pass
-decreases-first_pass l = 10 * sequence_size l.list + 1
+abbrev pub decreases-first_pass_on : goal.decreases-first_pass_on
+decreases-first_pass_on l = 10 * sequence_size l.list + 1
 
 abbrev pub decreases-clean_list : goal.decreases-clean_list
 decreases-clean_list l = 10 * sequence_size l.list + 3
@@ -33,7 +33,7 @@ abbrev pub invariant-set_rows-loop-list : goal.invariant-set_rows-loop-list
 invariant-set_rows-loop-list l =
     (goal.iterator-set_rows-loop-list).can_next l.list-iterator
     × (goal.iterator-set_rows-loop-list).is_finite l.list-iterator
-    × RowsSoFar l.fonts l.fn.rows (into_iter_items l.list-iterator) l.boxes.items
+    × RowsSoFar l.fonts l.fn.rows (into_iter_items l.list-iterator) l.fn.pieces l.pieces
 
 abbrev pub decreases-set_table : goal.decreases-set_table
 decreases-set_table l = 10 * grid_size l.table.rows + 4
@@ -45,7 +45,7 @@ abbrev pub invariant-set_cells-loop-row : goal.invariant-set_cells-loop-row
 invariant-set_cells-loop-row l =
     (goal.iterator-set_cells-loop-row).can_next l.row-iterator
     × (goal.iterator-set_cells-loop-row).is_finite l.row-iterator
-    × CellsSoFar l.fonts l.look l.fn.rows (into_iter_items l.row-iterator) l.done.items
+    × CellsSoFar l.fonts l.look l.fn.rows (into_iter_items l.row-iterator) l.counts.items l.fn.pieces l.pieces
 
 abbrev pub decreases-set_radical : goal.decreases-set_radical
 decreases-set_radical l = 10 * part_size (part_of_field l.field) + 2
@@ -89,11 +89,8 @@ decreases-set_scripts l = 10 * (part_size (part_of_field l.sup) + part_size (par
 abbrev pub decreases-set_under_limits : goal.decreases-set_under_limits
 decreases-set_under_limits l = 10 * (part_size (part_of_field l.nucleus) + (part_size (part_of_field l.sup) + part_size (part_of_field l.sub))) + 5
 
-abbrev pub decreases-set_limits : goal.decreases-set_limits
-decreases-set_limits l = 10 * (part_size (part_of_field l.sup) + part_size (part_of_field l.sub)) + 4
-
 abbrev pub decreases-set_accent_inside : goal.decreases-set_accent_inside
-decreases-set_accent_inside l = 10 * (part_size (part_of_field l.sup) + part_size (part_of_field l.sub)) + 5
+decreases-set_accent_inside l = 10 * (part_size (part_of_field l.sup) + part_size (part_of_field l.sub)) + 6
 
 abbrev pub decreases-set_atom : goal.decreases-set_atom
 decreases-set_atom l = 10 * element_size (atom_element l.atom)
@@ -104,8 +101,11 @@ decreases-set_fraction l = 10 * element_size (fraction_element l.fields)
 abbrev pub decreases-set_item : goal.decreases-set_item
 decreases-set_item l = 10 * element_size (element_of_passed (passed_value l.passed)) + 1
 
-abbrev pub invariant-first_pass-loop-front : goal.invariant-first_pass-loop-front
-invariant-first_pass-loop-front l = Going l.fonts l.fn.style l.fn.list l.current l.rest l.halves.items
+abbrev pub invariant-first_pass_on-loop-front : goal.invariant-first_pass_on-loop-front
+invariant-first_pass_on-loop-front l = Going l.fonts l.fn.style l.fn.list l.current l.rest l.items.items l.reach l.fn.pieces l.pieces
 
-abbrev pub decreases-first_pass-loop-front : goal.decreases-first_pass-loop-front
-decreases-first_pass-loop-front l = sequence_size l.rest
+abbrev pub decreases-first_pass_on-loop-front : goal.decreases-first_pass_on-loop-front
+decreases-first_pass_on-loop-front l = sequence_size l.rest
+
+abbrev pub decreases-set_symbol : goal.decreases-set_symbol
+decreases-set_symbol l = 10 * (part_size (part_of_field l.sup) + part_size (part_of_field l.sub)) + 5

@@ -1,6 +1,6 @@
 use Rattle.std.proofs.Common.{◌*◌, arith}
 use Rattle.mt_rules.specs.Modest.{list_nesting}
-use Rattle.mt_convert.proofs.Packable.{row_is_modest}
+use Rattle.mt_setting_tests.proofs.Packable.{row_is_modest}
 use Rattle.mt_setting_tests.proofs.library.square_box.Goals as goal
 
 pub hpack-requires-clause-modest : goal.hpack-requires-clause-modest

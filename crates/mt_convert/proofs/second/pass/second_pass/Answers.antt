@@ -1,25 +1,21 @@
-use Rattle.std.proofs.Common.{ℕ, ◌≤◌, ◌^◌, arith, rules, w64, FitsSigned, subst}
-use Rattle.std.specs.Prelude.{IfOk}
-use Rattle.mt_convert.specs.Halfway.{HalvesFit, RowFits, half_values, halves_value}
-use Rattle.mt_convert.specs.SecondPass.{second_pass_of}
-use Rattle.mt_convert.specs.Calls.{SetsRow}
-use Rattle.mt_convert.proofs.Fitting.{kept_word}
-use Rattle.mt_convert.proofs.SecondPass.{second_is}
-use Rattle.mt_convert.proofs.SetNuclei.{if_ok_map}
+use Rattle.std.proofs.Common.{◌^◌, arith, subst}
+use Rattle.std.specs.Prelude.{Ok}
+use Rattle.mt_convert.specs.Halfway.{halves_value}
+use Rattle.mt_convert.specs.inner.Placed.{HalvesOn}
+use Rattle.mt_convert.proofs.TakenRows.{taken_fits}
+use Rattle.mt_convert.proofs.Wrapping.{pass_is, few_taken}
 use Rattle.mt_convert.proofs.second.pass.second_pass.Goals as goal
 
 pub returns-clause-is : goal.returns-clause-is
 returns-clause-is c =
-    let f : FitsSigned w64 c.half.inside.height = search rules in
-    let g : FitsSigned w64 c.half.inside.depth = search rules in
-    subst (λ v. SetsRow c.join_rows.result (second_pass_of c.args.fonts.now c.args.style (halves_value v))) c.half.view_is
-    (subst (SetsRow c.join_rows.result)
-    (second_is c.args.fonts.now c.args.style _ _ _ _ c.half.inside.height c.half.inside.depth (half_values c.half.inside.items) c.boundary_frame-frame.ensures.size c.boundary_frame-frame.ensures.wanted (kept_word c.half.inside.height f) (kept_word c.half.inside.depth g))
-    c.join_rows.ensures.is)
+    pass_is c.args.fonts.now c.args.style (halves_value c.args.half) c.in_ok-halves.halves c.put_halfway.new.pieces c.join_on.new.pieces c.in_ok-take_row.field-0
+    (subst (λ o. HalvesOn c.in_ok-halves.halves o c.put_halfway.new.pieces (Ok (halves_value c.args.half))) c.new-pieces.ensures c.in_ok-halves.ensures) c.in_ok-join_on.ensures.is c.in_ok-take_row.ensures.row
+
+pub returns-clause-few : goal.returns-clause-few
+returns-clause-few c = few_taken c.join_on.new.pieces c.in_ok-take_row.field-0 c.in_ok-take_row.ensures.row c.in_ok-join_on.ensures.few
 
 pub returns-clause-bounded : goal.returns-clause-bounded
-returns-clause-bounded c =
-    if_ok_map c.join_rows.result _ (RowFits (2 ^ 16)) c.join_rows.ensures.fits (λ row f. f (2 ^ 16) (omega arith) c.half.invariant.fit)
+returns-clause-bounded c = taken_fits (2 ^ 16) _ c.in_ok-take_row.ensures.measurable c.in_ok-take_row.ensures.levels (omega arith)
 
 pub returns-clause-fits : goal.returns-clause-fits
-returns-clause-fits c = subst (λ v. IfOk c.join_rows.result (λ row. (n : ℕ) → 2 ≤ n → HalvesFit n v.items → RowFits n row)) c.half.view_is c.join_rows.ensures.fits
+returns-clause-fits c = λ n le k. taken_fits n _ c.in_ok-take_row.ensures.measurable c.in_ok-take_row.ensures.levels (omega (arith, le))

@@ -1,9 +1,21 @@
-use Rattle.std.proofs.Common.{arith}
-use Rattle.mt_convert.specs.inner.Nucleus.{NucleusIsSmall}
-use Rattle.mt_convert.proofs.SetNuclei.{if_ok_map, small_below}
+use Rattle.std.proofs.Common.{rules, ◌∷◌, [], ◌++◌, ◌∙◌, ap, sym}
+use Rattle.mt_rules.specs.Delimiters.{piece_on_axis}
+use Rattle.mt_rules.specs.Symbols.{find_symbol}
+use Rattle.mt_convert.proofs.NucleiOn.{IsOperator, operator_left}
 use Rattle.mt_convert.proofs.set.nucleus.operator_nucleus.Goals as goal
 
-pub returns-clause-fits : goal.returns-clause-fits
-returns-clause-fits c =
-    if_ok_map c.on_axis.result (NucleusIsSmall c.in_ok-body-2.body.level) (NucleusIsSmall 1) c.on_axis.ensures.fits
-    (λ x small. small_below c.in_ok-body-2.body.level 1 x (omega (arith, c.in_ok-body-2.ensures.level, c.in_ok-body.ensures.level)) small)
+pub returns : goal.returns
+returns c =
+    let fonts = c.args.fonts.now in
+    let old = c.args.pieces.now in
+    let clean = c.in_ok-clean_symbol.ensures.is in
+    let narrow = c.in_ok-box_beside.ensures old clean.box clean.stays in
+    let k : IsOperator fonts c.args.style c.args.symbol c.in_ok-number.number c.operator_code-code.result c.italic_length-italic.result.sp = record {
+      found = ap (λ z. find_symbol fonts z c.args.symbol) (sym c.size.ensures) ∙ c.in_ok-number.ensures.is;
+      code_is = search rules;
+      italic_is = search rules;
+    } in
+    record {
+      is = operator_left fonts c.args.style c.args.symbol c.args.beside_subscript c.in_ok-number.number c.operator_code-code.result c.italic_length-italic.result.sp old c.box_beside.new.pieces c.raise_onto_axis.new.pieces clean.box k clean.is narrow
+          (λ l e. c.raise_onto_axis.ensures old l e ∙ ap (λ z. old ++ piece_on_axis fonts z l ∷ []) c.size-2.ensures) c.italic_length-italic.ensures.small;
+    }

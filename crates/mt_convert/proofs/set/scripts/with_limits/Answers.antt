@@ -1,12 +1,11 @@
-use Rattle.std.proofs.Common.{ℕ, ◌≤◌, ◌+◌, arith}
-use Rattle.mt_scripts.specs.Levels.{script_level}
-use Rattle.mt_convert.specs.Halfway.{RowFits}
-use Rattle.mt_convert.proofs.SetNuclei.{if_ok_map}
+use Rattle.std.proofs.Common.{pos}
+use Rattle.mt_rules.specs.Limits.{limits}
+use Rattle.mt_convert.proofs.RowsOn.{between_atom}
 use Rattle.mt_convert.proofs.set.scripts.with_limits.Goals as goal
 
-pub returns-clause-fits : goal.returns-clause-fits
-returns-clause-fits c =
-    if_ok_map c.box_row.result (λ row. (n : ℕ) → c.in_ok-all.all.level ≤ n → RowFits n row)
-    (λ row. (n : ℕ) → c.args.body.level ≤ n → script_level c.args.above ≤ n → script_level c.args.below ≤ n → RowFits (n + 3) row)
-    c.box_row.ensures.fits
-    (λ row h n body up down. h (n + 3) (omega (arith, c.in_ok-all.ensures.level, body, up, down)))
+pub returns : goal.returns
+returns c = record {
+  is = λ rest n above below there e.
+      let b = c.in_ok-row_packed.ensures.boxed rest c.limits.new.self (limits c.args.fonts.now c.args.size n c.args.delta.sp above below) (c.limits.ensures rest n above below there e) in
+      between_atom rest c.limits.new.self (limits c.args.fonts.now c.args.size n c.args.delta.sp above below) b (c.look_at_last.ensures rest (pos 0) b.box b.stays);
+}

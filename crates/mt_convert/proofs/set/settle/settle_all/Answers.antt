@@ -1,14 +1,14 @@
 use Rattle.std.proofs.Common.{sym, arith, refl}
 use Rattle.std.proofs.Math.ListN.{length-set}
-use Rattle.mt_convert.specs.declared.half.Half.{Half}
+use Rattle.mt_convert.specs.declared.placed.PlacedHalf.{PlacedHalf}
 use Rattle.mt_convert.proofs.Settling.{settle_turn, settle_end}
 use Rattle.mt_convert.proofs.set.settle.settle_all.Goals as goal
 
 pub loop-i-preserved : goal.loop-i-preserved
 loop-i-preserved c = (
-  omega (arith, c.loop-i.invariant.0, length-set {A = Half}),
-  settle_turn c.loop-i.halves.items c.loop-i.i _ _ c.settle_item.new.half c.loop-i.after c.or-next.result _ c.loop-i-test.true c.loop-i.invariant.0 (sym c.index_mut-half.ensures.value) c.settle_item.ensures (rw c.or-next.ensures (rw c.class_to_left.ensures refl)) c.loop-i.invariant.1,
+  omega (arith, c.loop-i.invariant.0, length-set {A = PlacedHalf}),
+  settle_turn c.loop-i.items.items c.loop-i.i _ _ c.settle_item.new.item c.loop-i.after c.or-next.result _ c.loop-i-test.true c.loop-i.invariant.0 (sym c.index_mut-item.ensures.value) c.settle_item.ensures (rw c.or-next.ensures (rw c.class_to_left.ensures refl)) c.loop-i.invariant.1,
 )
 
 pub returns : goal.returns
-returns c = settle_end c.loop-i.halves.items c.loop-i.i c.loop-i.after c.args.halves.now.items (omega (arith, c.loop-i-test.false)) c.loop-i.invariant.1
+returns c = settle_end c.loop-i.items.items c.loop-i.i c.loop-i.after c.args.items.now.items (omega (arith, c.loop-i-test.false)) c.loop-i.invariant.1

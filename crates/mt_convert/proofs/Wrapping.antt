@@ -1,0 +1,51 @@
+-- The public calls, by way of a stack that begins empty (`pass_is`, `list_taken`, `halves_taken`).
+use Rattle.std.proofs.Common.{◌≡◌, ◌≤◌, ◌^◌, List, [], ◌++◌, take, length, ap, sym, ◌∙◌, arith, subst}
+use Rattle.std.specs.Prelude.{Ok}
+use Rattle.mt_family.specs.SetValue.{SetValue}
+use Rattle.mt_box.specs.declared.piece.Piece.{Piece}
+use Rattle.mt_box.specs.Rows.{PieceValue, piece_values}
+use Rattle.mt_rules.specs.declared.style.Style.{Style}
+use Rattle.mt_rules.specs.Sequence.{Sequence}
+use Rattle.mt_rules.specs.Setting.{Setting}
+use Rattle.mt_convert.specs.declared.fault.SetFault.{SetFault}
+use Rattle.mt_convert.specs.declared.placed.PlacedHalves.{PlacedHalves}
+use Rattle.mt_convert.specs.Calls.{SetFails}
+use Rattle.mt_convert.specs.Halves.{Halves}
+use Rattle.mt_convert.specs.ListRow.{halves_of, list_row}
+use Rattle.mt_convert.specs.SecondPass.{second_pass_of}
+use Rattle.mt_convert.specs.inner.Fields.{list_content}
+use Rattle.mt_convert.specs.inner.OnPieces.{RowOn}
+use Rattle.mt_convert.specs.inner.Placed.{placed_halves, HalvesOn, IsPlaced}
+use Rattle.mt_convert.proofs.PutRows.{values_length}
+
+halves_are : (x y : Halves) → ◌≡◌ {A = Setting Halves} (Ok x) (Ok y) → x ≡ y
+halves_are x y e = cc
+
+-- the list that was put on an empty stack
+same_list : (halves : Halves) (h : PlacedHalves) (now : List PieceValue) → HalvesOn h [] now (Ok halves) → halves ≡ placed_halves h now
+same_list halves h now k = halves_are halves (placed_halves h k.row) k.is ∙ ap (placed_halves h) (sym k.stays)
+
+pub pass_is : (fonts : SetValue) (style : Style) (halves : Halves) (h : PlacedHalves) (now new : List PieceValue) (row : List Piece) → HalvesOn h [] now (Ok halves) → RowOn (take 0 now) new (second_pass_of fonts style (placed_halves h now)) → piece_values row ≡ new
+    → second_pass_of fonts style halves ≡ Ok (piece_values row)
+pass_is fonts style halves h now new row k m e = ap (second_pass_of fonts style) (same_list halves h now k) ∙ (m.is ∙ ap (λ r. Ok r) (sym (e ∙ m.stays)))
+
+pub few_taken : (new : List PieceValue) (row : List Piece) → piece_values row ≡ new → length new ≤ 2 ^ 21 → length row ≤ 2 ^ 21
+few_taken new row e f = omega (arith, f, values_length row, ap length e)
+
+-- ---- a list that is set
+
+pub list_taken : (fonts : SetValue) (style : Style) (list : Sequence) (old new : List PieceValue) (row : List Piece) → old ≡ [] → RowOn old new (list_content fonts list style) → piece_values row ≡ new → list_row fonts style list ≡ Ok (piece_values row)
+unfolding list_row halves_of
+list_taken fonts style list old new row e m f = m.is ∙ ap (λ r. Ok r) (sym (f ∙ (m.stays ∙ ap (λ o. o ++ m.row) e)))
+
+pub list_refused : (fonts : SetValue) (style : Style) (list : Sequence) (fault : SetFault) → SetFails fault (list_content fonts list style) → SetFails fault (list_row fonts style list)
+unfolding list_row halves_of
+list_refused fonts style list fault h = h
+
+-- the items of the first pass
+
+pub halves_placed : (h : PlacedHalves) (old now : List PieceValue) (setting : Setting Halves) → old ≡ [] → HalvesOn h old now setting → IsPlaced h now
+halves_placed h old now setting e k = subst (IsPlaced h) (sym (k.stays ∙ ap (λ o. o ++ k.row) e)) k.placed
+
+pub halves_taken : (h : PlacedHalves) (old now : List PieceValue) (setting : Setting Halves) (v : Halves) → old ≡ [] → HalvesOn h old now setting → v ≡ placed_halves h now → setting ≡ Ok v
+halves_taken h old now setting v e k f = k.is ∙ ap (λ x. Ok x) (sym (f ∙ ap (placed_halves h) (k.stays ∙ ap (λ o. o ++ k.row) e)))

@@ -1,0 +1,77 @@
+//! The rows of a list between the two passes put on a stack of pieces.
+ghost use Rattle.std.specs.Prelude.{◌≡◌, ◌^◌, ◌++◌, IfOk, Ok, OnOk};
+ghost use Rattle.mt_box.specs.Rows.{AllMeasurable, piece_values};
+ghost use Rattle.mt_convert.specs.Halfway.{HalfFits, HalvesFit, halves_value};
+ghost use Rattle.mt_convert.specs.inner.Placed.{HalvesOn};
+ghost use Rattle.mt_convert.specs.inner.Put.{ArePut, IsPut};
+
+use crate::half::{Half, HalfList};
+use crate::halfway::Halfway;
+use crate::placed::{PlacedHalf, PlacedHalves, PlacedList};
+use mt_box::Row;
+use mt_pieces::Pieces;
+use mt_scaled::Length;
+use std::alloc::{AllocError, Global};
+
+// The items of the list, whose pieces come behind the others.
+pub(crate) fn put_halfway(
+    alloc: Global,
+    pieces: &mut Pieces,
+    half: Halfway,
+) -> Result<PlacedHalves, AllocError>
+    ensures { IfOk result (λ h. HalvesOn h pieces.old pieces.new (Ok (halves_value half))) }
+{
+    let items = put_items(alloc, pieces, half.items)?;
+    Ok(PlacedHalves {
+        items: PlacedList::from_vec(items),
+        height: Length { sp: half.height },
+        depth: Length { sp: half.depth },
+    })
+}
+
+fn put_items(
+    alloc: Global,
+    pieces: &mut Pieces,
+    items: HalfList,
+) -> Result<Vec<PlacedHalf>, AllocError>
+    requires { HalvesFit (2 ^ 16) items }
+    ensures { IfOk result (λ hs. ArePut hs.items items pieces.old pieces.new) }
+{
+    let mut placed = Vec::with_capacity(alloc, items.len())?;
+    for item in items.into_vec() {
+        let half = put_item(pieces, item)?;
+        placed.push(half)?;
+    }
+    Ok(placed)
+}
+
+// An item; the pieces of its row come behind the others.
+fn put_item(pieces: &mut Pieces, item: Half) -> Result<PlacedHalf, AllocError>
+    requires { HalfFits (2 ^ 16) item }
+    ensures { IfOk result (λ h. IsPut h item pieces.old pieces.new) }
+{
+    match item {
+        Half::Set { class, row } => {
+            let count = row.len();
+            put_row(pieces, row)?;
+            Ok(PlacedHalf::Set { class, count })
+        }
+        Half::Left(delim) => Ok(PlacedHalf::Left(delim)),
+        Half::Middle(delim) => Ok(PlacedHalf::Middle(delim)),
+        Half::Right(delim) => Ok(PlacedHalf::Right(delim)),
+        Half::Style(style) => Ok(PlacedHalf::Style(style)),
+        Half::Kern(amount) => Ok(PlacedHalf::Kern(amount)),
+        Half::Space(glue) => Ok(PlacedHalf::Space(glue)),
+    }
+}
+
+// The pieces of a row behind the others.
+fn put_row(pieces: &mut Pieces, row: Row) -> Result<(), AllocError>
+    requires { AllMeasurable row }
+    ensures { OnOk result (pieces.new ≡ pieces.old ++ piece_values row) }
+{
+    for piece in row.into_vec() {
+        pieces.put_piece(piece)?;
+    }
+    Ok(())
+}

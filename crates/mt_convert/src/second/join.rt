@@ -1,0 +1,134 @@
+//! The second pass in place: the pieces of the items become the row of the list.
+ghost use Rattle.std.specs.Prelude.{◌≡◌, ◌≤◌, ◌^◌, List, None, OnOk, drop, length, take};
+ghost use Rattle.mt_scaled.specs.Number.{Within};
+ghost use Rattle.mt_box.specs.Rows.{PieceValue};
+ghost use Rattle.mt_convert.specs.Current.{opening};
+ghost use Rattle.mt_convert.specs.Halfway.{AllMeet};
+ghost use Rattle.mt_convert.specs.SecondPass.{all_pieces, current_after_half, row_of_halves};
+ghost use Rattle.mt_convert.specs.SecondPass.{second_pass_of, style_after_half};
+ghost use Rattle.mt_convert.specs.inner.LoneAtoms.{is_lone_atom};
+ghost use Rattle.mt_convert.specs.inner.OnPieces.{SetsRowOn};
+ghost use Rattle.mt_convert.specs.inner.Placed.{IsPlaced, PlacesIn, placed_halves, placed_value, placed_values};
+
+use crate::SetFault;
+use crate::flat::current::Current;
+use crate::placed::{PlacedHalf, PlacedHalves};
+use crate::second::boundary::{BoundaryFrame, boundary_frame};
+use crate::second::pieces::put_half;
+use crate::set::row::tested;
+use mt_family::FontSet;
+use mt_pieces::Pieces;
+use mt_rules::Style;
+
+// The pieces from number `first` on, which are those of these items, become the row of the list, tested.
+pub(crate) fn join_on(
+    pieces: &mut Pieces,
+    fonts: &FontSet,
+    style: Style,
+    first: usize,
+    halves: PlacedHalves,
+) -> Result<(), SetFault>
+    requires first { first ≤ length pieces.old }
+    requires placed { IsPlaced halves (drop first pieces.old) }
+    ensures is { SetsRowOn result (take first pieces.old) pieces.new
+        (second_pass_of fonts.now style (placed_halves halves (drop first pieces.old))) }
+    ensures few { OnOk result (length (drop first pieces.new) ≤ 2 ^ 21) }
+{
+    let frame = boundary_frame(fonts, style, halves.height, halves.depth);
+    join_rows(pieces, fonts, frame, style, first, halves.items.as_slice())
+}
+
+// The same where the wanted size of boundaries is found.
+fn join_rows(
+    pieces: &mut Pieces,
+    fonts: &FontSet,
+    frame: BoundaryFrame,
+    style: Style,
+    first: usize,
+    items: &[PlacedHalf],
+) -> Result<(), SetFault>
+    requires wanted { Within (2 ^ 40) frame.wanted.sp }
+    requires first { first ≤ length pieces.old }
+    requires placed { PlacesIn items.now (drop first pieces.old) }
+    ensures is { SetsRowOn result (take first pieces.old) pieces.new
+        (row_of_halves fonts.now frame.size frame.wanted.sp style (placed_values items.now (drop first pieces.old))) }
+    ensures few { OnOk result (length (drop first pieces.new) ≤ 2 ^ 21) }
+{
+    join_pieces(pieces, fonts, frame, style, first, items)?;
+    tested(pieces, first)
+}
+
+// The row, not tested. That of an atom alone stays as it is.
+fn join_pieces(
+    pieces: &mut Pieces,
+    fonts: &FontSet,
+    frame: BoundaryFrame,
+    style: Style,
+    first: usize,
+    items: &[PlacedHalf],
+) -> Result<(), SetFault>
+    requires wanted { Within (2 ^ 40) frame.wanted.sp }
+    requires first { first ≤ length pieces.old }
+    requires placed { PlacesIn items.now (drop first pieces.old) }
+    ensures { SetsRowOn result (take first pieces.old) pieces.new
+        (all_pieces fonts.now frame.size frame.wanted.sp (opening style) (placed_values items.now (drop first pieces.old))) }
+{
+    if is_lone_atom(items) {
+        return Ok(());
+    }
+    let count = pieces.len() - first;
+    put_halves(pieces, fonts, frame, style, first, items)?;
+    pieces.remove(first, count);
+    Ok(())
+}
+
+fn is_lone_atom(items: &[PlacedHalf]) -> bool
+    ensures { result ≡ is_lone_atom items.now }
+{
+    matches!(items, [PlacedHalf::Set { .. }])
+}
+
+// The row behind the pieces of the items, which begin with number `first` and stay.
+fn put_halves(
+    pieces: &mut Pieces,
+    fonts: &FontSet,
+    frame: BoundaryFrame,
+    style: Style,
+    first: usize,
+    items: &[PlacedHalf],
+) -> Result<(), SetFault>
+    requires wanted { Within (2 ^ 40) frame.wanted.sp }
+    requires first { first ≤ length pieces.old }
+    requires placed { PlacesIn items.now (drop first pieces.old) }
+    ensures { SetsRowOn result pieces.old pieces.new
+        (all_pieces fonts.now frame.size frame.wanted.sp (opening style) (placed_values items.now (drop first pieces.old))) }
+{
+    let mut from = pieces.place_of(first);
+    let mut current = Current::opening(style);
+    for item in items {
+        from = put_half(pieces, fonts, frame, current, *item, from)?;
+        current = after_half(current, *item);
+    }
+    Ok(())
+}
+
+// Where a list has come to after an item.
+fn after_half(current: Current, half: PlacedHalf) -> Current
+    ensures { (row : List PieceValue) → result ≡ current_after_half current (placed_value half row) }
+{
+    Current {
+        initial: current.initial,
+        style: style_after_half(current.initial, current.style, half),
+        last: half.class_to_right().or(current.last),
+    }
+}
+
+fn style_after_half(initial: Style, style: Style, half: PlacedHalf) -> Style
+    ensures { (row : List PieceValue) → result ≡ style_after_half initial style (placed_value half row) }
+{
+    match half {
+        PlacedHalf::Style(next) => next,
+        PlacedHalf::Middle(_) => initial,
+        _ => style,
+    }
+}
