@@ -1,6 +1,5 @@
 -- The levels of boxes of cells.
-use Rattle.std.proofs.Common.{◌≤◌, ◌<◌, ◌+◌, ◌^◌, List, [], ◌∷◌, arith}
-use Rattle.std.specs.Prelude.{All}
+use Rattle.std.proofs.Common.{◌≤◌, ◌<◌, ◌+◌, ◌^◌, List, [], ◌∷◌, arith, All}
 use Rattle.std.proofs.lemmas.List.Elements.{All-head, All-tail}
 use Rattle.mt_box.specs.Layout.{BoxValue}
 use Rattle.mt_align.specs.Cells.{boxes_level, table_level}

@@ -1,11 +1,10 @@
 -- The widths of columns, as rows are gone through from the last to the first.
-use Rattle.std.proofs.Common.{◌≡◌, ℕ, suc, false, ◌≤◌, ◌<◌, ◌+◌, ◌-◌, ◌*◌, ◌^◌, max, List, [], ◌∷◌, ◌++◌, length, map, take, drop, get_or, set, ℤ, pos, ◌+ℤ◌, ◌-ℤ◌, refl, arith, add-one, append_assoc, length-append, sym, ◌∙◌, ap, subst, w64, to_z, of_z}
+use Rattle.std.proofs.Common.{◌≡◌, ℕ, suc, false, ◌≤◌, ◌<◌, ◌+◌, ◌-◌, ◌*◌, ◌^◌, max, List, [], ◌∷◌, ◌++◌, length, map, take, drop, get_or, set, ℤ, pos, ◌+ℤ◌, ◌-ℤ◌, refl, arith, add-one, append_assoc, length-append, sym, ◌∙◌, ap, subst, w64, to_z, of_z, All, ◌==◌}
 use Rattle.std.proofs.lemmas.Int.{ints, clamps}
 use Rattle.std.proofs.lemmas.List.{take-append-drop, take-set, drop-set, length-drop, length-take-le}
 use Rattle.std.proofs.lemmas.List.Elements.{All-nil, All-cons, All-head, All-tail, All-drop, All-get_or}
 use Rattle.std.proofs.lemmas.Bool.{false≢true}
 use Rattle.std.specs.Int.{int_max}
-use Rattle.std.specs.Prelude.{All, ◌==◌}
 use Rattle.mt_scaled.specs.Number.{Within, max_dimen}
 use Rattle.mt_box.specs.declared.extents.Extents.{Extents}
 use Rattle.mt_box.specs.Layout.{Layout}

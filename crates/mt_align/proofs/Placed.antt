@@ -1,9 +1,8 @@
 -- The layouts of a table's cells that became one, and where they stand then.
-use Rattle.std.proofs.Common.{◌≡◌, ℕ, suc, ◌≤◌, ◌+◌, List, [], ◌∷◌, ◌++◌, length, map, ℤ, pos, ◌+ℤ◌, ◌-ℤ◌, Option, Some, refl, arith, append_assoc, sym, ◌∙◌, ap}
+use Rattle.std.proofs.Common.{◌≡◌, ℕ, suc, ◌≤◌, ◌+◌, List, [], ◌∷◌, ◌++◌, length, map, ℤ, pos, ◌+ℤ◌, ◌-ℤ◌, Option, Some, refl, arith, append_assoc, sym, ◌∙◌, ap, All}
 use Rattle.std.proofs.lemmas.Int.{ints, clamps}
 use Rattle.std.proofs.lemmas.List.Elements.{All-nil, All-cons, All-head, All-tail}
 use Rattle.std.specs.Int.{int_max}
-use Rattle.std.specs.Prelude.{All}
 use Rattle.mt_scaled.specs.Number.{Within, max_dimen}
 use Rattle.mt_box.specs.declared.extents.Extents.{Extents}
 use Rattle.mt_box.specs.declared.place.Place.{Place}

@@ -1,10 +1,9 @@
 -- The rows of a table one below another, gone through downward.
-use Rattle.std.proofs.Common.{◌≡◌, ℕ, ◌≤◌, ◌+◌, ◌-◌, ◌*◌, ◌^◌, List, [], ◌∷◌, ◌++◌, length, map, ℤ, pos, ◌+ℤ◌, ◌≤ℤ◌, Option, Some, refl, arith, append_assoc, sym, ◌∙◌, ap, subst, w64, to_z, of_z}
+use Rattle.std.proofs.Common.{◌≡◌, ℕ, ◌≤◌, ◌+◌, ◌-◌, ◌*◌, ◌^◌, List, [], ◌∷◌, ◌++◌, length, map, ℤ, pos, ◌+ℤ◌, ◌≤ℤ◌, Option, Some, refl, arith, append_assoc, sym, ◌∙◌, ap, subst, w64, to_z, of_z, All}
 use Rattle.std.proofs.lemmas.Int.{ints, clamps}
 use Rattle.std.proofs.lemmas.List.Elements.{All-push}
 use Rattle.std.specs.Int.{int_max}
 use Rattle.std.specs.Option.{ForSome}
-use Rattle.std.specs.Prelude.{All}
 use Rattle.mt_scaled.specs.Number.{Within, max_dimen}
 use Rattle.mt_scaled.specs.declared.length.Length.{Length}
 use Rattle.mt_box.specs.declared.extents.Extents.{Extents}

@@ -1,11 +1,10 @@
 -- The layouts of both looks.
-use Rattle.std.proofs.Common.{◌≡◌, ℕ, ◌≤◌, ◌+◌, ◌^◌, List, [], ◌∷◌, ◌++◌, length, get_or, ℤ, pos, ◌+ℤ◌, ◌-ℤ◌, ◌≤ℤ◌, Some, None, Bool, true, false, refl, arith, w64, to_z, of_z, sym, ◌∙◌, ap, subst}
+use Rattle.std.proofs.Common.{◌≡◌, ℕ, ◌≤◌, ◌+◌, ◌^◌, List, [], ◌∷◌, ◌++◌, length, get_or, ℤ, pos, ◌+ℤ◌, ◌-ℤ◌, ◌≤ℤ◌, Some, None, Bool, true, false, refl, arith, w64, to_z, of_z, sym, ◌∙◌, ap, subst, Result, Ok, Err, OnOk, All}
 use Rattle.std.proofs.lemmas.Int.{ints, clamps}
 use Rattle.std.proofs.lemmas.Bool.{false≢true}
 use Rattle.std.proofs.lemmas.List.Elements.{All-head, All-tail}
 use Rattle.std.proofs.lemmas.Result.{on_ok_weaker}
 use Rattle.std.specs.Int.{int_max}
-use Rattle.std.specs.Prelude.{Result, Ok, Err, OnOk, All}
 use Rattle.mt_scaled.specs.Number.{Within, max_dimen, half_of, is_in_range}
 use Rattle.mt_scaled.proofs.Products.{kept}
 use Rattle.mt_family.specs.declared.size.Size.{Size}

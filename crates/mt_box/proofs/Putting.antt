@@ -1,6 +1,5 @@
 -- How far places are put after others.
-use Rattle.std.proofs.Common.{◌≡◌, ℕ, ◌≤◌, ◌-◌, List, [], ◌∷◌, ◌++◌, length, refl, arith, append_assoc, length-append, sym, ◌∙◌, ap, Option, Some, None}
-use Rattle.std.specs.Prelude.{Err}
+use Rattle.std.proofs.Common.{◌≡◌, ℕ, ◌≤◌, ◌-◌, List, [], ◌∷◌, ◌++◌, length, refl, arith, append_assoc, length-append, sym, ◌∙◌, ap, Option, Some, None, Err}
 use Rattle.mt_box.specs.declared.place.Place.{Place}
 use Rattle.mt_box.specs.declared.error.PlaceError.{PlaceError}
 use Rattle.mt_box.specs.declared.error.PlaceError.TheVariants.{OutOfRange, TooMany, OutOfMemory}

@@ -10,5 +10,5 @@ pub mod Centred
 pub mod RowSums
 -- rows of layouts and gaps
 pub mod RowLayers
--- a run of them copied
+-- a run of them copied, and one of them read
 pub mod CopiedRuns

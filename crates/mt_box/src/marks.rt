@@ -7,7 +7,9 @@ mod stack;
 mod starts;
 
 pub use centring::recentre_layer;
-pub use moves::Move;
+pub use moves::{Move, cut};
 pub(crate) use row::RowReach;
-pub use row::{RowPart, RowPiece, pack_parts, pack_parts_to, parts_extents};
+pub use row::{
+    RowPart, RowPiece, extents_beside, pack_parts, pack_parts_to, parts_extents, parts_shrink,
+};
 pub use stack::Marks;

@@ -1,11 +1,11 @@
 //! The nodes of a box.
 
-/// The number of a node among the nodes of its box, counted from 0. The number of all nodes stands
-/// for their end.
+/// The number of a node among the nodes of its box, counted from 0. The number of all nodes is
+/// their end.
 #[derive(Clone, Copy, Debug, PartialEq, Eq)]
 pub struct NodeId(pub usize);
 
-/// What stands at a node. All numbers but the font, the code and the count are scaled points.
+/// What is at a node. All numbers but the font, the code and the count are scaled points.
 #[derive(Clone, Copy, Debug, PartialEq, Eq)]
 pub enum Mark {
     /// Nothing: the node holds others together.

@@ -1,6 +1,5 @@
 -- The symbol of an accent is found, and what the call answers by its character.
-use Rattle.std.proofs.Common.{◌≡◌, ℕ, ℤ, List, refl, sym, ◌∙◌, ap, subst, Some, Bool, true, false, if◌then◌else◌, slice_get, unwrap_or, ◌^◌, w64, to_z, of_z, lit<}
-use Rattle.std.specs.Prelude.{Result, Ok, Err, IsOk, IsTrue}
+use Rattle.std.proofs.Common.{◌≡◌, ℕ, ℤ, List, refl, sym, ◌∙◌, ap, subst, Some, Bool, true, false, if◌then◌else◌, slice_get, unwrap_or, ◌^◌, w64, to_z, of_z, lit<, Result, Ok, Err, IsOk, IsTrue}
 use Rattle.mt_scaled.specs.Number.{Within}
 use Rattle.mt_scaled.proofs.Products.{kept}
 use Rattle.mt_tfm.specs.Font.{Metrics, exists}

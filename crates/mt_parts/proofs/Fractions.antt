@@ -1,8 +1,6 @@
 -- Fractions on marks: numerator and denominator in the middle of one width.
-use Rattle.std.proofs.Common.{◌≡◌, List, ℤ, pos, ◌∙◌, ap, subst, if◌then◌else◌}
-use Rattle.std.specs.Prelude.{Result}
+use Rattle.std.proofs.Common.{◌≡◌, List, ℤ, pos, ◌∙◌, ap, subst, if◌then◌else◌, Result, int_eq}
 use Rattle.std.specs.Int.{int_max}
-use Rattle.std.specs.Ordering.{int_eq}
 use Rattle.mt_family.specs.SetValue.{SetValue}
 use Rattle.mt_box.specs.declared.place.Place.{Place}
 use Rattle.mt_box.specs.declared.extents.Extents.{Extents}

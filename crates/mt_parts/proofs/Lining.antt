@@ -1,10 +1,8 @@
 -- Lines one below another on marks.
-use Rattle.std.proofs.Common.{◌≡◌, ℕ, zero, suc, ◌≤◌, ◌<◌, ◌+◌, ◌-◌, ◌*◌, ◌^◌, List, [], ◌∷◌, ◌++◌, length, drop, drop-cons, length-drop, get_or, ℤ, pos, ◌+ℤ◌, ◌-ℤ◌, None, refl, arith, append_assoc, sym, ◌∙◌, ap, subst, Bool, true, false, if◌then◌else◌, w64, to_z, of_z, lit<}
+use Rattle.std.proofs.Common.{◌≡◌, ℕ, zero, suc, ◌≤◌, ◌<◌, ◌+◌, ◌-◌, ◌*◌, ◌^◌, List, [], ◌∷◌, ◌++◌, length, drop, drop-cons, length-drop, get_or, ℤ, pos, ◌+ℤ◌, ◌-ℤ◌, None, refl, arith, append_assoc, sym, ◌∙◌, ap, subst, Bool, true, false, if◌then◌else◌, w64, to_z, of_z, lit<, Result, Ok, All, int_lt, append-nil}
 use Rattle.std.proofs.lemmas.Int.{ints}
-use Rattle.std.proofs.lemmas.List.{append-nil}
 use Rattle.std.proofs.lemmas.List.Elements.{All-head, All-tail, All-drop, All-get_or}
 use Rattle.std.specs.Int.{int_max}
-use Rattle.std.specs.Prelude.{Result, Ok, All, int_lt}
 use Rattle.mt_scaled.specs.Number.{Within, max_dimen, half_of}
 use Rattle.mt_scaled.proofs.Products.{kept}
 use Rattle.mt_family.specs.declared.size.Size.{Size}

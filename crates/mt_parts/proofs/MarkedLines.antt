@@ -1,8 +1,7 @@
 -- A rule over a body and under it, on marks.
-use Rattle.std.proofs.Common.{◌≡◌, List, ℤ, pos, ◌+ℤ◌, ◌*ℤ◌, ◌++◌, refl, arith, ap, subst}
+use Rattle.std.proofs.Common.{◌≡◌, List, ℤ, pos, ◌+ℤ◌, ◌*ℤ◌, ◌++◌, refl, arith, ap, subst, Result}
 use Rattle.std.proofs.lemmas.Int.{ints}
 use Rattle.std.specs.Int.{int_max}
-use Rattle.std.specs.Prelude.{Result}
 use Rattle.mt_family.specs.SetValue.{SetValue}
 use Rattle.mt_family.specs.declared.size.Size.{Size}
 use Rattle.mt_box.specs.declared.place.Place.{Place}

@@ -1,6 +1,5 @@
 -- A radical with its degree: the test of its two kerns.
-use Rattle.std.proofs.Common.{◌≡◌, pos, negsuc, List, ◌∙◌}
-use Rattle.std.specs.Prelude.{Result, Ok, Err, IsErrAnd}
+use Rattle.std.proofs.Common.{◌≡◌, pos, negsuc, List, ◌∙◌, Result, Ok, Err, IsErrAnd}
 use Rattle.mt_family.specs.SetValue.{SetValue}
 use Rattle.mt_box.specs.declared.place.Place.{Place}
 use Rattle.mt_box.specs.declared.extents.Extents.{Extents}

@@ -1,6 +1,5 @@
 -- Along the next larger characters of an accent.
-use Rattle.std.proofs.Common.{◌≡◌, ℕ, zero, suc, ◌<◌, ◌+◌, ◌-◌, ℤ, refl, arith, sym, ◌∙◌, ap, Option, Some, None, true, false}
-use Rattle.std.specs.Prelude.{◌&&◌, int_le, if◌then◌else◌, Bool, IsTrue}
+use Rattle.std.proofs.Common.{◌≡◌, ℕ, zero, suc, ◌<◌, ◌+◌, ◌-◌, ℤ, refl, arith, sym, ◌∙◌, ap, Option, Some, None, true, false, ◌&&◌, int_le, if◌then◌else◌, Bool, IsTrue}
 use Rattle.mt_tfm.specs.Font.{Metrics, exists, width_of, larger_of}
 use Rattle.mt_rules.specs.Accents.{widest_within, accent_code}
 

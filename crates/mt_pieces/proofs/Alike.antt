@@ -4,11 +4,11 @@ use Rattle.std.proofs.lemmas.List.{drop-map, map-append, reverse-append, reverse
 use Rattle.mt_box.specs.declared.place.Place.{Place}
 use Rattle.mt_box.specs.declared.marks.row.RowPart.{RowPart}
 use Rattle.mt_box.specs.declared.marks.row.RowPart.TheVariants as part
-use Rattle.mt_box.specs.Rows.{PieceValue, piece_shrink}
+use Rattle.mt_box.specs.Rows.{PieceValue, begins_with_space_piece, is_space_piece, piece_shrink}
 use Rattle.mt_box.specs.marks.Layers.{top}
 use Rattle.mt_box.specs.marks.RowParts.{part_shrink}
 use Rattle.mt_rules.specs.Scripts.{begins_with_glyph, is_glyph}
-use Rattle.mt_pieces.specs.inner.LastParts.{is_glyph_first}
+use Rattle.mt_pieces.specs.inner.LastParts.{is_glyph_first, is_space_first}
 use Rattle.mt_pieces.specs.inner.View.{piece_of, pieces_back, under}
 
 alike : {X : Type 0} → (f : PieceValue → X) (g : RowPart → X) → ((p : RowPart) (l : List Place) → f (piece_of p l) ≡ g p) → (ps : List RowPart) (ls : List (List Place)) → map f (pieces_back ps ls) ≡ map g (reverse ps)
@@ -60,3 +60,27 @@ first_part (part.Space w s ∷ ps) = refl
 
 pub glyph_alike : (ps : List RowPart) (n : ℕ) (ls : List (List Place)) (now : List PieceValue) → pieces_back (reverse ps) ls ≡ now → is_glyph_first (drop n ps) ≡ begins_with_glyph (drop n now)
 glyph_alike ps n ls now e = first_part (drop n ps) ∙ (ap first_true (sym (alike_from is_glyph is_glyph_part glyph_told ps n ls now e)) ∙ sym (first_piece (drop n now)))
+
+-- the first part is a space
+abbrev is_space_part : RowPart → Bool
+is_space_part p = is_space_first (p ∷ [])
+
+space_told : (p : RowPart) (l : List Place) → is_space_piece (piece_of p l) ≡ is_space_part p
+space_told (part.Glyph f c e) l = refl
+space_told (part.Layout p) l = refl
+space_told (part.Gap w) l = refl
+space_told (part.Space w s) l = refl
+
+first_space_piece : (ms : List PieceValue) → begins_with_space_piece ms ≡ first_true (map is_space_piece ms)
+first_space_piece [] = refl
+first_space_piece (m ∷ ms) = refl
+
+first_space : (ps : List RowPart) → is_space_first ps ≡ first_true (map is_space_part ps)
+first_space [] = refl
+first_space (part.Glyph f c e ∷ ps) = refl
+first_space (part.Layout p ∷ ps) = refl
+first_space (part.Gap w ∷ ps) = refl
+first_space (part.Space w s ∷ ps) = refl
+
+pub space_alike : (ps : List RowPart) (n : ℕ) (ls : List (List Place)) (now : List PieceValue) → pieces_back (reverse ps) ls ≡ now → is_space_first (drop n ps) ≡ begins_with_space_piece (drop n now)
+space_alike ps n ls now e = first_space (drop n ps) ∙ (ap first_true (sym (alike_from is_space_piece is_space_part space_told ps n ls now e)) ∙ sym (first_space_piece (drop n now)))

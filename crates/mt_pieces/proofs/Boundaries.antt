@@ -1,15 +1,13 @@
 -- A delimiter raised onto the axis.
 use Rattle.std.specs.Prelude.{⊤}
-use Rattle.std.proofs.Common.{◌≡◌, ℤ, ◌-ℤ◌, pos, List, [], ◌∷◌, ◌++◌, Result, Ok, Err, sym, ◌∙◌, ap}
-use Rattle.mt_scaled.specs.Number.{half_of}
+use Rattle.std.proofs.Common.{◌≡◌, ℤ, pos, List, [], ◌∷◌, ◌++◌, Result, Ok, Err, sym, ap}
 use Rattle.mt_family.specs.declared.size.Size.{Size}
 use Rattle.mt_family.specs.SetValue.{SetValue}
-use Rattle.mt_box.specs.declared.extents.Extents.{Extents}
 use Rattle.mt_box.specs.Layout.{Layout}
 use Rattle.mt_box.specs.Rows.{PieceValue, PieceBox}
 use Rattle.mt_rules.specs.declared.part_error.PartError.{PartError}
 use Rattle.mt_rules.specs.declared.part_error.PartError.TheVariants.{Overflow as PartOverflow, TooTall as PartTooTall, OutOfMemory as NoPartMemory}
-use Rattle.mt_rules.specs.Parameters.{axis_height}
+use Rattle.mt_rules.specs.Delimiters.{piece_on_axis}
 use Rattle.mt_rules.specs.Setting.{Setting, SettingFault}
 use Rattle.mt_pieces.specs.Putting.{boundary_on, boxed_on, SetsPieces}
 
@@ -27,12 +25,8 @@ boundary_fails fonts size rest mid new setting NoPartMemory h = tt
 same_ok : (a b : List PieceValue) → (let r : Setting (List PieceValue) = Ok a in r) ≡ Ok b → a ≡ b
 same_ok a b h = cc
 
-pub boundary_set : (fonts : SetValue) (size : Size) (rest mid new : List PieceValue) (setting : Setting Layout) (e : Extents) (by : ℤ) → boxed_on rest setting ≡ (let r : Setting (List PieceValue) = Ok mid in r)
-    → ((before : List PieceValue) (r : ℤ) (l : Layout) → mid ≡ before ++ PieceBox r l ∷ [] → e ≡ l.extents) → by ≡ axis_height fonts size -ℤ half_of (e.height -ℤ e.depth)
-    → ((before : List PieceValue) (r : ℤ) (l : Layout) → mid ≡ before ++ PieceBox r l ∷ [] → new ≡ before ++ PieceBox by l ∷ [])
-    → boundary_on fonts size rest setting ≡ (let r : Setting (List PieceValue) = Ok new in r)
-boundary_set fonts size rest mid new (Err f) e by h told raise raised = absurd (let z : ⊥ = cc in z)
-boundary_set fonts size rest mid new (Ok l) e by h told raise raised =
-    let m : mid ≡ rest ++ PieceBox (pos 0) l ∷ [] = sym (same_ok (rest ++ PieceBox (pos 0) l ∷ []) mid h) in
-    let by' : by ≡ axis_height fonts size -ℤ half_of (l.extents.height -ℤ l.extents.depth) = raise ∙ ap (λ (z : Extents). axis_height fonts size -ℤ half_of (z.height -ℤ z.depth)) (told rest (pos 0) l m) in
-    ap (λ (z : List PieceValue). (let r : Setting (List PieceValue) = Ok z in r)) (sym (raised rest (pos 0) l m ∙ ap (λ z. rest ++ PieceBox z l ∷ []) by'))
+pub boundary_set : (fonts : SetValue) (size : Size) (rest mid new : List PieceValue) (setting : Setting Layout) → boxed_on rest setting ≡ (let r : Setting (List PieceValue) = Ok mid in r)
+    → ((before : List PieceValue) (r : ℤ) (l : Layout) → mid ≡ before ++ PieceBox r l ∷ [] → new ≡ before ++ piece_on_axis fonts size l ∷ []) → boundary_on fonts size rest setting ≡ (let r : Setting (List PieceValue) = Ok new in r)
+boundary_set fonts size rest mid new (Err f) h raised = absurd (let z : ⊥ = cc in z)
+boundary_set fonts size rest mid new (Ok l) h raised =
+    ap (λ (z : List PieceValue). (let r : Setting (List PieceValue) = Ok z in r)) (sym (raised rest (pos 0) l (sym (same_ok (rest ++ PieceBox (pos 0) l ∷ []) mid h))))

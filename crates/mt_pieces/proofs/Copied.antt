@@ -1,5 +1,5 @@
 -- A run of pieces copied: its parts and its layers once more.
-use Rattle.std.proofs.Common.{◌≡◌, ℕ, ◌+◌, ◌-◌, ◌≤◌, min, List, [], ◌∷◌, ◌++◌, Result, Ok, Err, OnOk, OnErr, IsOk, length, reverse, take, drop, append_assoc, arith, sym, ◌∙◌, ap, subst}
+use Rattle.std.proofs.Common.{◌≡◌, ℕ, ◌+◌, ◌-◌, ◌≤◌, min, List, [], ◌∷◌, ◌++◌, Result, Ok, Err, OnOk, OnErr, IsOk, length, reverse, take, drop, append_assoc, arith, refl, sym, ◌∙◌, ap, subst}
 use Rattle.std.specs.Prelude.{⊤}
 use Rattle.std.specs.declared.alloc.AllocError.{AllocError}
 use Rattle.std.proofs.lemmas.List.{append-nil, length-drop, take_min, length-reverse, length-take-le, reverse-append, take-append-drop, take-take, drop-take}
@@ -137,6 +137,20 @@ after_run ps ls now at count end layers r p e = record {
   within = omega (arith, r.is);
   layer = rw (p.layer, e) (sym r.run.behind);
 }
+
+-- a run up to the place behind it
+pub record RunBetween (ps : List RowPart) (ls : List (List Place)) (now : List PieceValue) (at : PieceAt) (count : ℕ) (after : PieceAt) : Type 0 where
+  pub low : at.piece ≤ after.piece
+  pub high : after.piece ≤ length ps
+  pub run : RunOf ps ls now at.piece after.piece
+  pub same : take (after.piece - at.piece) (drop at.piece now) ≡ take count (drop at.piece now)
+  pub layers : after.layer ≡ at.layer + layer_count (take (after.piece - at.piece) (drop at.piece ps))
+
+pub run_between : (ps : List RowPart) (ls : List (List Place)) (now : List PieceValue) (at : PieceAt) (count : ℕ) (after : PieceAt) → AreLaid (reverse ps) ls → pieces_back (reverse ps) ls ≡ now → IsAt at now → IsAt after now → after.piece ≡ min (at.piece + count) (length now) → RunBetween ps ls now at count after
+run_between ps ls now at count after h v p q e =
+    let many : length ps ≡ length now = sym (sym (ap length v) ∙ (length_back (reverse ps) ls ∙ length-reverse ps)) in
+    let r = run_at ps ps ls now at count after.piece h v p refl (e ∙ ap (min (at.piece + count)) (sym many)) in
+    record { low = r.low; high = r.high; run = r.run; same = r.same; layers = q.layer ∙ (r.run.behind ∙ ap (λ n. n + layer_count (take (after.piece - at.piece) (drop at.piece ps))) (sym p.layer)) }
 
 -- with the run once more, or none after a fault
 pub run_laid : (r : Result ⊤ AllocError) (ps ps' qs : List RowPart) (ms ms' ls : List (List Place)) → OnOk r (ms' ≡ ms) → OnOk r (ps' ≡ qs) → OnErr r (ms' ≡ []) → OnErr r (ps' ≡ []) → OnOk r (ms ≡ ls) → AreLaid (reverse qs) ls → AreLaid (reverse ps') ms'

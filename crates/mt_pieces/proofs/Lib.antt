@@ -38,3 +38,11 @@ pub mod Placed
 pub mod Lined
 -- pieces taken one after another, from the last one
 pub mod Taking
+-- a piece that is a box, told by its place
+pub mod BoxAt
+-- a row put piece by piece
+pub mod RowPut
+-- a run of pieces put behind all others
+pub mod PutBehind
+-- what a call that packs tells of setting
+pub mod Packed

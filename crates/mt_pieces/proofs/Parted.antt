@@ -28,7 +28,7 @@ pub record IsSettled (made : Result Extents PartError) (r : Result ⊤ PartError
   pub no_marks : OnErr r (ms' ≡ [])
   pub no_parts : OnErr r (ps' ≡ [])
   pub fault : IfErr made (λ f. r ≡ Err f)
-  pub memory : IfOk made (λ e. OnErr r (r ≡ Err NoPartMemory))
+  pub memory : IfOk made (λ e. IfErr r (λ f. f ≡ NoPartMemory))
 
 -- ---- in place of the last box
 

@@ -45,11 +45,11 @@ settled_laid made (Err f) ps ps' ms ms' ls ok m q no_m no_q t range h = subst (�
 -- the pieces are what setting answers, or the fault is
 pub packed_settled : (made : Result Extents PackError) (r : Result ⊤ PackError) (ps ps' : List RowPart) (ms ms' ls : List (List Place)) (rest : List PieceValue) (setting : Setting Layout)
     → BoxSetsOn made (top ms) setting → OnOk made (ms ≡ top ms ∷ ls) → OnOk r (ms' ≡ ms) → IfOk made (λ e. OnOk r (ps' ≡ ps ++ box_part e ∷ []))
-    → IfErr made (λ f. r ≡ Err f) → IfOk made (λ e. OnErr r (r ≡ Err NoPackMemory)) → pieces_back (reverse ps) ls ≡ rest → PacksPieces r (pieces_back (reverse ps') ms') (boxed_on rest setting)
+    → IfErr made (λ f. r ≡ Err f) → IfOk made (λ e. IfErr r (λ f. f ≡ NoPackMemory)) → pieces_back (reverse ps) ls ≡ rest → PacksPieces r (pieces_back (reverse ps') ms') (boxed_on rest setting)
 packed_settled (Ok e) (Ok u) ps ps' ms ms' ls rest setting is t m q fault memory h =
     ap (boxed_on rest) is ∙ ap (λ (z : List PieceValue). (let r : Setting (List PieceValue) = Ok z in r)) (sym (box_view ps ps' ms ms' ls rest e t m q h))
 packed_settled (Ok e) (Err f) ps ps' ms ms' ls rest setting is t m q fault memory h =
-    subst (λ (z : Result ⊤ PackError). PacksPieces z (pieces_back (reverse ps') ms') (boxed_on rest setting)) (sym memory) tt
+    subst (λ (z : PackError). PacksPieces (let r : Result ⊤ PackError = Err z in r) (pieces_back (reverse ps') ms') (boxed_on rest setting)) (sym memory) tt
 packed_settled (Err (PackOverflow v)) r ps ps' ms ms' ls rest setting is t m q fault memory h =
     subst (λ (z : Result ⊤ PackError). PacksPieces z (pieces_back (reverse ps') ms') (boxed_on rest setting)) (sym fault) (ap (boxed_on rest) is)
 packed_settled (Err NoPackMemory) r ps ps' ms ms' ls rest setting is t m q fault memory h =
@@ -57,11 +57,11 @@ packed_settled (Err NoPackMemory) r ps ps' ms ms' ls rest setting is t m q fault
 
 pub part_settled : (made : Result Extents PartError) (r : Result ⊤ PartError) (ps ps' : List RowPart) (ms ms' ls : List (List Place)) (rest : List PieceValue) (setting : Setting Layout)
     → SetsOn made (top ms) setting → OnOk made (ms ≡ top ms ∷ ls) → OnOk r (ms' ≡ ms) → IfOk made (λ e. OnOk r (ps' ≡ ps ++ box_part e ∷ []))
-    → IfErr made (λ f. r ≡ Err f) → IfOk made (λ e. OnErr r (r ≡ Err NoPartMemory)) → pieces_back (reverse ps) ls ≡ rest → SetsPieces r (pieces_back (reverse ps') ms') (boxed_on rest setting)
+    → IfErr made (λ f. r ≡ Err f) → IfOk made (λ e. IfErr r (λ f. f ≡ NoPartMemory)) → pieces_back (reverse ps) ls ≡ rest → SetsPieces r (pieces_back (reverse ps') ms') (boxed_on rest setting)
 part_settled (Ok e) (Ok u) ps ps' ms ms' ls rest setting is t m q fault memory h =
     ap (boxed_on rest) is ∙ ap (λ (z : List PieceValue). (let r : Setting (List PieceValue) = Ok z in r)) (sym (box_view ps ps' ms ms' ls rest e t m q h))
 part_settled (Ok e) (Err f) ps ps' ms ms' ls rest setting is t m q fault memory h =
-    subst (λ (z : Result ⊤ PartError). SetsPieces z (pieces_back (reverse ps') ms') (boxed_on rest setting)) (sym memory) tt
+    subst (λ (z : PartError). SetsPieces (let r : Result ⊤ PartError = Err z in r) (pieces_back (reverse ps') ms') (boxed_on rest setting)) (sym memory) tt
 part_settled (Err (PartOverflow v)) r ps ps' ms ms' ls rest setting is t m q fault memory h =
     subst (λ (z : Result ⊤ PartError). SetsPieces z (pieces_back (reverse ps') ms') (boxed_on rest setting)) (sym fault) (ap (boxed_on rest) is)
 part_settled (Err (PartTooTall n)) r ps ps' ms ms' ls rest setting is t m q fault memory h =

@@ -4,6 +4,7 @@ use Rattle.std.proofs.lemmas.List.{append-nil, drop_all, drop_at, reverse-append
 use Rattle.mt_box.specs.declared.piece.Piece.{Piece}
 use Rattle.mt_box.specs.declared.piece.Piece.TheVariants as piece
 use Rattle.mt_box.specs.Rows.{PieceValue, piece_value, piece_values, AllMeasurable, AllModest, IsMeasurable, IsModest, level_of_piece, row_level}
+use Rattle.mt_pieces.specs.inner.Taken.{IsFirstLevel}
 
 -- what is left, and the row so far from its end
 pub record TakenSoFar (first : ℕ) (old now : List PieceValue) (row : List Piece) : Type 0 where
@@ -45,7 +46,13 @@ last_apart (m ∷ n ∷ ms) h =
     let a = last_apart (n ∷ ms) (omega arith) in
     record { rest = m ∷ a.rest; last = a.last; whole = ap (λ z. m ∷ z) a.whole }
 
-pub taking_step : (first : ℕ) (old now now' : List PieceValue) (row row' : List Piece) (p : Piece) (m : PieceValue) → TakenSoFar first old now row → first < length now → now ≡ now' ++ m ∷ [] → piece_value p ≡ m → IsModest p → level_of_piece p ≤ 1 → row' ≡ row ++ p ∷ []
+low_level : (p : Piece) → IsFirstLevel p → level_of_piece p ≤ 1
+low_level (piece.Glyph f c e) h = omega arith
+low_level (piece.Boxed r b) h = omega (arith, h)
+low_level (piece.Kern k) h = omega arith
+low_level (piece.Space w s) h = omega arith
+
+pub taking_step : (first : ℕ) (old now now' : List PieceValue) (row row' : List Piece) (p : Piece) (m : PieceValue) → TakenSoFar first old now row → first < length now → now ≡ now' ++ m ∷ [] → piece_value p ≡ m → IsModest p → IsFirstLevel p → row' ≡ row ++ p ∷ []
     → TakenSoFar first old now' row'
 taking_step first old now now' row row' p m h lt e same modest level more =
     let r : reverse (piece_values row') ≡ m ∷ reverse (piece_values row) =
@@ -53,7 +60,7 @@ taking_step first old now now' row row' p m h lt e same modest level more =
     record {
       whole = h.whole ∙ (ap (λ z. z ++ reverse (piece_values row)) e ∙ (append_assoc now' (m ∷ []) (reverse (piece_values row)) ∙ ap (λ z. now' ++ z) (sym r)));
       modest = subst AllModest (sym more) (modest_more row p h.modest modest);
-      levels = rw (more, level_more row p) (omega (arith, h.levels, level));
+      levels = rw (more, level_more row p) (omega (arith, h.levels, low_level p level));
       left = inl (omega (arith, lt, ap length e, length-append now' (m ∷ [])));
     }
 

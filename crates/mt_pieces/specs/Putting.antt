@@ -34,7 +34,7 @@ abbrev pub unraised_boxes : List Layout → List PieceValue
 unraised_boxes [] = []
 unraised_boxes (l ∷ ls) = PieceBox (pos 0) l ∷ unraised_boxes ls
 
--- the pieces are what setting answers, or the fault is the same; want of memory may come in place of both
+-- the pieces are what setting answers, or the fault is the same; that memory ran out may come in place of both
 abbrev pub SetsPieces : {U : Type 0} → Result U PartError → List PieceValue → Setting (List PieceValue) → Type 0
 SetsPieces (Ok u) pieces setting = setting ≡ Ok pieces
 SetsPieces (Err (PartOverflow value)) pieces setting = setting ≡ Err (Overflow value)

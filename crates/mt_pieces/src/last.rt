@@ -3,10 +3,10 @@ ghost use Rattle.std.specs.Prelude.{◌≡◌, ◌≤◌, ◌^◌, ◌-◌, [], 
 ghost use Rattle.mt_scaled.specs.Number.{Within};
 ghost use Rattle.mt_box.specs.Extents.{ExtentsInRange};
 ghost use Rattle.mt_box.specs.Layout.{Layout};
-ghost use Rattle.mt_box.specs.Rows.{PieceValue, PieceBox};
+ghost use Rattle.mt_box.specs.Rows.{PieceValue, PieceBox, begins_with_space_piece};
 ghost use Rattle.mt_rules.specs.OnMarks.{layout_with};
 ghost use Rattle.mt_rules.specs.Scripts.{begins_with_glyph};
-ghost use Rattle.mt_pieces.specs.inner.LastParts.{is_glyph_first, last_box, last_two};
+ghost use Rattle.mt_pieces.specs.inner.LastParts.{is_glyph_first, is_space_first, last_box, last_two};
 
 use crate::packing::parts_from;
 use crate::pieces::{NO_EXTENTS, Pieces};
@@ -30,6 +30,13 @@ impl Pieces {
         ensures { result ≡ begins_with_glyph (drop first self.now) }
     {
         is_glyph_first(parts_from(&self.parts, first))
+    }
+
+    /// Whether there is a piece number `first` and it is a space.
+    pub fn begins_with_space(&self, first: usize) -> bool
+        ensures { result ≡ begins_with_space_piece (drop first self.now) }
+    {
+        is_space_first(parts_from(&self.parts, first))
     }
 
     /// The last piece, where it is a box, raised above the baseline by so many scaled points, at most 2^40 in size.
@@ -59,6 +66,12 @@ fn is_glyph_first(parts: &[RowPart]) -> bool
     ensures { result ≡ is_glyph_first parts.now }
 {
     matches!(parts, [RowPart::Glyph { .. }, ..])
+}
+
+fn is_space_first(parts: &[RowPart]) -> bool
+    ensures { result ≡ is_space_first parts.now }
+{
+    matches!(parts, [RowPart::Space { .. }, ..])
 }
 
 // The last part, if it is a box.

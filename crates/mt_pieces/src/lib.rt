@@ -7,6 +7,7 @@ mod lines;
 mod packing;
 mod parts;
 mod pieces;
+mod placing;
 mod putting;
 mod rows;
 mod runs;

@@ -15,7 +15,7 @@ ghost use Rattle.mt_pieces.specs.Putting.{PacksPieces, boxed_on};
 ghost use Rattle.mt_pieces.specs.inner.Taken.{extents_if, layer_if};
 
 use crate::pieces::Pieces;
-use crate::putting::settle_packed;
+use crate::putting::settle;
 use crate::scripts::{Scripts, Taken, pop_box, take_scripts};
 use mt_box::{Extents, Marks, PackError, RowPart, RowPiece};
 use mt_family::{FontSet, Size};
@@ -46,11 +46,11 @@ impl Pieces {
         let nucleus = take_box(&mut self.marks, &mut self.parts)?;
         let made = limit_layers(&mut self.marks, fonts, size, nucleus, delta, taken);
         let keep = self.parts.len();
-        settle_packed(&mut self.marks, &mut self.parts, keep, made)
+        settle(&mut self.marks, &mut self.parts, keep, made)
     }
 }
 
-// The last part taken off. Where it is no box, this is refused with want of memory, and there are no parts and no layers.
+// The last part taken off. Where it is no box, the answer is that memory ran out, and there are no parts and no layers.
 fn take_box(marks: &mut Marks, parts: &mut Vec<RowPart>) -> Result<RowPiece, PackError>
     ensures parts { IfOk result (λ p. reverse parts.old.items ≡ RowPart.Layout p ∷ reverse parts.new.items) }
     ensures marks { OnOk result (marks.new ≡ marks.old) }

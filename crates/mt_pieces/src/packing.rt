@@ -3,7 +3,7 @@ ghost use Rattle.std.specs.Prelude.{◌≡◌, ◌≤◌, ◌≤ℤ◌, ◌^◌,
 ghost use Rattle.mt_scaled.specs.Number.{Within};
 ghost use Rattle.mt_box.specs.declared.place.Place.{Place};
 ghost use Rattle.mt_box.specs.Extents.{ExtentsInRange};
-ghost use Rattle.mt_box.specs.Rows.{PieceValue, piece_shrink, row_width, row_height, row_depth};
+ghost use Rattle.mt_box.specs.Rows.{PieceValue, piece_shrink, row_width, row_height, row_depth, row_shrink};
 ghost use Rattle.mt_box.specs.SetRows.{pack_to};
 ghost use Rattle.mt_box.specs.marks.Layers.{top};
 ghost use Rattle.mt_box.specs.marks.RowParts.{AreParts, AllNearParts, on_stack, part_shrink, part_width, parts_sum};
@@ -14,9 +14,10 @@ ghost use Rattle.mt_pieces.specs.Putting.{boxed_on, PacksPieces};
 ghost use Rattle.mt_pieces.specs.inner.LastParts.{is_lone_part};
 
 use crate::pieces::Pieces;
-use crate::putting::settle_packed;
+use crate::putting::settle;
 use mt_box::{
     Extents, Marks, PackError, RowPart, RowPiece, pack_parts, pack_parts_to, parts_extents,
+    parts_shrink,
 };
 use mt_rules::tested_extents;
 use mt_scaled::Length;
@@ -28,8 +29,18 @@ impl Pieces {
         ensures width { result.width ≡ row_width (drop first self.now) }
         ensures height { result.height ≡ row_height (drop first self.now) }
         ensures depth { result.depth ≡ row_depth (drop first self.now) }
+        ensures wide { Within (2 ^ 61) result.width }
     {
         parts_extents(parts_from(&self.parts, first))
+    }
+
+    /// By how much the spaces of the pieces from number `first` on may shrink together. These are at most 2^21.
+    pub fn shrink(&self, first: usize) -> Length
+        requires few { length (drop first self.now) ≤ 2 ^ 21 }
+        ensures is { result.sp ≡ row_shrink (drop first self.now) }
+        ensures small { Within (2 ^ 61) result.sp }
+    {
+        parts_shrink(parts_from(&self.parts, first))
     }
 
     /// The pieces from number `first` on, at most 2^21, packed: the box of their row comes in their place.
@@ -40,7 +51,7 @@ impl Pieces {
         ensures { PacksPieces result self.new (boxed_on (take first self.old) (pack_row (drop first self.old))) }
     {
         let made = pack_layers(&mut self.marks, parts_from(&self.parts, first));
-        settle_packed(&mut self.marks, &mut self.parts, first, made)
+        settle(&mut self.marks, &mut self.parts, first, made)
     }
 
     /// The pieces from number `first` on, at most 2^21, as a row set to a width that is at most its own, as by
@@ -55,7 +66,7 @@ impl Pieces {
             (boxed_on (take first self.old) (make_box (pack_to (drop first self.old) width.sp))) }
     {
         let made = set_layers(&mut self.marks, parts_from(&self.parts, first), width);
-        settle_packed(&mut self.marks, &mut self.parts, first, made)
+        settle(&mut self.marks, &mut self.parts, first, made)
     }
 
     /// The clean box of the pieces from number `first` on, at most 2^21 (tex.web §720): a lone box that is not raised

@@ -1,5 +1,5 @@
 //! Parts of formulas, which come in place of the last pieces.
-ghost use Rattle.std.specs.Prelude.{◌≡◌, ◌^◌, ◌-◌, [], ◌∷◌, ◌++◌, pos, length, take, List, ℕ, IfOk, IsOk, Ok, OnErr, OnOk};
+ghost use Rattle.std.specs.Prelude.{◌≡◌, ◌^◌, ◌-◌, [], ◌∷◌, ◌++◌, pos, length, take, List, ℕ, ℤ, IfOk, IsOk, Ok, OnErr, OnOk};
 ghost use Rattle.mt_scaled.specs.Number.{Within};
 ghost use Rattle.mt_box.specs.declared.place.Place.{Place};
 ghost use Rattle.mt_box.specs.Extents.{ExtentsInRange};
@@ -8,7 +8,7 @@ ghost use Rattle.mt_box.specs.Rows.{PieceValue, PieceBox};
 ghost use Rattle.mt_box.specs.marks.Layers.{top};
 ghost use Rattle.mt_rules.specs.Accents as accents;
 ghost use Rattle.mt_rules.specs.BigDelimiters.{big_delimiter};
-ghost use Rattle.mt_rules.specs.Delimiters.{delimiter};
+ghost use Rattle.mt_rules.specs.Delimiters.{delimiter, piece_on_axis};
 ghost use Rattle.mt_rules.specs.Fractions as fractions;
 ghost use Rattle.mt_rules.specs.Lines as lines;
 ghost use Rattle.mt_rules.specs.OnMarks.{SetsOn, layout_with};
@@ -67,12 +67,20 @@ impl Pieces {
     {
         match self.put_delimiter(fonts, d, size, wanted) {
             Ok(()) => {
-                let by = raise_of(fonts, size, self.last_extents());
-                self.raise_last(by);
+                self.raise_onto_axis(fonts, size);
                 Ok(())
             }
             Err(fault) => Err(fault),
         }
+    }
+
+    /// The last piece, where it is a box, raised so that the middle of its height and depth is on the axis.
+    pub fn raise_onto_axis(&mut self, fonts: &FontSet, size: Size)
+        ensures { (rest : List PieceValue) (raise : ℤ) (l : Layout) → self.old ≡ rest ++ PieceBox raise l ∷ []
+            → self.new ≡ rest ++ piece_on_axis fonts.now size l ∷ [] }
+    {
+        let by = raise_of(fonts, size, self.last_extents());
+        self.raise_last(by);
     }
 
     /// A delimiter of a fixed size after the others (plain TeX's \big, \Big, \bigg and \Bigg are the levels 0 to 3).

@@ -13,7 +13,7 @@ use std::marker::Model;
 
 /// Pieces one after another. Contracts see all of them, in their order.
 ///
-/// After a fault of a call there are no pieces.
+/// After a fault no clause says which pieces there are: those that the call has not touched, or none.
 #[derive(Drop)]
 pub struct Pieces {
     // a layer for each character and each box, the last one on top

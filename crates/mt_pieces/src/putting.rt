@@ -1,9 +1,8 @@
 //! Parts put after others, and in place of others.
-ghost use Rattle.std.specs.Prelude.{◌≡◌, [], ◌∷◌, ◌++◌, take, IsOk, IfErr, IfOk, OnOk, OnErr};
+ghost use Rattle.std.specs.Prelude.{◌≡◌, alloc_error, [], ◌∷◌, ◌++◌, take, IsOk, IfErr, IfOk, OnOk, OnErr};
 ghost use Rattle.mt_pieces.specs.inner.View.{box_part};
 
-use mt_box::{Extents, Marks, PackError, RowPart, RowPiece};
-use mt_rules::PartError;
+use mt_box::{Extents, Marks, RowPart, RowPiece};
 use std::alloc::AllocError;
 
 // A part more, whose layer was laid. After a fault there are no parts and no layers.
@@ -42,47 +41,19 @@ pub(crate) fn push_part(
 
 // The box that a call left on top of the layouts is the piece after the first `keep` ones. After a fault there are no
 // parts and no layers.
-pub(crate) fn settle(
+pub(crate) fn settle<E: From<AllocError>>(
     marks: &mut Marks,
     parts: &mut Vec<RowPart>,
     keep: usize,
-    made: Result<Extents, PartError>,
-) -> Result<(), PartError>
+    made: Result<Extents, E>,
+) -> Result<(), E>
     ensures ok { OnOk result (IsOk made) }
     ensures marks { OnOk result (marks.new ≡ marks.old) }
     ensures parts { IfOk made (λ e. OnOk result (parts.new.items ≡ take keep parts.old.items ++ box_part e ∷ [])) }
     ensures no_marks { OnErr result (marks.new ≡ []) }
     ensures no_parts { OnErr result (parts.new.items ≡ []) }
     ensures fault { IfErr made (λ fault. result ≡ Err fault) }
-    ensures memory { IfOk made (λ e. OnErr result (result ≡ Err PartError.OutOfMemory)) }
-{
-    match made {
-        Ok(extents) => {
-            put_box(marks, parts, keep, extents)?;
-            Ok(())
-        }
-        Err(fault) => {
-            marks.clear();
-            parts.clear();
-            Err(fault)
-        }
-    }
-}
-
-// The same where a row was packed.
-pub(crate) fn settle_packed(
-    marks: &mut Marks,
-    parts: &mut Vec<RowPart>,
-    keep: usize,
-    made: Result<Extents, PackError>,
-) -> Result<(), PackError>
-    ensures ok { OnOk result (IsOk made) }
-    ensures marks { OnOk result (marks.new ≡ marks.old) }
-    ensures parts { IfOk made (λ e. OnOk result (parts.new.items ≡ take keep parts.old.items ++ box_part e ∷ [])) }
-    ensures no_marks { OnErr result (marks.new ≡ []) }
-    ensures no_parts { OnErr result (parts.new.items ≡ []) }
-    ensures fault { IfErr made (λ fault. result ≡ Err fault) }
-    ensures memory { IfOk made (λ e. OnErr result (result ≡ Err PackError.OutOfMemory)) }
+    ensures memory { IfOk made (λ e. IfErr result (E.from_gives alloc_error)) }
 {
     match made {
         Ok(extents) => {

@@ -1,14 +1,16 @@
 //! Pieces of rows that are made of boxes, put and taken.
-ghost use Rattle.std.specs.Prelude.{◌≡◌, ◌≤◌, ◌++◌, ◌∷◌, [], length, reverse, take, drop, List, IfOk, OnOk};
-ghost use Rattle.mt_box.specs.Rows.{PieceValue, piece_value, piece_values, AllMeasurable, AllModest, IsMeasurable, IsModest, level_of_piece, row_level};
+ghost use Rattle.std.specs.Prelude.{◌≡◌, ◌≤◌, ◌++◌, ◌∷◌, [], length, pos, reverse, take, drop, List, ℤ, IfOk, OnOk};
+ghost use Rattle.mt_box.specs.Layout.{Layout, layout_of};
+ghost use Rattle.mt_box.specs.Rows.{PieceValue, PieceBox, piece_value, piece_values, AllMeasurable, AllModest, IsMeasurable, IsModest, row_level};
 ghost use Rattle.mt_box.specs.marks.Layers.{top};
 ghost use Rattle.mt_pieces.specs.inner.LastParts.{first_part};
+ghost use Rattle.mt_pieces.specs.inner.Taken.{IsFirstLevel};
 ghost use Rattle.mt_pieces.specs.inner.View.{piece_of, under, IsLaid};
 
 use crate::pieces::Pieces;
-use crate::putting::put_part;
+use crate::putting::{box_part, put_part};
 use crate::runs::has_layer;
-use mt_box::{Marks, Piece, Row, RowPart, part_of, push_piece};
+use mt_box::{Marks, Packed, Piece, Row, RowPart, part_of, push_piece};
 use std::alloc::{AllocError, Global};
 
 impl Pieces {
@@ -20,6 +22,45 @@ impl Pieces {
         let part = part_of(&piece);
         let laid = push_piece(&mut self.marks, &piece);
         put_part(&mut self.marks, &mut self.parts, laid, part)
+    }
+
+    /// The pieces of a row after the others, as by [`Pieces::put_piece`].
+    pub fn put_row(&mut self, row: Row) -> Result<(), AllocError>
+        requires { AllMeasurable row }
+        ensures { OnOk result (self.new ≡ self.old ++ piece_values row) }
+    {
+        for piece in row.into_vec() {
+            self.put_piece(piece)?;
+        }
+        Ok(())
+    }
+
+    /// A box after the others, not raised.
+    pub fn put_box(&mut self, body: &Packed) -> Result<(), AllocError>
+        ensures { OnOk result (self.new ≡ self.old ++ PieceBox (pos 0) (layout_of body.now) ∷ []) }
+    {
+        let part = box_part(body.extents());
+        let laid = self.marks.push_box(body);
+        put_part(&mut self.marks, &mut self.parts, laid, part)
+    }
+
+    /// The last piece, a box, which goes. The box is of level 1, and the raise of the piece is left out.
+    ///
+    /// Where the last piece is no box, this is refused.
+    pub fn take_box(&mut self, alloc: Global) -> Result<Packed, AllocError>
+        ensures is { (rest : List PieceValue) (raise : ℤ) (l : Layout) → self.old ≡ rest ++ PieceBox raise l ∷ []
+            → IfOk result (λ b. layout_of b ≡ l) }
+        ensures others { (rest : List PieceValue) (raise : ℤ) (l : Layout) → self.old ≡ rest ++ PieceBox raise l ∷ []
+            → OnOk result (self.new ≡ rest) }
+        ensures level { IfOk result (λ b. b.level ≡ 1) }
+    {
+        if self.len() == 0 {
+            return Err(AllocError);
+        }
+        match self.take_last(alloc)? {
+            Piece::Boxed { body, .. } => Ok(body),
+            _ => Err(AllocError),
+        }
     }
 
     /// The pieces from number `first` on, as a row of boxes of level 1. The others stay.
@@ -45,7 +86,7 @@ impl Pieces {
         ensures piece { (rest : List PieceValue) (m : PieceValue) → self.old ≡ rest ++ m ∷ [] → IfOk result (λ p. piece_value p ≡ m) }
         ensures others { (rest : List PieceValue) (m : PieceValue) → self.old ≡ rest ++ m ∷ [] → OnOk result (self.new ≡ rest) }
         ensures modest { IfOk result IsModest }
-        ensures level { IfOk result (λ p. level_of_piece p ≤ 1) }
+        ensures level { IfOk result IsFirstLevel }
     {
         let Some(part) = last_part(&self.parts) else {
             unreachable!();
@@ -72,7 +113,7 @@ fn taken(alloc: Global, marks: &Marks, part: RowPart) -> Result<Piece, AllocErro
     requires { IsLaid part marks.now }
     ensures is { IfOk result (λ p. piece_value p ≡ piece_of part (top marks.now)) }
     ensures modest { IfOk result IsModest }
-    ensures level { IfOk result (λ p. level_of_piece p ≤ 1) }
+    ensures level { IfOk result IsFirstLevel }
 {
     match part {
         RowPart::Glyph {

@@ -1,11 +1,12 @@
-//! Pieces copied and taken out.
-ghost use Rattle.std.specs.Prelude.{◌≡◌, ◌≤◌, ◌+◌, ◌-◌, [], ◌++◌, count_by, length, min, take, drop, IsOk, IfOk, OnErr, OnOk};
+//! Pieces copied, moved and taken out.
+ghost use Rattle.std.specs.Prelude.{◌≡◌, ◌≤◌, ◌+◌, ◌-◌, [], ◌++◌, count_by, length, min, take, drop, List, IsOk, IfOk, OnErr, OnOk};
+ghost use Rattle.mt_box.specs.Rows.{PieceValue};
 ghost use Rattle.mt_pieces.specs.Runs.{IsAt};
 ghost use Rattle.mt_pieces.specs.inner.LastParts.{has_layer};
 
 use crate::packing::parts_from;
 use crate::pieces::Pieces;
-use mt_box::{Marks, RowPart};
+use mt_box::{Marks, RowPart, cut};
 use std::alloc::AllocError;
 
 /// A place among pieces: that of a piece, or behind all of them.
@@ -31,6 +32,29 @@ impl Pieces {
         }
     }
 
+    /// The place behind the piece at this place, or behind all pieces.
+    pub fn place_after(&self, at: PieceAt) -> PieceAt
+        requires { IsAt at self.now }
+        ensures at { IsAt result self.now }
+        ensures piece { result.piece ≡ min (at.piece + 1) (length self.now) }
+    {
+        self.after_run(at, 1)
+    }
+
+    // The place behind so many pieces from this place on, or behind all of these.
+    fn after_run(&self, at: PieceAt, count: usize) -> PieceAt
+        requires { IsAt at self.now }
+        ensures at { IsAt result self.now }
+        ensures piece { result.piece ≡ min (at.piece + count) (length self.now) }
+    {
+        let end = end_of_run(&self.parts, at.piece, count);
+        let layers = count_layers(parts_between(&self.parts, at.piece, end));
+        PieceAt {
+            piece: end,
+            layer: at.layer + layers,
+        }
+    }
+
     /// Copies of so many pieces behind all others, in their order, the first of which is at this place. Where there are
     /// not so many from there on, of all of these. The answer is the place behind the pieces that were copied.
     ///
@@ -41,14 +65,31 @@ impl Pieces {
         ensures after { IfOk result (λ a. IsAt a self.new) }
         ensures piece { IfOk result (λ a. a.piece ≡ min (at.piece + count) (length self.old)) }
     {
-        let end = end_of_run(&self.parts, at.piece, count);
-        let layers = count_layers(parts_between(&self.parts, at.piece, end));
-        let laid = self.marks.copy_run(at.layer, layers);
-        put_run(&mut self.marks, &mut self.parts, laid, at.piece, end)?;
-        Ok(PieceAt {
-            piece: end,
-            layer: at.layer + layers,
-        })
+        let after = self.after_run(at, count);
+        let laid = self.marks.copy_run(at.layer, after.layer - at.layer);
+        put_run(
+            &mut self.marks,
+            &mut self.parts,
+            laid,
+            at.piece,
+            after.piece,
+        )?;
+        Ok(after)
+    }
+
+    /// So many pieces from number `first` on come behind all others, in their order. The answer is the number that the
+    /// first of them has then.
+    pub fn put_behind(&mut self, first: usize, count: usize) -> Result<usize, AllocError>
+        ensures pieces { (before moved after : List PieceValue) → self.old ≡ before ++ (moved ++ after) → length before ≡ first
+            → length moved ≡ count → OnOk result (self.new ≡ before ++ (after ++ moved)) }
+        ensures number { (before moved after : List PieceValue) → self.old ≡ before ++ (moved ++ after) → length before ≡ first
+            → length moved ≡ count → IfOk result (λ n. n ≡ length before + length after) }
+        ensures few { IfOk result (λ n. length (drop n self.new) ≤ count) }
+    {
+        let at = self.place_of(first);
+        self.copy_run(at, count)?;
+        self.remove(first, count);
+        Ok(self.len().saturating_sub(count))
     }
 
     /// Without so many pieces from number `first` on. This takes no memory.
@@ -131,15 +172,4 @@ fn push_run(
     laid?;
     parts.extend_from_within(start..end)?;
     Ok(())
-}
-
-// Without the parts from `start` on before `end`.
-fn cut(parts: &mut Vec<RowPart>, start: usize, end: usize)
-    requires start { start ≤ end }
-    requires end { end ≤ length parts.old.items }
-    ensures { parts.new.items ≡ take start parts.old.items ++ drop end parts.old.items }
-{
-    let len = parts.len();
-    parts.copy_within(end..len, start);
-    parts.truncate(len - (end - start));
 }

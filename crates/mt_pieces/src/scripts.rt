@@ -22,7 +22,7 @@ ghost use Rattle.mt_pieces.specs.inner.Taken.{AllKept, AttachesOn, StandsOn, ext
 use crate::packing::parts_from;
 use crate::pieces::Pieces;
 use crate::putting::push_part;
-use mt_box::{Extents, Marks, PackError, RowPart, RowPiece, parts_extents};
+use mt_box::{Extents, Marks, PackError, RowPart, RowPiece, extents_beside, parts_extents};
 use mt_family::FontSet;
 use mt_rules::{Style, tested_extents};
 use mt_scaled::Length;
@@ -40,7 +40,7 @@ pub struct Scripts {
 impl Pieces {
     /// The row of a nucleus, which are the pieces from number `first` on, with its scripts after it. After the nucleus
     /// come the boxes of the scripts that are there, the superscript first, and none of them is raised. `delta` is the
-    /// italic correction that the nucleus does not have, at most 2^40 in size: with both scripts the superscript stands
+    /// italic correction that the nucleus does not have, at most 2^40 in size: with both scripts the superscript is
     /// so far to the right. From `first` on there are at most 2^21 pieces.
     ///
     /// Refused with `Overflow` of the first extent out of range of what is made in this order: the superscript and the
@@ -75,8 +75,8 @@ pub(crate) struct Taken {
     pub(crate) sub: Option<RowPiece>,
 }
 
-// The boxes of the scripts that are there, taken off the parts. Where they are not there, this is refused with want of
-// memory, and there are no parts and no layers.
+// The boxes of the scripts that are there, taken off the parts. Where they are not there, the answer is that memory ran
+// out, and there are no parts and no layers.
 pub(crate) fn take_scripts(
     marks: &mut Marks,
     parts: &mut Vec<RowPart>,
@@ -248,52 +248,8 @@ fn reach_with(row: Extents, piece: Option<RowPiece>) -> Extents
 {
     match piece {
         None => row,
-        Some(piece) => reach_beside(row, piece),
+        Some(piece) => extents_beside(row, piece),
     }
-}
-
-#[tactic(auto, using(std::proofs::lemmas::Int::ints))]
-fn reach_beside(row: Extents, piece: RowPiece) -> Extents
-    requires wide { Within (2 ^ 61) row.width }
-    requires reach { ReachesWithin (2 ^ 41) row }
-    requires near { IsNear piece }
-    ensures width { result.width ≡ row.width +ℤ piece.extents.width }
-    ensures height { result.height ≡ int_max row.height (piece.extents.height +ℤ piece.raise) }
-    ensures depth { result.depth ≡ int_max row.depth (piece.extents.depth -ℤ piece.raise) }
-{
-    Extents {
-        width: row.width + piece.extents.width,
-        height: height_beside(row, piece).sp,
-        depth: depth_beside(row, piece).sp,
-    }
-}
-
-#[tactic(auto, using(std::proofs::lemmas::Int::ints, std::proofs::lemmas::Int::clamps))]
-fn height_beside(row: Extents, piece: RowPiece) -> Length
-    requires reach { Within (2 ^ 41) row.height }
-    requires near { IsNear piece }
-    ensures { result.sp ≡ int_max row.height (piece.extents.height +ℤ piece.raise) }
-{
-    let height = Length {
-        sp: piece.extents.height,
-    };
-    height
-        .plus(Length { sp: piece.raise })
-        .at_least(Length { sp: row.height })
-}
-
-#[tactic(auto, using(std::proofs::lemmas::Int::ints, std::proofs::lemmas::Int::clamps))]
-fn depth_beside(row: Extents, piece: RowPiece) -> Length
-    requires reach { Within (2 ^ 41) row.depth }
-    requires near { IsNear piece }
-    ensures { result.sp ≡ int_max row.depth (piece.extents.depth -ℤ piece.raise) }
-{
-    let depth = Length {
-        sp: piece.extents.depth,
-    };
-    depth
-        .minus(Length { sp: piece.raise })
-        .at_least(Length { sp: row.depth })
 }
 
 // The box that scripts were made, if there are any, after the parts. After a fault there are no parts and no layers.

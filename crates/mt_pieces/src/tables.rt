@@ -13,7 +13,7 @@ ghost use Rattle.mt_pieces.specs.inner.Cells.{AreBoxes, BoxesInRange, flat};
 
 use crate::packing::parts_from;
 use crate::pieces::Pieces;
-use crate::putting::settle_packed;
+use crate::putting::settle;
 use mt_align::{CellExtents, TableExtents, equations_on_marks, matrix_on_marks};
 use mt_box::{Extents, Marks, PackError, RowPart, RowPiece};
 use mt_family::{FontSet, Size};
@@ -43,7 +43,7 @@ impl Pieces {
     {
         let parts = parts_from(&self.parts, first);
         let made = matrix_layers(alloc, &mut self.marks, parts, fonts, size, strut, rows);
-        settle_packed(&mut self.marks, &mut self.parts, first, made)
+        settle(&mut self.marks, &mut self.parts, first, made)
     }
 
     /// The sides of equations from number `first` on become the equations, as by `align_equations` of mt_align. There are
@@ -66,7 +66,7 @@ impl Pieces {
     {
         let parts = parts_from(&self.parts, first);
         let made = equations_layers(alloc, &mut self.marks, parts, fonts, size, rows);
-        settle_packed(&mut self.marks, &mut self.parts, first, made)
+        settle(&mut self.marks, &mut self.parts, first, made)
     }
 }
 
@@ -118,7 +118,7 @@ fn equations_layers(
     equations_on_marks(alloc, marks, fonts, size, &cells)
 }
 
-// What the cells reach, row by row. Where the parts are no such cells, this is refused with want of memory.
+// What the cells reach, row by row. Where the parts are no such cells, the answer is that memory ran out.
 fn table_extents(
     alloc: Global,
     parts: &[RowPart],

@@ -1,7 +1,7 @@
 ghost use Rattle.std.specs.Prelude.{◌≡◌, length, IfOk};
 
 use crate::{Pieces, Space};
-use mt_box::{Extents, Piece, Place, places};
+use mt_box::{Extents, Piece, Place, PlaceError, glyph_box, places};
 use mt_scaled::Length;
 use std::alloc::{AllocError, Global};
 use std::test::Fail;
@@ -80,12 +80,53 @@ fn sets_a_row_to_a_width(rt: HostRuntime) -> Result<(), Fail> {
     })?;
     pieces.put_empty()?;
     assert!(rt; pieces.len() == 5);
-    assert!(rt; pieces.reach(0).width == 658360);
+    assert!(rt; pieces.reach(0).width == 658360 && pieces.shrink(1).sp == 2000);
+    assert!(rt; pieces.begins_with_space(3) && !pieces.begins_with_space(4));
     pieces.clean(0).expect(&rt, "a box");
     pieces.raise_last(Length { sp: 5 });
     assert!(rt; pieces.len() == 1);
     assert!(rt; pieces.reach(0).height == 327685);
     pieces.clear();
     assert_eq!(rt; pieces.len(), 0);
+    Ok(())
+}
+
+#[test]
+fn puts_boxes_on_a_page(rt: HostRuntime) -> Result<(), Fail> {
+    let alloc = rt.alloc();
+    let mut pieces = Pieces::with_capacity(alloc, 2)?;
+    for code in [97, 98] {
+        let body = glyph_box(alloc, 3, code, LETTER).expect(&rt, "a box");
+        pieces.put_box(&body)?;
+    }
+    let first = pieces.place_of(0);
+    let second = pieces.place_after(first);
+    assert!(rt; pieces.extents_at(second).height == 327680);
+    let mut page = Vec::new(alloc);
+    pieces
+        .put_places(second, &mut page, 10, 0, 1)
+        .expect(&rt, "a place");
+    let full = pieces.put_places(first, &mut page, 0, 0, 1);
+    assert!(rt; matches!(full, Err(PlaceError::TooMany)));
+    assert_eq!(rt; page.as_slice(), [glyph(98, 10)].as_slice());
+    let body = pieces.take_box(alloc)?;
+    assert!(rt; body.extents().width == 327680 && pieces.len() == 1);
+    Ok(())
+}
+
+#[test]
+fn leaves_a_lone_box_as_it_is(rt: HostRuntime) -> Result<(), Fail> {
+    let alloc = rt.alloc();
+    let mut pieces = Pieces::new(alloc);
+    let body = glyph_box(alloc, 3, 97, LETTER).expect(&rt, "a box");
+    pieces.put_piece(Piece::Boxed { raise: 0, body })?;
+    pieces.set_last_extents(Extents {
+        width: 1000,
+        height: -2000,
+        depth: 3000,
+    });
+    pieces.clean(0).expect(&rt, "a box");
+    // a packed box has no height below 0
+    assert!(rt; pieces.last_extents().height == -2000);
     Ok(())
 }

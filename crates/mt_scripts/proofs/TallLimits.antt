@@ -1,6 +1,5 @@
 -- Limits on marks.
-use Rattle.std.proofs.Common.{◌≡◌, List, ◌∷◌, ℤ, refl, ◌∙◌, ap, subst}
-use Rattle.std.specs.Prelude.{Option, Some, None, Result, Err}
+use Rattle.std.proofs.Common.{◌≡◌, List, ◌∷◌, ℤ, refl, ◌∙◌, ap, subst, Option, Some, None, Result, Err, option_map}
 use Rattle.std.specs.Int.{int_max}
 use Rattle.mt_family.specs.declared.size.Size.{Size}
 use Rattle.mt_family.specs.SetValue.{SetValue}
@@ -16,7 +15,6 @@ use Rattle.mt_rules.specs.Calls.{BoxAnswers}
 use Rattle.mt_rules.specs.Setting.{Setting, make_box, layout_or_empty}
 use Rattle.mt_rules.specs.OnMarks.{BoxSetsOn, layout_with}
 use Rattle.mt_rules.specs.Limits.{limits, limits_layout, rebox_some}
-use Rattle.std.specs.Option.{option_map}
 use Rattle.mt_scripts.specs.LimitMarks.{extents_in, limit_of, IsLimit, middle_extents, middle_places, middle_layer}
 
 pub first_layer : (o : Option Extents) (w : ℤ) (l : List Place) (ls : List (List Place)) → middle_layer 0 o w (l ∷ ls) ≡ middle_places o w l ∷ ls

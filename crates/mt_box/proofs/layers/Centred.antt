@@ -1,8 +1,7 @@
 -- A layout in the middle of a width, among others.
-use Rattle.std.proofs.Common.{◌≡◌, ℕ, zero, suc, List, [], ◌∷◌, ℤ, pos, ◌-ℤ◌, Bool, true, false, if◌then◌else◌, refl, arith, sym, ap}
+use Rattle.std.proofs.Common.{◌≡◌, ℕ, zero, suc, List, [], ◌∷◌, ℤ, pos, ◌-ℤ◌, Bool, true, false, if◌then◌else◌, refl, arith, sym, ap, int_eq}
 use Rattle.std.proofs.lemmas.Int.{ints, clamps}
 use Rattle.std.specs.Int.{int_max}
-use Rattle.std.specs.Ordering.{int_eq}
 use Rattle.mt_scaled.specs.Number.{Within, half_of, max_dimen}
 use Rattle.mt_box.specs.declared.place.Place.{Place}
 use Rattle.mt_box.specs.declared.extents.Extents.{Extents}

@@ -1,6 +1,6 @@
--- A run of layouts copied onto the others.
+-- A run of layouts copied onto the others, and one of them read.
 use Rattle.std.proofs.Common.{◌≡◌, ℕ, ◌≤◌, ◌+◌, ◌-◌, min, List, [], ◌∷◌, ◌++◌, length, map, take, drop, get_or, reverse, Result, Ok, Err, OnOk, OnErr, refl, arith, append_assoc, length-append, sym, ◌∙◌, ap, subst}
-use Rattle.std.specs.Prelude.{All, ⊤}
+use Rattle.std.specs.Prelude.{All, ◌<◌, ⊤}
 use Rattle.std.specs.declared.alloc.AllocError.{AllocError}
 use Rattle.std.proofs.lemmas.List.{map-append, take_at, drop_at, length-take-le, length-reverse, length-map, reverse-append, reverse-reverse}
 use Rattle.std.proofs.lemmas.List.Elements.{All-nil, All-push}
@@ -8,9 +8,9 @@ use Rattle.mt_box.specs.declared.node.Node.{Node}
 use Rattle.mt_box.specs.declared.place.Place.{Place}
 use Rattle.mt_box.specs.inner.Nodes.{node_places}
 use Rattle.mt_box.specs.marks.inner.View.{layers, Fall}
-use Rattle.mt_box.proofs.layers.Layering.{laid, begins, laid_apart, begins_apart, length_begins, raise_begins, length_layers, Are, seen, falls}
+use Rattle.mt_box.proofs.layers.Layering.{laid, begins, laid_apart, begins_apart, length_begins, raise_begins, length_layers, Are, seen, seen_at, falls}
 use Rattle.mt_box.proofs.layers.StartLists.{fall_more}
-use Rattle.mt_box.proofs.layers.LayerCalls.{Between, between, reverse-map, starts_cut}
+use Rattle.mt_box.proofs.layers.LayerCalls.{Between, Found, between, found, reverse-map, starts_cut}
 
 same_middle : {A : Type 0} (xs ys zs us rs bs : List A) → xs ++ (ys ++ zs) ≡ us ++ (rs ++ bs) → length zs ≡ length bs → length ys ≡ length rs → ys ≡ rs
 same_middle xs ys zs us rs bs e n k =
@@ -77,3 +77,31 @@ all_below n ts h = subst (All (λ t. t ≤ n)) (reverse-reverse ts) (falling n (
     falling m [] h le = All-nil (λ t. t ≤ n)
     falling m (s ∷ ss) h le =
         subst (All (λ t. t ≤ n)) (sym (reverse-append (s ∷ []) ss)) (All-push (λ t. t ≤ n) (reverse ss) s (falling s ss h.1 (omega (arith, h.0, le))) (omega (arith, h.0, le)))
+
+-- ---- one of them, from below
+
+pub record LayerAt (is : List Node) (ns : List ℕ) (number a e : ℕ) : Type 0 where
+  pub low : a ≤ e
+  pub high : e ≤ length is
+  pub places : (above below : List (List Place)) (layer : List Place) → layers is (reverse ns) ≡ above ++ layer ∷ below → length below ≡ number → node_places (take (e - a) (drop a is)) ≡ layer
+
+pub layer_at : (is : List Node) (ns : List ℕ) (number n a e : ℕ) → n ≡ length is → Fall (length is) (reverse ns) → number < length ns → a ≡ get_or ns number n → e ≡ get_or ns (number + 1) n → LayerAt is ns number a e
+layer_at is ns number n a e l h low s t =
+    let k = length ns - (number + 1) in
+    let first : number ≡ length ns - (k + 1) = omega (arith, low) in
+    let last : number + 1 ≡ length ns - k = omega (arith, low) in
+    by_found (found is ns k n a e l h (omega (arith, low)) (s ∙ ap (λ i. get_or ns i n) first) (t ∙ ap (λ i. get_or ns i n) last))
+  where
+    by_found : Found is ns (length ns - (number + 1)) a e → LayerAt is ns number a e
+    by_found p =
+        let us = map node_places p.us in
+        let cs = map node_places p.cs in
+        let seen = seen_at p.us p.c p.cs p.are in
+        let many : length us + (1 + length cs) ≡ length ns = omega (arith, length-append us (node_places p.c ∷ cs), ap length seen, length_layers is (reverse ns), length-reverse ns) in
+        record {
+          low = p.cut.low;
+          high = p.cut.high;
+          places = λ above below layer w b.
+              let same : node_places p.c ∷ [] ≡ layer ∷ [] = same_middle us (node_places p.c ∷ []) cs above (layer ∷ []) below (sym seen ∙ w) (omega (arith, many, length-map p.us node_places, p.above, low, b)) refl in
+              ap node_places p.cut.middle ∙ cc;
+        }

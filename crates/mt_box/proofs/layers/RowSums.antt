@@ -1,5 +1,5 @@
 -- The loops over the parts of a row.
-use Rattle.std.proofs.Common.{◌≡◌, ℕ, zero, suc, ◌<◌, ◌≤◌, ◌+◌, ◌-◌, ◌*◌, ◌^◌, List, [], ◌∷◌, ◌++◌, Some, None, length, take, drop, get_or, ℤ, pos, ◌+ℤ◌, ◌-ℤ◌, ◌≤ℤ◌, refl, arith, sym, ◌∙◌, ap, w64, to_z, of_z}
+use Rattle.std.proofs.Common.{◌≡◌, ℕ, zero, suc, ◌<◌, ◌≤◌, ◌+◌, ◌-◌, ◌*◌, ◌^◌, List, [], ◌∷◌, ◌++◌, Some, None, length, length-drop, take, drop, get_or, ℤ, pos, ◌+ℤ◌, ◌-ℤ◌, ◌≤ℤ◌, refl, arith, sym, ◌∙◌, ap, w64, to_z, of_z}
 use Rattle.std.proofs.lemmas.List.{drop_all, drop_more, take_more, take_all}
 use Rattle.std.proofs.lemmas.Int.{ints, clamps}
 use Rattle.std.proofs.lemmas.Option.{none-some, same_Some}
@@ -67,7 +67,7 @@ summed_more ps rest p e e' h is a = rw is (record {
   shrink = omega (arith, ints, h.shrink, a.shrink);
 })
 
-pub near_drop : (i : ℕ) (ps : List RowPart) → AllNearParts ps → AllNearParts (drop i ps)
+near_drop : (i : ℕ) (ps : List RowPart) → AllNearParts ps → AllNearParts (drop i ps)
 near_drop zero ps h = h
 near_drop (suc i) [] h = tt
 near_drop (suc i) (p ∷ ps) h = near_drop i ps h.1
@@ -102,6 +102,12 @@ whole_wide ps x e near few = edge_within x _ (length ps) (length ps) (e ∙ ap (
 
 pub whole_soft : (ps : List RowPart) (x : ℤ) → x ≡ parts_sum part_shrink ps → AllNearParts ps → length ps ≤ 2 ^ 21 → Within (2 ^ 61) x
 whole_soft ps x e near few = edge_within x _ (length ps) (length ps) (e ∙ ap (parts_sum part_shrink) (sym (take_all (length ps) ps (omega arith)))) (omega arith) few (sum_bound part_shrink near_shrink ps (length ps) near)
+
+-- and of those from a number on
+pub summed_within : (i : ℕ) (ps : List RowPart) (e : RowReach) → PartsSummed (drop i ps) e → AllNearParts ps → length ps ≤ 2 ^ 21 → Within (2 ^ 61) e.width × Within (2 ^ 61) e.shrink
+summed_within i ps e h near few =
+    let n : length (drop i ps) ≤ 2 ^ 21 = omega (arith, few, length-drop i ps) in
+    (whole_wide (drop i ps) _ h.width (near_drop i ps near) n, whole_soft (drop i ps) _ h.shrink (near_drop i ps near) n)
 
 pub edge_wide : (ps : List RowPart) (i : ℕ) (x before : ℤ) → PartsEdge ps i x before → Within (2 ^ 61) x
 edge_wide ps i x before h = edge_within x _ i (length ps) h.left h.few h.all_few (sum_bound part_width near_width ps i h.near)

@@ -1,6 +1,6 @@
 -- Layouts that are put on others and taken off, and those that are not there.
 use Rattle.std.proofs.Common.{◌≡◌, ℕ, zero, suc, ◌≤◌, ◌+◌, ◌-◌, List, [], ◌∷◌, ◌++◌, length, take, drop, get_or, reverse, ℤ, pos, ◌-ℤ◌, refl, arith, length-append, sym, ◌∙◌, ap, subst}
-use Rattle.std.proofs.lemmas.List.{append-nil, take_all, drop_all, take_at, drop_at, drop-append-le, take-append-le, take_more, length-take-le, length-reverse, length_push, reverse-append}
+use Rattle.std.proofs.lemmas.List.{append-nil, take_all, drop_all, take_at, drop_at, drop-append-le, take-append-le, take_more, length-take-le, length_push, reverse-append}
 use Rattle.mt_box.specs.declared.node.Node.{Node}
 use Rattle.mt_box.specs.Unfold.{marks}
 use Rattle.mt_box.specs.inner.Nodes.{node_places}

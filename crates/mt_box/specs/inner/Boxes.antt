@@ -8,7 +8,7 @@ use Rattle.mt_box.specs.inner.Nodes.{node_places, AreFlat}
 abbrev pub value_of_box : Inside → BoxValue
 value_of_box a = record { extents = a.extents; places = node_places a.nodes.items; level = a.level }
 
--- how far to a side a node of a box of this level may stand
+-- how far to a side a node of a box of this level may be
 abbrev pub reach : ℕ → ℕ
 reach level = 3 * 2 ^ 61 + 2 ^ 31 * level
 

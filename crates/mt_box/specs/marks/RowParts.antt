@@ -111,7 +111,7 @@ part_joined x (part.Layout p) ls = joined (moved_layer 1 x p.raise ls)
 part_joined x (part.Gap w) ls = ls
 part_joined x (part.Space w s) ls = ls
 
--- the top one behind the parts, each layout moved to where it stands, after spaces that shrink (`shrunk`); without that the
+-- the top one behind the parts, each layout moved to its place, after spaces that shrink (`shrunk`); without that the
 -- first part begins at x, after spaces that may shrink by `before`
 abbrev pub parts_joined : ℤ → ℤ → ℤ → ℤ → List RowPart → List (List Place) → List (List Place)
 parts_joined most used x before [] ls = ls

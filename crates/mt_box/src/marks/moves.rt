@@ -65,8 +65,8 @@ fn turn(nodes: &mut [Node], middle: usize)
     nodes.reverse();
 }
 
-// Without the items from `start` on before `end`.
-pub(crate) fn cut<T: Copy>(items: &mut Vec<T>, start: usize, end: usize)
+/// Without the items from `start` on before `end`, which are places in the list.
+pub fn cut<T: Copy>(items: &mut Vec<T>, start: usize, end: usize)
     requires start { start ≤ end }
     requires end { end ≤ length items.old.items }
     ensures { items.new.items ≡ take start items.old.items ++ drop end items.old.items }

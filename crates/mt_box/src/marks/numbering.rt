@@ -9,7 +9,7 @@ ghost use Rattle.mt_box.specs.inner.Nodes.{node_places, AreMarks, AreFlat};
 use crate::{Extents, Node, NodeId, Packed};
 use std::alloc::AllocError;
 
-// The greatest distance to a side at which a node of a new box stands.
+// How far to a side a node of a new box may be.
 const FAR: i64 = 3 << 61;
 
 // The box of these nodes with these extents, which are in range.
@@ -33,7 +33,7 @@ pub(crate) fn box_of_nodes(
     })
 }
 
-// The nodes with their numbers in a box. Want of memory is answered where one stands further than `FAR` to a side.
+// The nodes with their numbers in a box. Where one is further than `FAR` to a side, the answer is that memory ran out.
 fn numbered(nodes: Vec<Node>) -> Result<Vec<Node>, AllocError>
     requires { AreMarks nodes.items }
     ensures flat { IfOk result (λ v. AreFlat (reach 0) 0 v.items) }

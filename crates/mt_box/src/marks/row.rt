@@ -26,20 +26,24 @@ pub struct RowPiece {
 /// A part of a row: a character, another layout, or a gap or a space between others.
 #[derive(Clone, Copy, Debug, PartialEq, Eq)]
 pub enum RowPart {
-    /// A character of a font, which stands on the row's baseline, and whose layer is its mark alone. The font is its
-    /// number in the font list.
+    /// A character of a font on the row's baseline, whose layer is its mark alone.
     Glyph {
+        /// The number of the font in the font list.
         font: u16,
+        /// The character's number in the font.
         code: u8,
+        /// What the character reaches, in scaled points.
         extents: Extents,
     },
     /// A layout, whose marks are those of a layer.
     Layout(RowPiece),
     /// So many scaled points to the right.
     Gap(i64),
-    /// A gap of this width, which may shrink by so much, in scaled points.
+    /// A gap that may shrink.
     Space {
+        /// In scaled points.
         width: i64,
+        /// By how much it may shrink, in scaled points.
         shrink: i64,
     },
 }
@@ -209,8 +213,39 @@ pub fn parts_extents(parts: &[RowPart]) -> Extents
     ensures width { result.width ≡ parts_sum part_width parts.now }
     ensures height { result.height ≡ parts_max part_height parts.now }
     ensures depth { result.depth ≡ parts_max part_depth parts.now }
+    ensures wide { Within (2 ^ 61) result.width }
 {
     reach_of(parts).extents()
+}
+
+/// By how much the spaces of the row of these parts may shrink together, under the conditions of [`pack_parts`].
+pub fn parts_shrink(parts: &[RowPart]) -> Length
+    requires few { length parts.now ≤ 2 ^ 21 }
+    requires near { AllNearParts parts.now }
+    ensures is { result.sp ≡ parts_sum part_shrink parts.now }
+    ensures small { Within (2 ^ 61) result.sp }
+{
+    Length {
+        sp: reach_of(parts).shrink,
+    }
+}
+
+/// What a row that reaches so far, at most 2^61 to the right, reaches with a layout after it. No number of the layout is
+/// greater than those that [`pack_parts`] takes.
+pub fn extents_beside(row: Extents, piece: RowPiece) -> Extents
+    requires wide { Within (2 ^ 61) row.width }
+    requires near { IsNear piece }
+    ensures width { result.width ≡ row.width +ℤ piece.extents.width }
+    ensures height { result.height ≡ int_max row.height (piece.extents.height +ℤ piece.raise) }
+    ensures depth { result.depth ≡ int_max row.depth (piece.extents.depth -ℤ piece.raise) }
+{
+    let reach = RowReach {
+        width: row.width,
+        height: row.height,
+        depth: row.depth,
+        shrink: 0,
+    };
+    reach.with(&RowPart::Layout(piece)).extents()
 }
 
 fn reach_of(parts: &[RowPart]) -> RowReach
@@ -220,6 +255,8 @@ fn reach_of(parts: &[RowPart]) -> RowReach
     ensures height { result.height ≡ parts_max part_height parts.now }
     ensures depth { result.depth ≡ parts_max part_depth parts.now }
     ensures shrink { result.shrink ≡ parts_sum part_shrink parts.now }
+    ensures wide { Within (2 ^ 61) result.width }
+    ensures soft { Within (2 ^ 61) result.shrink }
 {
     let mut row = RowReach::NONE;
     for i in (0..parts.len()).rev() {

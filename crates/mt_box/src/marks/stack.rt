@@ -1,9 +1,11 @@
 //! Layouts one on another.
-ghost use Rattle.std.specs.Prelude.{◌≡◌, ◌≤◌, ◌^◌, ◌+◌, ◌-ℤ◌, ◌∷◌, [], ◌++◌, take, drop, length, pos, List, OnOk, OnErr, IfOk};
+ghost use Rattle.std.specs.Prelude.{◌≡◌, ◌≤◌, ◌^◌, ◌+◌, ◌-◌, ◌-ℤ◌, ◌∷◌, [], ◌++◌, take, drop, length, pos, List, OnOk, OnErr, IfOk};
 ghost use Rattle.mt_box.specs.declared.place.Place.{Place};
 ghost use Rattle.mt_box.specs.declared.place.Place.TheVariants.{Glyph};
 ghost use Rattle.mt_box.specs.Extents.{ExtentsInRange};
+ghost use Rattle.mt_scaled.specs.Number.{Within};
 ghost use Rattle.mt_box.specs.Layout.{layout_of};
+ghost use Rattle.mt_box.specs.Placing.{all_lowered, Puts};
 ghost use Rattle.mt_box.specs.Unfold.{marks, IsMark};
 ghost use Rattle.mt_box.specs.marks.Layers.{begun, put_on, moved_layer, joined, swapped_layers, dropped, top};
 
@@ -12,13 +14,14 @@ use crate::marks::numbering::box_of_nodes;
 use crate::marks::starts::{
     Bounds, bounds_of, copy_starts, set_start, start_of, starts_without, top_start,
 };
-use crate::{Extents, Mark, Node, NodeId, Packed};
+use crate::placing::put_nodes;
+use crate::{Extents, Mark, Node, NodeId, Packed, Place, PlaceError};
 use std::alloc::{AllocError, Global};
 use std::marker::Model;
 
 /// The marks of layouts one on another. Contracts see the places of each layout, those of the top one first.
 ///
-/// Want of memory is also answered where a mark would stand 2^63 scaled points or more from its reference point.
+/// That memory ran out is also the answer where a mark would be 2^63 scaled points or more from its reference point.
 #[derive(Drop)]
 pub struct Marks {
     // the marks of all layouts, from the lowest; what is `after` each has no meaning
@@ -163,7 +166,7 @@ impl Marks {
 
     /// The box of the top layout with these extents, which are in range, and this level, from 1 to 2^20. The layouts stay.
     ///
-    /// Want of memory is also answered where a mark stands more than 3·2^61 scaled points to a side.
+    /// That memory ran out is also the answer where a mark is more than 3·2^61 scaled points to a side.
     pub fn top_box(&self, alloc: Global, extents: Extents, level: u32) -> Result<Packed, AllocError>
         requires extents { ExtentsInRange extents }
         requires level { level ≤ 2 ^ 20 }
@@ -188,6 +191,35 @@ impl Marks {
         let mut nodes = self.nodes;
         cut(&mut nodes, 0, start);
         box_of_nodes(nodes, extents, level)
+    }
+
+    /// Puts the places of the layout that has so many others below it after others, as by [`crate::put_places`]: its
+    /// reference point is at (h, v) of a page. Where there are not so many layouts, nothing is put.
+    ///
+    /// Refused as by [`crate::put_places`], and the list is as before then.
+    pub fn put_layer(
+        &self,
+        number: usize,
+        places: &mut Vec<Place>,
+        h: i64,
+        v: i64,
+        room: u64,
+    ) -> Result<(), PlaceError>
+        requires h { Within (2 ^ 60) h }
+        requires v { Within (2 ^ 60) v }
+        requires room { length places.old.items ≤ room }
+        ensures is { (above below : List (List Place)) (layer : List Place) → self.now ≡ above ++ (layer ∷ below) → length below ≡ number
+            → Puts room places.old.items (all_lowered h v layer) result places.new.items }
+        ensures fits { OnOk result (length places.new.items ≤ room) }
+        ensures err { OnErr result (places.new.items ≡ places.old.items) }
+    {
+        if self.starts.len() <= number {
+            return Ok(());
+        }
+        let end_of_all = self.nodes.len();
+        let start = start_of(&self.starts, number, end_of_all);
+        let end = start_of(&self.starts, number + 1, end_of_all);
+        put_nodes(places, nodes_between(&self.nodes, start, end), h, v, room)
     }
 
     /// A copy of each of so many layouts on top, in their order. The first of them has so many others below it. Where
@@ -234,6 +266,15 @@ impl Marks {
             self.nodes.truncate(start);
         }
     }
+}
+
+// The nodes from `start` on before `end`.
+fn nodes_between(nodes: &[Node], start: usize, end: usize) -> &[Node]
+    requires start { start ≤ end }
+    requires end { end ≤ length nodes.now }
+    ensures { result.now ≡ take (end - start) (drop start nodes.now) }
+{
+    &nodes[start..end]
 }
 
 fn node_at(at: Move, mark: Mark) -> Node

@@ -31,6 +31,14 @@ is_glyph_first (part.Layout p ∷ ps) = false
 is_glyph_first (part.Gap w ∷ ps) = false
 is_glyph_first (part.Space w s ∷ ps) = false
 
+-- the first part is a space
+abbrev pub is_space_first : List RowPart → Bool
+is_space_first [] = false
+is_space_first (part.Glyph f c e ∷ ps) = false
+is_space_first (part.Layout p ∷ ps) = false
+is_space_first (part.Gap w ∷ ps) = false
+is_space_first (part.Space w s ∷ ps) = true
+
 -- two boxes, the second of which is the last part
 abbrev with_one_before : RowPiece → List RowPart → Option TwoBoxes
 with_one_before q [] = None

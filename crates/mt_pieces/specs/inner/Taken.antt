@@ -4,6 +4,8 @@ use Rattle.std.specs.Int.{int_max}
 use Rattle.mt_scaled.specs.Number.{Within}
 use Rattle.mt_box.specs.declared.place.Place.{Place}
 use Rattle.mt_box.specs.declared.extents.Extents.{Extents}
+use Rattle.mt_box.specs.declared.piece.Piece.{Piece}
+use Rattle.mt_box.specs.declared.piece.Piece.TheVariants as piece
 use Rattle.mt_box.specs.declared.marks.row.RowPiece.{RowPiece}
 use Rattle.mt_box.specs.declared.marks.row.RowPart.{RowPart}
 use Rattle.mt_box.specs.declared.marks.row.RowPart.TheVariants as part
@@ -39,6 +41,13 @@ AttachesOn row (Err NoPackMemory) ps setting = ⊤
 abbrev pub StandsOn : Result (Option RowPiece) PackError → List (List Place) → List (List Place) → Type 0
 StandsOn (Ok o) ms rest = ms ≡ layer_if o (top ms) rest
 StandsOn (Err e) ms rest = ⊤
+
+-- a box of level 1, or no box
+abbrev pub IsFirstLevel : Piece → Type 0
+IsFirstLevel (piece.Glyph f c e) = ⊤
+IsFirstLevel (piece.Boxed r b) = b.level ≡ 1
+IsFirstLevel (piece.Kern k) = ⊤
+IsFirstLevel (piece.Space w s) = ⊤
 
 -- ---- numbers
 

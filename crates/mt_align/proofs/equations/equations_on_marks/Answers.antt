@@ -1,5 +1,4 @@
-use Rattle.std.proofs.Common.{◌∙◌, ◌≤◌, pos, length, arith}
-use Rattle.std.specs.Prelude.{None}
+use Rattle.std.proofs.Common.{◌∙◌, ◌≤◌, pos, length, arith, None}
 use Rattle.std.proofs.lemmas.Result.{on_ok_weaker}
 use Rattle.mt_align.specs.declared.look.Look.TheVariants.{Equations}
 use Rattle.mt_align.proofs.ColumnWidths.{columns_few, columns_fit}

@@ -1,5 +1,4 @@
-use Rattle.std.specs.Prelude.{All}
-use Rattle.std.proofs.Common.{arith, drop, sym, subst}
+use Rattle.std.proofs.Common.{arith, drop, sym, subst, All}
 use Rattle.std.proofs.lemmas.List.Elements.{All-drop}
 use Rattle.mt_align.proofs.BoxLevels.{Low, boxes_level-small}
 use Rattle.mt_align.proofs.levels.level_of_row.Goals as goal

@@ -1,5 +1,4 @@
-use Rattle.std.proofs.Common.{◌≡◌, ◌≤◌, drop, length}
-use Rattle.std.specs.Prelude.{All}
+use Rattle.std.proofs.Common.{◌≡◌, ◌≤◌, drop, length, All}
 use Rattle.mt_scaled.specs.Number.{Within, max_dimen}
 use Rattle.mt_rules.specs.Tables.{column_widths}
 use Rattle.mt_align.specs.CellLayers.{bare_rows}

@@ -1,12 +1,8 @@
 use Rattle.std.proofs.Common.{◌≡◌, ◌≤◌, ◌^◌, ◌∷◌, ◌∙◌, ap, arith, drop, length, refl, sym, subst}
-use Rattle.std.proofs.lemmas.List.{drop_all}
 use Rattle.mt_box.specs.Rows.{AllMeasurable}
 use Rattle.mt_box.proofs.Lists.{item_before}
-use Rattle.mt_box.proofs.Packing.{measurable_at, reaching_end, reaching_start, reaching_step, reaching_wide}
+use Rattle.mt_box.proofs.Packing.{measurable_at, reaching_end, reaching_step, reaching_wide}
 use Rattle.mt_box.proofs.rows.row_reach.Goals as goal
-
-pub loop-i-init : goal.loop-i-init
-loop-i-init c = record { within = omega arith; reaching = reaching_start _ (drop_all _ c.as_slice-pieces.result.now (omega arith)) }
 
 pub part_of-requires : goal.part_of-requires
 part_of-requires c =

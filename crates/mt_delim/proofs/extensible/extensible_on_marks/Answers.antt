@@ -1,5 +1,4 @@
-use Rattle.std.proofs.Common.{◌∙◌, ◌≡◌, sym, ap, FitsSigned, rules, w64, to_z, of_z, to_z-of_z}
-use Rattle.std.specs.Prelude.{Err}
+use Rattle.std.proofs.Common.{◌∙◌, ◌≡◌, sym, ap, FitsSigned, rules, w64, to_z, of_z, to_z-of_z, Err}
 use Rattle.mt_rules.specs.Setting.{Overflow}
 use Rattle.mt_box.specs.marks.Layers.{top}
 use Rattle.mt_delim.specs.inner.Runs.{glyphs_of}

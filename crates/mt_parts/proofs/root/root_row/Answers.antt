@@ -1,5 +1,4 @@
-use Rattle.std.proofs.Common.{◌∙◌, ap, sym}
-use Rattle.std.specs.Prelude.{Ok, List}
+use Rattle.std.proofs.Common.{◌∙◌, ap, sym, Ok, List}
 use Rattle.mt_box.specs.Layout.{layout_of}
 use Rattle.mt_box.specs.Rows.{PieceValue}
 use Rattle.mt_parts.proofs.Rooting.{row_fault}

@@ -1,6 +1,4 @@
-use Rattle.std.proofs.Common.{◌∙◌, ◌^◌, ◌∷◌, [], ap, sym, lit<}
-use Rattle.std.specs.Prelude.{Ok}
-use Rattle.std.specs.Option.{option_map}
+use Rattle.std.proofs.Common.{◌∙◌, ◌^◌, ◌∷◌, [], ap, sym, lit<, Ok, option_map}
 use Rattle.std.proofs.lemmas.Result.{err_from_is_err_and}
 use Rattle.mt_scaled.proofs.Products.{kept}
 use Rattle.mt_box.specs.Layout.{Layout, layout_of}

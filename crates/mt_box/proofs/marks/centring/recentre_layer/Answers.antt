@@ -1,5 +1,4 @@
-use Rattle.std.proofs.Common.{◌∙◌, sym, ap, ◌-ℤ◌}
-use Rattle.std.specs.Ordering.{int_eq}
+use Rattle.std.proofs.Common.{◌∙◌, sym, ap, ◌-ℤ◌, int_eq}
 use Rattle.mt_scaled.specs.Number.{half_of}
 use Rattle.mt_box.specs.marks.Layers.{moved_layer}
 use Rattle.mt_box.proofs.Recentred.{kept_wide}

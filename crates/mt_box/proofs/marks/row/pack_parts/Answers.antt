@@ -1,5 +1,4 @@
-use Rattle.std.proofs.Common.{◌∙◌, ap, refl, inl, ◌∷◌, [], pos}
-use Rattle.std.proofs.lemmas.List.{append-nil}
+use Rattle.std.proofs.Common.{◌∙◌, ap, refl, inl, ◌∷◌, [], pos, append-nil}
 use Rattle.mt_box.specs.SetRows.{shrunk_places}
 use Rattle.mt_box.specs.marks.Layers.{begun}
 use Rattle.mt_box.specs.marks.RowParts.{parts_joined}

@@ -1,18 +1,10 @@
-use Rattle.std.proofs.Common.{◌∙◌, ap, refl, inr, ◌∷◌, [], pos}
-use Rattle.std.proofs.lemmas.List.{append-nil}
+use Rattle.std.proofs.Common.{◌∙◌, ap, refl, inr, ◌∷◌, [], pos, append-nil}
 use Rattle.mt_box.specs.SetRows.{shrunk_places}
 use Rattle.mt_box.specs.marks.Layers.{begun}
 use Rattle.mt_box.specs.marks.RowParts.{parts_joined}
 use Rattle.mt_box.proofs.Equalities.{extents_eq}
-use Rattle.mt_box.proofs.layers.RowSums.{whole_wide, whole_soft}
 use Rattle.mt_box.proofs.layers.RowLayers.{parts_places, same_reach, set_at}
 use Rattle.mt_box.proofs.marks.row.pack_parts_to.Goals as goal
-
-pub of-requires-clause-wide : goal.of-requires-clause-wide
-of-requires-clause-wide c = whole_wide _ _ c.reach_of-row.ensures.width c.requires.near c.requires.few
-
-pub of-requires-clause-soft : goal.of-requires-clause-soft
-of-requires-clause-soft c = whole_soft _ _ c.reach_of-row.ensures.shrink c.requires.near c.requires.few
 
 pub returns-clause-marks : goal.returns-clause-marks
 returns-clause-marks c = λ ms ls rest are shrinks e.

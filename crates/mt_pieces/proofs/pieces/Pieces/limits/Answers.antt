@@ -31,9 +31,9 @@ invariant_of-self-2 c =
     let l = limited t.sup t.sub c.in_ok-nucleus.nucleus (reverse ps) c.self.inside.marks (subst (λ z. AreLaid z c.self.inside.marks) parts c.self.invariant) in
     let stack = c.in_ok-nucleus.ensures.marks ∙ (c.in_ok-taken.ensures.marks ∙ l.stack) in
     let made = c.limit_layers-made in
-    let e = c.settle_packed.ensures in
+    let e = c.settle.ensures in
     let all : ps ≡ take c.len-keep.result ps = sym (take_all c.len-keep.result ps (omega (arith, c.len-keep.ensures))) in
-    settled_laid made.result c.settle_packed.result (take c.len-keep.result ps) c.settle_packed.new.parts.items made.new.marks c.settle_packed.new.marks l.under
+    settled_laid made.result c.settle.result (take c.len-keep.result ps) c.settle.new.parts.items made.new.marks c.settle.new.marks l.under
     e.ok e.marks e.parts e.no_marks e.no_parts (made.ensures.rest l.nucleus l.above l.below l.under l.no_sup l.no_sub stack) made.ensures.in_range (subst (λ z. AreLaid (reverse z) l.under) all l.laid)
 
 pub returns : goal.returns
@@ -48,12 +48,12 @@ returns c = λ rest n above below there e.
     (sym l.view ∙ (ap (λ z. pieces_back z ms) (sym parts) ∙ (c.self.view_is ∙ e))) in
     let stack = c.in_ok-nucleus.ensures.marks ∙ (c.in_ok-taken.ensures.marks ∙ l.stack) in
     let made = c.limit_layers-made in
-    let set = c.settle_packed.ensures in
+    let set = c.settle.ensures in
     let is = made.ensures.is l.nucleus l.above l.below l.under l.no_sup l.no_sub stack in
     let one = subst (λ z. BoxSetsOn made.result (top made.new.marks) (limits c.args.fonts.now c.args.size z c.args.delta.sp (limit_of (extents_if t.sup) l.above) (limit_of (extents_if t.sub) l.below))) k.middle is in
     let two = subst (λ z. BoxSetsOn made.result (top made.new.marks) (limits c.args.fonts.now c.args.size n c.args.delta.sp z (limit_of (extents_if t.sub) l.below))) (sym k.over) one in
     let three = subst (λ z. BoxSetsOn made.result (top made.new.marks) (limits c.args.fonts.now c.args.size n c.args.delta.sp above z)) (sym k.lower) two in
     let all : ps ≡ take c.len-keep.result ps = sym (take_all c.len-keep.result ps (omega (arith, c.len-keep.ensures))) in
-    packed_settled made.result c.settle_packed.result (take c.len-keep.result ps) c.settle_packed.new.parts.items made.new.marks c.settle_packed.new.marks l.under
+    packed_settled made.result c.settle.result (take c.len-keep.result ps) c.settle.new.parts.items made.new.marks c.settle.new.marks l.under
     rest (limits c.args.fonts.now c.args.size n c.args.delta.sp above below) three (made.ensures.rest l.nucleus l.above l.below l.under l.no_sup l.no_sub stack) set.marks set.parts set.fault set.memory
     (ap (λ z. pieces_back (reverse z) l.under) (sym all) ∙ k.same)

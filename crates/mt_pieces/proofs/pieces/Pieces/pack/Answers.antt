@@ -18,8 +18,8 @@ invariant_of-self c =
     let s = split_at c.self.inside.parts.items c.args.first c.self.inside.marks c.args.self.now c.self.invariant c.self.view_is in
     let are = subst (λ z. AreParts (drop c.args.first c.args.self.now) z s.layers) (sym (c.parts_from.ensures ∙ ap (drop c.args.first) c.deref.ensures.value)) s.are in
     let made = c.pack_layers-made.ensures in
-    let e = c.settle_packed.ensures in
-    settled_laid c.pack_layers-made.result c.settle_packed.result (take c.args.first c.self.inside.parts.items) c.settle_packed.new.parts.items c.pack_layers-made.new.marks c.settle_packed.new.marks s.below
+    let e = c.settle.ensures in
+    settled_laid c.pack_layers-made.result c.settle.result (take c.args.first c.self.inside.parts.items) c.settle.new.parts.items c.pack_layers-made.new.marks c.settle.new.marks s.below
     e.ok e.marks e.parts e.no_marks e.no_parts (made.rest (drop c.args.first c.args.self.now) s.layers s.below are s.stack) made.in_range s.laid
 
 pub returns : goal.returns
@@ -27,7 +27,7 @@ returns c =
     let s = split_at c.self.inside.parts.items c.args.first c.self.inside.marks c.args.self.now c.self.invariant c.self.view_is in
     let are = subst (λ z. AreParts (drop c.args.first c.args.self.now) z s.layers) (sym (c.parts_from.ensures ∙ ap (drop c.args.first) c.deref.ensures.value)) s.are in
     let made = c.pack_layers-made.ensures in
-    let e = c.settle_packed.ensures in
-    packed_settled c.pack_layers-made.result c.settle_packed.result (take c.args.first c.self.inside.parts.items) c.settle_packed.new.parts.items c.pack_layers-made.new.marks c.settle_packed.new.marks s.below
+    let e = c.settle.ensures in
+    packed_settled c.pack_layers-made.result c.settle.result (take c.args.first c.self.inside.parts.items) c.settle.new.parts.items c.pack_layers-made.new.marks c.settle.new.marks s.below
     (take c.args.first c.args.self.now) (pack_row (drop c.args.first c.args.self.now))
     (made.is (drop c.args.first c.args.self.now) s.layers s.below are s.stack) (made.rest (drop c.args.first c.args.self.now) s.layers s.below are s.stack) e.marks e.parts e.fault e.memory s.front

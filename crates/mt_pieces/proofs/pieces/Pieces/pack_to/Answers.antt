@@ -22,8 +22,8 @@ invariant_of-self c =
     let are = subst (λ z. AreParts (drop c.args.first c.args.self.now) z s.layers) (sym (c.parts_from.ensures ∙ ap (drop c.args.first) c.deref.ensures.value)) s.are in
     let shrinks = shrinks_alike c.self.inside.parts.items c.args.first c.self.inside.marks c.args.self.now c.self.view_is ∙ ap (map part_shrink) (sym (c.parts_from.ensures ∙ ap (drop c.args.first) c.deref.ensures.value)) in
     let made = c.set_layers-made.ensures in
-    let e = c.settle_packed.ensures in
-    settled_laid c.set_layers-made.result c.settle_packed.result (take c.args.first c.self.inside.parts.items) c.settle_packed.new.parts.items c.set_layers-made.new.marks c.settle_packed.new.marks s.below
+    let e = c.settle.ensures in
+    settled_laid c.set_layers-made.result c.settle.result (take c.args.first c.self.inside.parts.items) c.settle.new.parts.items c.set_layers-made.new.marks c.settle.new.marks s.below
     e.ok e.marks e.parts e.no_marks e.no_parts (made.rest (drop c.args.first c.args.self.now) s.layers s.below are shrinks s.stack) made.in_range s.laid
 
 pub returns : goal.returns
@@ -32,8 +32,8 @@ returns c =
     let are = subst (λ z. AreParts (drop c.args.first c.args.self.now) z s.layers) (sym (c.parts_from.ensures ∙ ap (drop c.args.first) c.deref.ensures.value)) s.are in
     let shrinks = shrinks_alike c.self.inside.parts.items c.args.first c.self.inside.marks c.args.self.now c.self.view_is ∙ ap (map part_shrink) (sym (c.parts_from.ensures ∙ ap (drop c.args.first) c.deref.ensures.value)) in
     let made = c.set_layers-made.ensures in
-    let e = c.settle_packed.ensures in
-    packed_settled c.set_layers-made.result c.settle_packed.result (take c.args.first c.self.inside.parts.items) c.settle_packed.new.parts.items c.set_layers-made.new.marks c.settle_packed.new.marks s.below
+    let e = c.settle.ensures in
+    packed_settled c.set_layers-made.result c.settle.result (take c.args.first c.self.inside.parts.items) c.settle.new.parts.items c.set_layers-made.new.marks c.settle.new.marks s.below
     (take c.args.first c.args.self.now) (make_box (pack_to (drop c.args.first c.args.self.now) c.args.width.sp))
     (made.is (drop c.args.first c.args.self.now) s.layers s.below are shrinks s.stack) (made.rest (drop c.args.first c.args.self.now) s.layers s.below are shrinks s.stack) e.marks e.parts e.fault e.memory s.front
 

@@ -14,7 +14,7 @@ invariant_of-self c =
     let gone : c.count_layers-gone.result ≡ layer_count (take (c.min-end.result - c.min-first.result) (drop c.min-first.result c.self.inside.parts.items)) =
     c.count_layers-gone.ensures ∙ (sym (counted (take (c.min-end.result - c.min-first.result) (drop c.min-first.result c.deref-2.result.now))) ∙ ap (λ z. layer_count (take (c.min-end.result - c.min-first.result) (drop c.min-first.result z))) c.deref-2.ensures.value) in
     let removed = c.remove.ensures ∙ (ap (λ k. take k c.self.inside.marks ++ drop (k + c.count_layers-gone.result) c.self.inside.marks) after ∙ ap (λ k. take (layer_count (drop c.min-end.result c.self.inside.parts.items)) c.self.inside.marks ++ drop (layer_count (drop c.min-end.result c.self.inside.parts.items) + k) c.self.inside.marks) gone) in
-    let t = taken_out c.self.inside.parts.items c.cut.new.parts.items c.self.inside.marks c.remove.new.self c.args.self.now c.min-first.result c.min-end.result c.self.invariant c.self.view_is (omega (arith, s, e)) (omega (arith, e, n)) c.cut.ensures removed in
+    let t = taken_out c.self.inside.parts.items c.cut.new.items.items c.self.inside.marks c.remove.new.self c.args.self.now c.min-first.result c.min-end.result c.self.invariant c.self.view_is (omega (arith, s, e)) (omega (arith, e, n)) c.cut.ensures removed in
     t.laid
 
 pub returns : goal.returns
@@ -27,5 +27,5 @@ returns c =
     let gone : c.count_layers-gone.result ≡ layer_count (take (c.min-end.result - c.min-first.result) (drop c.min-first.result c.self.inside.parts.items)) =
     c.count_layers-gone.ensures ∙ (sym (counted (take (c.min-end.result - c.min-first.result) (drop c.min-first.result c.deref-2.result.now))) ∙ ap (λ z. layer_count (take (c.min-end.result - c.min-first.result) (drop c.min-first.result z))) c.deref-2.ensures.value) in
     let removed = c.remove.ensures ∙ (ap (λ k. take k c.self.inside.marks ++ drop (k + c.count_layers-gone.result) c.self.inside.marks) after ∙ ap (λ k. take (layer_count (drop c.min-end.result c.self.inside.parts.items)) c.self.inside.marks ++ drop (layer_count (drop c.min-end.result c.self.inside.parts.items) + k) c.self.inside.marks) gone) in
-    let t = taken_out c.self.inside.parts.items c.cut.new.parts.items c.self.inside.marks c.remove.new.self c.args.self.now c.min-first.result c.min-end.result c.self.invariant c.self.view_is (omega (arith, s, e)) (omega (arith, e, n)) c.cut.ensures removed in
+    let t = taken_out c.self.inside.parts.items c.cut.new.items.items c.self.inside.marks c.remove.new.self c.args.self.now c.min-first.result c.min-end.result c.self.invariant c.self.view_is (omega (arith, s, e)) (omega (arith, e, n)) c.cut.ensures removed in
     t.view ∙ to_the_end c.args.self.now c.args.first c.args.count c.min-first.result c.min-end.result s e

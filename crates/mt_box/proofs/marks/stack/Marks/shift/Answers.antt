@@ -1,7 +1,6 @@
-use Rattle.std.proofs.Common.{◌≡◌, pos, rules, ap, arith, reverse, length, sym, ◌∙◌, ◌≤◌, subst}
+use Rattle.std.proofs.Common.{◌≡◌, pos, rules, ap, arith, reverse, length, sym, ◌∙◌, ◌≤◌}
 use Rattle.std.proofs.lemmas.List.{length-reverse}
 use Rattle.std.proofs.lemmas.Result.{on_ok_weaker}
-use Rattle.mt_box.specs.marks.inner.View.{Fall}
 use Rattle.mt_box.specs.marks.Layers.{moved_layer}
 use Rattle.mt_box.proofs.layers.StartLists.{beyond, still_layer}
 use Rattle.mt_box.proofs.layers.LayerCalls.{found, moved_view}
@@ -24,12 +23,6 @@ returns c =
     let p = found c.self.inside.nodes.items c.self.inside.starts.items c.args.under _ _ _ (c.len.ensures ∙ c.self.inside.nodes.ok.0) c.self.invariant.starts b.some b.start b.end in
     on_ok_weaker c.move_range.result (λ e. moved_view c.self.inside.nodes.items c.move_range.new.nodes.items c.self.inside.starts.items c.args.under _ _ c.args.by.right c.args.by.up p e
     ∙ ap (moved_layer c.args.under c.args.by.right c.args.by.up) c.self.view_is) c.move_range.ensures.is
-
-pub invariant_of-self : goal.invariant_of-self
-invariant_of-self c = record {
-  marks = c.move_range.ensures.marks c.self.invariant.marks;
-  starts = subst (λ n. Fall n (reverse c.self.inside.starts.items)) (sym c.move_range.ensures.len) c.self.invariant.starts;
-}
 
 pub returns-then-by-eq0-2 : goal.returns-then-by-eq0-2
 returns-then-by-eq0-2 c =

@@ -3,7 +3,7 @@ use Rattle.mt_box.specs.Placing.{all_lowered}
 use Rattle.mt_box.specs.inner.Nodes.{node_places}
 use Rattle.mt_box.specs.inner.Putting.{IsFront}
 use Rattle.mt_box.proofs.Putting.{Putting}
-use Rattle.mt_box.proofs.placing.put_nodes.Given as goal
+use Rattle.mt_box.proofs.placing.put_marks.Given as goal
 
 abbrev pub invariant-loop-node : goal.invariant-loop-node
 invariant-loop-node l = record {

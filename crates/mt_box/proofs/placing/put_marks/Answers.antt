@@ -1,5 +1,4 @@
-use Rattle.std.proofs.Common.{List, ◌+◌, ◌++◌, ◌∙◌, ap, sym, drop, get_or}
-use Rattle.std.specs.Prelude.{pos}
+use Rattle.std.proofs.Common.{List, ◌+◌, ◌++◌, ◌∙◌, ap, sym, drop, get_or, pos}
 use Rattle.std.proofs.lemmas.List.{drop_more}
 use Rattle.std.proofs.lemmas.Result.{err_from_is_err_and}
 use Rattle.mt_box.specs.declared.node.Node.{Node}
@@ -11,7 +10,7 @@ use Rattle.mt_box.specs.inner.Nodes.{node_places}
 use Rattle.mt_box.proofs.Fronts.{front_then}
 use Rattle.mt_box.proofs.NodePlaces.{first_lowered, marks_at}
 use Rattle.mt_box.proofs.Putting.{putting_step, putting_err}
-use Rattle.mt_box.proofs.placing.put_nodes.Goals as goal
+use Rattle.mt_box.proofs.placing.put_marks.Goals as goal
 
 abbrev none : Node
 none = record { x = pos 0; y = pos 0; mark = Group; after = record { 0 = 0 } }
