@@ -53,6 +53,17 @@ impl Arena {
         }
     }
 
+    /// The same, with room for so many things of closed lists and as many of open ones.
+    pub fn with_capacity(alloc: Global, things: usize) -> Result<Arena, AllocError>
+        ensures { IfOk result (λ arena. arena ≡ empty_arena) }
+    {
+        Ok(Arena {
+            things: Vec::with_capacity(alloc, things)?,
+            pending: Vec::with_capacity(alloc, things)?,
+            starts: Vec::with_capacity(alloc, things)?,
+        })
+    }
+
     /// Opens a list inside the innermost open list, or rows, or a row of cells. On an error nothing has changed.
     pub fn begin(&mut self) -> Result<(), AllocError>
         ensures top { OnOk result (self.new.top ≡ []) }

@@ -1,5 +1,5 @@
 -- Rows and boxes behind the pieces that are there.
-use Rattle.std.proofs.Common.{◌≡◌, ℕ, ◌≤◌, List, [], ◌∷◌, ◌++◌, length, take, drop, ap, sym, ◌∙◌, refl, subst, arith, append_assoc, length-append, length-drop, Option, Some, None, ℤ, w64, to_z, of_z, FitsSigned}
+use Rattle.std.proofs.Common.{◌≡◌, ℕ, ◌≤◌, List, [], ◌∷◌, ◌++◌, length, take, drop, ap, sym, ◌∙◌, refl, subst, arith, append_assoc, length-append, length-drop, Option, Some, None, ℤ, w32, to_z, of_z, FitsSigned}
 use Rattle.std.specs.Prelude.{pos}
 use Rattle.std.proofs.lemmas.Int.{ints}
 use Rattle.std.proofs.lemmas.List.{drop_at}
@@ -13,7 +13,7 @@ nil_right [] = refl
 nil_right (x ∷ xs) = ap (λ ys. x ∷ ys) (nil_right xs)
 
 -- a word keeps its number
-pub kept_word : (z : ℤ) → FitsSigned w64 z → to_z w64 (of_z w64 z) ≡ z
+pub kept_word : (z : ℤ) → FitsSigned w32 z → to_z w32 (of_z w32 z) ≡ z
 kept_word z h = omega (arith, ints)
 
 -- the pieces from the number on that was the count of all before

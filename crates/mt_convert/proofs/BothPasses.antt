@@ -8,11 +8,10 @@ use Rattle.mt_rules.specs.Sequence.{Sequence}
 use Rattle.mt_rules.specs.Setting.{◌>>=◌}
 use Rattle.mt_convert.specs.declared.fault.SetFault.{SetFault}
 use Rattle.mt_convert.specs.declared.placed.PlacedHalves.{PlacedHalves}
-use Rattle.mt_convert.specs.Calls.{SetFails}
+use Rattle.mt_convert.specs.Calls.{SetFails, SetsRowOn}
 use Rattle.mt_convert.specs.ListRow.{halves_of}
 use Rattle.mt_convert.specs.SecondPass.{second_pass_of}
 use Rattle.mt_convert.specs.inner.Fields.{list_content}
-use Rattle.mt_convert.specs.inner.OnPieces.{SetsRowOn}
 use Rattle.mt_convert.specs.inner.Placed.{placed_halves}
 use Rattle.mt_convert.proofs.Appending.{fails_then}
 

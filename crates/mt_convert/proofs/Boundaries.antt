@@ -8,7 +8,7 @@ use Rattle.mt_box.specs.Rows.{PieceValue}
 use Rattle.mt_rules.specs.Setting.{Setting, ◌>>=◌}
 use Rattle.mt_rules.specs.Delimiters.{piece_on_axis}
 use Rattle.mt_pieces.specs.Putting.{boundary_on}
-use Rattle.mt_convert.specs.inner.OnPieces.{RowOn}
+use Rattle.mt_convert.specs.Calls.{RowOn}
 
 ok_is : (x y : List PieceValue) → ◌≡◌ {A = Setting (List PieceValue)} (Ok x) (Ok y) → x ≡ y
 ok_is x y e = cc

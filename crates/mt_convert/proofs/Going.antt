@@ -2,7 +2,7 @@
 use Rattle.std.proofs.Common.{◌≡◌, ℕ, zero, suc, ◌<◌, ◌≤◌, ◌+◌, ◌*◌, ◌^◌, ◌≤ℤ◌, ℤ, pos, List, [], ◌∷◌, ◌++◌, length, drop, ap, sym, ◌∙◌, refl, arith, subst, append_assoc, length-append, Option, Some, None, Bool, true, false, if◌then◌else◌}
 use Rattle.std.proofs.lemmas.Int.{ints, clamps}
 use Rattle.std.proofs.lemmas.List.{nil_from_length, take_all}
-use Rattle.std.specs.Prelude.{Ok, Err, ⊤}
+use Rattle.std.specs.Prelude.{Ok, Err, IfSome, ⊤}
 use Rattle.std.specs.Int.{int_max}
 use Rattle.mt_scaled.specs.Number.{Within, is_in_range, max_dimen}
 use Rattle.mt_box.specs.Rows.{PieceValue, row_height, row_depth}
@@ -20,6 +20,9 @@ use Rattle.mt_convert.specs.declared.placed.PlacedHalf.TheVariants as placed
 use Rattle.mt_convert.specs.declared.placed.PlacedHalves.{PlacedHalves}
 use Rattle.mt_convert.specs.declared.set.settle.Reach.{Reach}
 use Rattle.mt_convert.specs.declared.flat.passed.Passed.{Passed as CodePassed}
+use Rattle.mt_arena.specs.declared.thing.Thing.{Thing}
+use Rattle.mt_arena.specs.Arena.{Held, value_in}
+use Rattle.mt_arena.specs.Rest.{is_item, more_of}
 use Rattle.mt_convert.specs.Calls.{SetFails}
 use Rattle.mt_convert.specs.Current.{opening}
 use Rattle.mt_convert.specs.FirstPass.{set_item, set_items, first_pass_of}
@@ -30,12 +33,14 @@ use Rattle.mt_convert.specs.inner.OnPieces.{HalfOn}
 use Rattle.mt_convert.specs.inner.Placed.{AllPlacedFit, HalvesOn, PlacedFits, placed_count, placed_length, placed_value, placed_values}
 use Rattle.mt_convert.specs.inner.Settling.{CanFinish, Finishes}
 use Rattle.mt_convert.specs.inner.Appending.{appended_to}
-use Rattle.mt_convert.specs.inner.Boundaries.{Remains, RestOfList, TurnLeaves}
+use Rattle.mt_convert.specs.inner.Boundaries.{Remains, RestOfList, LeavesBy}
 use Rattle.mt_convert.specs.inner.Lengths.{kern_halves, test_kern}
 use Rattle.mt_convert.specs.inner.Modest.{IsModestElement}
-use Rattle.mt_convert.specs.inner.Turns.{PassedElement, ListTurn, PassesOne, RewritesTo, element_of_passed, passed_value, turn_of, turned, turn_meaning, flat_item, flat_items, current_after_passed, kern_of}
+use Rattle.mt_convert.specs.inner.Spans.{KeptPassed, ModestPassed, passed_in, turn_of_held}
+use Rattle.mt_convert.specs.inner.Turns.{PassedElement, ListTurn, PassesOne, RewritesTo, element_of_passed, turn_of, turned_by, turn_meaning, flat_item, flat_items, current_after_passed, kern_of}
 use Rattle.mt_convert.proofs.Appending.{appended_nil, appended_end, fails_on}
 use Rattle.mt_convert.proofs.Following.{FollowSoFar, follow_start, follow_step, item_follows}
+use Rattle.mt_convert.proofs.ThingKinds.{an_item}
 use Rattle.mt_convert.proofs.InOrder.{items_set, items_fail, item_err, kern_err, kern_values}
 use Rattle.mt_convert.proofs.Remaining.{remains_start, remains_again, remains_pass, remains_end}
 use Rattle.mt_convert.proofs.Settling.{height_low, depth_low}
@@ -376,16 +381,42 @@ going_end fonts first whole current rest items reach old new x g e f = end_set f
 
 -- ---- what the program answers of a turn
 
-pub turned_some : (o : Option CodePassed) (p : CodePassed) (rest : Sequence) (t : ListTurn) → turned o rest ≡ t → o ≡ Some p → PassesOne (passed_value p) rest ≡ t
-turned_some o p rest t e f = subst (λ x. turned x rest ≡ t) f e
+-- where boundaries are after a turn
+abbrev pub TurnLeaves : Bool → ListTurn → Type 0
+TurnLeaves enclosed (PassesOne p rest) = RestOfList enclosed (More (element_of_passed p) rest)
+TurnLeaves enclosed (RewritesTo rest) = RestOfList enclosed rest
 
-pub turned_none : (o : Option CodePassed) (rest : Sequence) (t : ListTurn) → turned o rest ≡ t → ((p : CodePassed) → o ≡ Some p → ⊥) → RewritesTo rest ≡ t
-turned_none None rest t e n = e
-turned_none (Some p) rest t e n = absurd (n p refl)
+turn_leaves : {P : Type 0} (meaning : P → PassedElement) (enclosed : Bool) (o : Option P) (rest : Sequence) → LeavesBy meaning enclosed o rest → TurnLeaves enclosed (turned_by meaning o rest)
+turn_leaves meaning enclosed None rest x = x
+turn_leaves meaning enclosed (Some p) rest x = x
 
-pub leaves_some : (X : Bool → Type 0) (o : Option CodePassed) (p : CodePassed) (rest : Sequence) → ((enclosed : Bool) → X enclosed → TurnLeaves enclosed o rest) → o ≡ Some p → (enclosed : Bool) → X enclosed → RestOfList enclosed (More (element_of_passed (passed_value p)) rest)
-leaves_some X o p rest g e enclosed x = subst (λ v. TurnLeaves enclosed v rest) e (g enclosed x)
+-- a turn at the front of a list in an arena
+pub record FrontTurn (fonts : SetValue) (current : Current) (rest : Sequence) (t : ListTurn) : Type 0 where
+  pub element : Element
+  pub after : Sequence
+  pub is : rest ≡ More element after
+  pub turn : t ≡ turn_of fonts current element after
+  pub leaves : (enclosed : Bool) → RestOfList enclosed (More element after) → TurnLeaves enclosed t
 
-pub leaves_none : (X : Bool → Type 0) (o : Option CodePassed) (rest : Sequence) → ((enclosed : Bool) → X enclosed → TurnLeaves enclosed o rest) → ((p : CodePassed) → o ≡ Some p → ⊥) → (enclosed : Bool) → X enclosed → RestOfList enclosed rest
-leaves_none X None rest g n enclosed x = g enclosed x
-leaves_none X (Some p) rest g n enclosed x = absurd (n p refl)
+front_turn : (fonts : SetValue) (current : Current) (es : List Held) (front : Thing) (rest after rest' : Sequence) (o : Option CodePassed) → is_item front ≡ true → rest ≡ more_of (value_in es front) after → turned_by (passed_in es) o rest' ≡ turn_of_held fonts current (value_in es front) after → ((enclosed : Bool) → RestOfList enclosed (more_of (value_in es front) after) → LeavesBy (passed_in es) enclosed o rest') → FrontTurn fonts current rest (turned_by (passed_in es) o rest')
+front_turn fonts current es front rest after rest' o i e u l =
+    let h = an_item es front i in
+    record {
+      element = h.element;
+      after = after;
+      is = e ∙ ap (λ x. more_of x after) h.is;
+      turn = u ∙ ap (λ x. turn_of_held fonts current x after) h.is;
+      leaves = λ enclosed x. turn_leaves (passed_in es) enclosed o rest' (l enclosed (subst (λ v. RestOfList enclosed (more_of v after)) (sym h.is) x));
+    }
+
+pub front_passes : (fonts : SetValue) (current : Current) (es : List Held) (front : Thing) (rest after rest' : Sequence) (o : Option CodePassed) (p : CodePassed) → is_item front ≡ true → rest ≡ more_of (value_in es front) after → turned_by (passed_in es) o rest' ≡ turn_of_held fonts current (value_in es front) after → ((enclosed : Bool) → RestOfList enclosed (more_of (value_in es front) after) → LeavesBy (passed_in es) enclosed o rest') → o ≡ Some p → FrontTurn fonts current rest (PassesOne (passed_in es p) rest')
+front_passes fonts current es front rest after rest' o p i e u l f = subst (λ x. FrontTurn fonts current rest (turned_by (passed_in es) x rest')) f (front_turn fonts current es front rest after rest' o i e u l)
+
+pub front_again : (fonts : SetValue) (current : Current) (es : List Held) (front : Thing) (rest after rest' : Sequence) (o : Option CodePassed) → is_item front ≡ true → rest ≡ more_of (value_in es front) after → turned_by (passed_in es) o rest' ≡ turn_of_held fonts current (value_in es front) after → ((enclosed : Bool) → RestOfList enclosed (more_of (value_in es front) after) → LeavesBy (passed_in es) enclosed o rest') → ((p : CodePassed) → o ≡ Some p → ⊥) → FrontTurn fonts current rest (RewritesTo rest')
+front_again fonts current es front rest after rest' None i e u l n = front_turn fonts current es front rest after rest' None i e u l
+front_again fonts current es front rest after rest' (Some p) i e u l n = absurd (n p refl)
+
+pub modest_passed : (es : List Held) (o : Option CodePassed) (p : CodePassed) → o ≡ Some p → IfSome o (KeptPassed es) → IsModestElement (element_of_passed (passed_in es p)) → ModestPassed es p
+modest_passed es o p e k m =
+    let i = subst (λ x. IfSome x (KeptPassed es)) e k in
+    record { within = i.1.0; modest = m; kept = i.1.1 }

@@ -19,8 +19,6 @@ pub mod FewPieces
 pub mod Wrapping
 -- rows whose glyphs exist and whose rules mark something
 pub mod holds
--- stacks as lists
-pub mod Stacks
 -- as many turns as a list holds are enough for its flat list
 mod Flattening
 -- what a turn leaves
@@ -33,10 +31,14 @@ pub mod Settling
 pub mod Following
 -- items set in order
 pub mod InOrder
+-- what a thing of an arena is
+pub mod ThingKinds
 -- the first pass, turn by turn
 pub mod Going
 -- both passes
 pub mod BothPasses
+-- the list of one atom alone
+pub mod LoneLists
 -- whole lists in the toy fonts, worked
 mod cases
 -- atoms of each kind, and fractions

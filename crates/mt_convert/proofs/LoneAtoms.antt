@@ -11,7 +11,7 @@ use Rattle.mt_convert.specs.declared.placed.PlacedHalf.TheVariants as placed
 use Rattle.mt_convert.specs.Current.{opening}
 use Rattle.mt_convert.specs.SecondPass.{all_pieces}
 use Rattle.mt_convert.specs.inner.LoneAtoms.{is_set_atom, is_lone_atom}
-use Rattle.mt_convert.specs.inner.OnPieces.{RowOn}
+use Rattle.mt_convert.specs.Calls.{RowOn}
 use Rattle.mt_convert.specs.inner.Placed.{placed_values, placed_length, placed_count}
 
 atom_row : (fonts : SetValue) (size : Size) (wanted : ℤ) (style : Style) (h : PlacedHalf) (row : List PieceValue) → is_set_atom h ≡ true → placed_length h ≡ length row

@@ -17,7 +17,8 @@ use Rattle.mt_convert.proofs.Appending.{nil_right}
 use Rattle.mt_convert.proofs.kinds.Chains.{first_made}
 use Rattle.mt_convert.specs.declared.fault.SetFault.{SetFault}
 use Rattle.mt_convert.specs.inner.AtomSteps.{lone_box, row_beside, row_of_box, row_of_root}
-use Rattle.mt_convert.specs.inner.OnPieces.{AtomOn, BoxOn, RowOn, SetsAtomOn, SetsRowOn}
+use Rattle.mt_convert.specs.Calls.{RowOn, SetsRowOn}
+use Rattle.mt_convert.specs.inner.OnPieces.{AtomOn, BoxOn, SetsAtomOn}
 
 -- ---- the pieces behind others
 

@@ -16,11 +16,11 @@ use Rattle.mt_convert.specs.declared.fault.SetFault.{SetFault}
 use Rattle.mt_convert.specs.declared.placed.PlacedHalf.{PlacedHalf}
 use Rattle.mt_convert.specs.Current.{opening}
 use Rattle.mt_convert.specs.Halves.{HalfValue}
-use Rattle.mt_convert.specs.Calls.{SetFails}
+use Rattle.mt_convert.specs.Calls.{SetFails, RowOn, SetsRowOn}
 use Rattle.mt_convert.specs.Halfway.{AllMeet, MayMeet}
 use Rattle.mt_convert.specs.SecondPass.{all_pieces, half_pieces, current_after_half, row_of_halves, second_pass_of}
 use Rattle.mt_convert.specs.inner.Appending.{appended_to}
-use Rattle.mt_convert.specs.inner.OnPieces.{RowOn, SetsRowOn, TestsRow}
+use Rattle.mt_convert.specs.inner.OnPieces.{TestsRow}
 use Rattle.mt_convert.specs.inner.Placed.{placed_value, placed_values, placed_length, placed_count, placed_left, PlacedFits, AllPlacedFit, PlacesIn}
 use Rattle.mt_convert.proofs.Appending.{appended_nil, appended_end, appended_step, appended_err, fails_on}
 use Rattle.mt_convert.proofs.FewPieces.{all_few}

@@ -1,6 +1,6 @@
 -- The public calls, by way of a stack that begins empty (`pass_is`, `list_taken`, `halves_taken`).
-use Rattle.std.proofs.Common.{◌≡◌, ◌≤◌, ◌^◌, List, [], ◌++◌, take, length, ap, sym, ◌∙◌, arith, subst}
-use Rattle.std.specs.Prelude.{Ok}
+use Rattle.std.proofs.Common.{◌≡◌, ◌≤◌, ◌^◌, List, [], ◌++◌, take, drop, length, ap, sym, refl, ◌∙◌, arith, subst}
+use Rattle.std.specs.Prelude.{Ok, Err, Result, All, OnOk}
 use Rattle.mt_family.specs.SetValue.{SetValue}
 use Rattle.mt_box.specs.declared.piece.Piece.{Piece}
 use Rattle.mt_box.specs.Rows.{PieceValue, piece_values}
@@ -9,13 +9,16 @@ use Rattle.mt_rules.specs.Sequence.{Sequence}
 use Rattle.mt_rules.specs.Setting.{Setting}
 use Rattle.mt_convert.specs.declared.fault.SetFault.{SetFault}
 use Rattle.mt_convert.specs.declared.placed.PlacedHalves.{PlacedHalves}
-use Rattle.mt_convert.specs.Calls.{SetFails}
+use Rattle.mt_convert.specs.Calls.{SetFails, RowOn, SetsRowOn}
 use Rattle.mt_convert.specs.Halves.{Halves}
+use Rattle.mt_convert.specs.Holding.{RowHolds}
 use Rattle.mt_convert.specs.ListRow.{halves_of, list_row}
 use Rattle.mt_convert.specs.SecondPass.{second_pass_of}
 use Rattle.mt_convert.specs.inner.Fields.{list_content}
-use Rattle.mt_convert.specs.inner.OnPieces.{RowOn}
 use Rattle.mt_convert.specs.inner.Placed.{placed_halves, HalvesOn, IsPlaced}
+use Rattle.mt_tfm.specs.Font.{IsSoundFont}
+use Rattle.mt_convert.proofs.Behind.{row_behind}
+use Rattle.mt_convert.proofs.holds.Lists.{list_row_holds}
 use Rattle.mt_convert.proofs.PutRows.{values_length}
 
 halves_are : (x y : Halves) → ◌≡◌ {A = Setting Halves} (Ok x) (Ok y) → x ≡ y
@@ -34,13 +37,16 @@ few_taken new row e f = omega (arith, f, values_length row, ap length e)
 
 -- ---- a list that is set
 
-pub list_taken : (fonts : SetValue) (style : Style) (list : Sequence) (old new : List PieceValue) (row : List Piece) → old ≡ [] → RowOn old new (list_content fonts list style) → piece_values row ≡ new → list_row fonts style list ≡ Ok (piece_values row)
-unfolding list_row halves_of
+pub list_taken : (fonts : SetValue) (style : Style) (list : Sequence) (old new : List PieceValue) (row : List Piece) → old ≡ [] → RowOn old new (list_row fonts style list) → piece_values row ≡ new → list_row fonts style list ≡ Ok (piece_values row)
 list_taken fonts style list old new row e m f = m.is ∙ ap (λ r. Ok r) (sym (f ∙ (m.stays ∙ ap (λ o. o ++ m.row) e)))
 
-pub list_refused : (fonts : SetValue) (style : Style) (list : Sequence) (fault : SetFault) → SetFails fault (list_content fonts list style) → SetFails fault (list_row fonts style list)
+pub list_put : {U : Type 0} (r : Result U SetFault) (fonts : SetValue) (style : Style) (list : Sequence) (old new : List PieceValue) → SetsRowOn r old new (list_content fonts list style) → SetsRowOn r old new (list_row fonts style list)
 unfolding list_row halves_of
-list_refused fonts style list fault h = h
+list_put r fonts style list old new h = h
+
+pub row_put : {U : Type 0} (r : Result U SetFault) (fonts : SetValue) (style : Style) (list : Sequence) (old new : List PieceValue) → All IsSoundFont fonts.fonts → SetsRowOn r old new (list_row fonts style list) → OnOk r (RowHolds fonts (drop (length old) new))
+row_put (Ok u) fonts style list old new sound h = subst (RowHolds fonts) (sym (row_behind (length old) old h.row new refl h.stays)) (list_row_holds fonts sound style list h.row h.is)
+row_put (Err fault) fonts style list old new sound h = tt
 
 -- the items of the first pass
 

@@ -1,6 +1,6 @@
 -- What a call answers, beside what setting answers (`SetsRow`): the same row, or the same fault. Want of memory may
 -- come in its place.
-use Rattle.std.specs.Prelude.{◌≡◌, List, Result, Ok, Err, ⊤}
+use Rattle.std.specs.Prelude.{◌≡◌, ◌++◌, List, Result, Ok, Err, ⊤}
 use Rattle.mt_box.specs.declared.piece.Piece.{Piece}
 use Rattle.mt_box.specs.Rows.{PieceValue, piece_values}
 use Rattle.mt_rules.specs.Setting.{Setting, MissingFamily, MissingChar, SmartLigature, Overflow, TooTall}
@@ -25,3 +25,13 @@ SetsRow (Err fault) setting = SetFails fault setting
 abbrev pub SetsHalves : Result HalfwayValue SetFault → Setting Halves → Type 0
 SetsHalves (Ok half) setting = setting ≡ Ok (halves_value half)
 SetsHalves (Err fault) setting = SetFails fault setting
+
+-- the row is behind the pieces that were there
+pub record RowOn (old new : List PieceValue) (setting : Setting (List PieceValue)) : Type 0 where
+  pub row : List PieceValue
+  pub is : setting ≡ Ok row
+  pub stays : new ≡ old ++ row
+
+abbrev pub SetsRowOn : {U : Type 0} → Result U SetFault → List PieceValue → List PieceValue → Setting (List PieceValue) → Type 0
+SetsRowOn (Ok u) old new setting = RowOn old new setting
+SetsRowOn (Err fault) old new setting = SetFails fault setting

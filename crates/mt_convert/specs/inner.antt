@@ -10,8 +10,6 @@ pub mod Turns
 pub mod Spans
 -- where boundaries stand in what is left of a list
 pub mod Boundaries
--- a stack of items as a list
-pub mod Stack
 -- the cells of a table that have a column
 pub mod Tables
 -- the clean box of a character

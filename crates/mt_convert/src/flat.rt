@@ -2,7 +2,7 @@
 //! at its front, and its items are passed on to be set.
 
 pub mod current;
+pub mod front;
 pub mod joining;
 pub mod passed;
 pub mod turn;
-pub mod worklist;

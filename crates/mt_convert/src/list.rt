@@ -9,11 +9,10 @@ ghost use Rattle.mt_rules.specs.AtomRow.{accent_inside, overline_part, pack_cell
 ghost use Rattle.mt_rules.specs.AtomRow.{packed_field, radical_part, radical_row, script_box};
 ghost use Rattle.mt_rules.specs.AtomRow.{table_part, underline_part, vcenter_part, veil_part};
 ghost use Rattle.mt_rules.specs.declared.list.Look.TheVariants.{Equations};
-ghost use Rattle.mt_rules.specs.Modest.{IsModestList};
 ghost use Rattle.mt_rules.specs.Sequence.{rows_length};
 ghost use Rattle.mt_rules.specs.Nuclei.{Content, SymbolContent, clean_field, clean_list};
-ghost use Rattle.mt_rules.specs.View.{atom_element, fraction_element, part_of_field};
-ghost use Rattle.mt_convert.specs.Calls.{SetFails};
+ghost use Rattle.mt_arena.specs.Arena.{cell_part, grid_in, rows_in, sequence_in};
+ghost use Rattle.mt_convert.specs.Calls.{SetFails, SetsRowOn};
 ghost use Rattle.mt_convert.specs.FirstPass;
 ghost use Rattle.mt_convert.specs.ListRow.{cells_by_style, halves_of, rows_by_style};
 ghost use Rattle.mt_convert.specs.inner.Fields.{atom_row_of, field_content, fraction_row_of};
@@ -22,87 +21,95 @@ ghost use Rattle.mt_convert.specs.inner.AtomSteps.{accent_part, class_nucleus, k
 ghost use Rattle.mt_convert.specs.inner.AtomSteps.{operator_box, row_with_fields};
 ghost use Rattle.mt_convert.specs.inner.AtomSteps.{list_box, part_box, symbol_with_scripts, under_limits};
 ghost use Rattle.mt_convert.specs.inner.Forms.{HasDegree};
-ghost use Rattle.mt_convert.specs.inner.Modest.{IsModestElement, IsModestGrid, IsModestPart, IsModestRows};
+ghost use Rattle.mt_convert.specs.inner.Modest.{IsModestGrid, IsModestRows};
 ghost use Rattle.mt_convert.specs.inner.OnPieces.{CellsOn, SetsAtomOn, SetsBoxOn, SetsBoxesOn, SetsHalfOn};
-ghost use Rattle.mt_convert.specs.inner.OnPieces.{SetsNucleusOn, SetsOperatorOn, SetsRowOn, SetsScriptOn};
+ghost use Rattle.mt_convert.specs.inner.OnPieces.{SetsNucleusOn, SetsOperatorOn, SetsScriptOn};
 ghost use Rattle.mt_convert.specs.inner.Placed.{SetsHalvesOn};
-ghost use Rattle.mt_convert.specs.inner.Turns.{element_of_passed, flat_item, passed_value};
-ghost use Rattle.mt_convert.specs.inner.Turns.{role_value};
+ghost use Rattle.mt_convert.specs.inner.Spans.{passed_in};
+ghost use Rattle.mt_convert.specs.inner.Spans.{ModestAtom, ModestCell, ModestFraction, ModestPassed, ModestSpan};
+ghost use Rattle.mt_convert.specs.inner.Tables.{rows_in_columns};
+ghost use Rattle.mt_convert.specs.inner.Turns.{flat_item, role_value};
 
 use crate::SetFault;
+use crate::context::Context;
 use crate::flat::current::{Current, kind_class};
 use crate::flat::joining::is_empty;
 use crate::flat::passed::{JoiningRole, Passed};
 use crate::flat::turn::turn;
-use crate::flat::worklist::Worklist;
+use crate::lone::lone_atom;
 use crate::placed::{PlacedHalf, PlacedHalves, placed_after};
 use crate::second::join::join_on;
 use crate::set::clean::{clean_symbol, cleaned, empty_box, find_symbol, packed, symbol_extents};
 use crate::set::form::{AtomForm, class_nucleus, form_of};
-use crate::set::lengths::{glue_in_points, make_kern, make_space, push_with_kern};
+use crate::set::lengths::{
+    glue_in_points, long_glue, long_length, make_kern, make_space, push_with_kern,
+};
 use crate::set::nucleus::{
     big_nucleus, big_operator, part_nucleus, part_operator, symbol_nucleus, symbol_operator,
 };
 use crate::set::parts::{
-    accent, field_skew, fraction, overline, radical, skew_of, underline, vcenter, veil, with_degree,
+    accent, field_skew, fraction, overline, radical, root_of, skew_of, underline, vcenter, veil,
+    with_degree,
 };
-use crate::set::row::test_row;
+use crate::set::row::{test_row, tested};
+use crate::set::rows::{next_cells, next_row};
 use crate::set::scripts::{with_limits, with_scripts, without_scripts};
 use crate::set::settle::{Reach, finish};
-use crate::set::tables::{equations, in_columns, matrix, push_count, table_strut};
+use crate::set::tables::{equations, has_column, matrix, push_count, table_strut};
+use mt_arena::{Arena, Cell, FractionNoad, Noad, Rest, Span};
 use mt_family::FontSet;
 use mt_pieces::{Pieces, Scripts};
-use mt_rules::{
-    Atom, Class, Delim, Field, Fraction, Kind, Look, MathList, Root, RowList, Style, Symbol, Table,
-    TableRows, in_points,
-};
+use mt_rules::{Class, Delim, Kind, Look, Style, Symbol, in_points};
 use mt_scaled::Length;
 use mt_spacing::forward;
 use std::alloc::Global;
 
 // The row of a math list in a style, behind the pieces that are there: at most 2^21 pieces.
 #[cycle(setting)]
-pub(crate) fn set_list_on(
+pub(crate) fn set_span_on(
     pieces: &mut Pieces,
-    alloc: Global,
-    fonts: &FontSet,
-    list: MathList,
+    context: Context<'_>,
+    list: Span,
     style: Style,
 ) -> Result<(), SetFault>
-    requires modest { IsModestList list }
-    ensures is { SetsRowOn result pieces.old pieces.new (list_content fonts.now list style) }
+    requires modest { ModestSpan context.arena.now.closed list }
+    ensures is { SetsRowOn result pieces.old pieces.new
+        (list_content context.entry.fonts.now (sequence_in context.entry.arena.now.closed list) style) }
     ensures few { OnOk result (length (drop (length pieces.old) pieces.new) ≤ 2 ^ 21) }
 {
     let first = pieces.len();
-    let halves = first_pass_on(pieces, alloc, fonts, list, style)?;
-    join_on(pieces, fonts, style, first, halves)
+    if let Some(atom) = lone_atom(context.arena, list) {
+        set_atom(pieces, context, style, JoiningRole::Ordinary, &atom)?;
+        return tested(pieces, first);
+    }
+    let halves = first_pass_on(pieces, context, list, style)?;
+    join_on(pieces, context.fonts, style, first, halves)
 }
 
 // The first pass over a math list in a style: the rows of its items are behind the pieces that are there.
 #[cycle(setting)]
 pub(crate) fn first_pass_on(
     pieces: &mut Pieces,
-    alloc: Global,
-    fonts: &FontSet,
-    list: MathList,
+    context: Context<'_>,
+    list: Span,
     style: Style,
 ) -> Result<PlacedHalves, SetFault>
-    requires modest { IsModestList list }
-    ensures is { SetsHalvesOn result pieces.old pieces.new (halves_of fonts.now style list) }
+    requires modest { ModestSpan context.arena.now.closed list }
+    ensures is { SetsHalvesOn result pieces.old pieces.new
+        (halves_of context.entry.fonts.now style (sequence_in context.entry.arena.now.closed list)) }
 {
-    let mut rest = Worklist::of(list);
-    let mut items = Vec::with_capacity(alloc, rest.len())?;
+    let mut rest = Rest::of(context.alloc, list);
+    let room = list.end.saturating_sub(list.start) as usize;
+    let mut items = Vec::with_capacity(context.alloc, room)?;
     let mut current = Current::opening(style);
     let mut reach = Reach::none();
-    while let Some(front) = rest.pop() {
-        if let Some(passed) = turn(fonts, current, front, &mut rest)? {
-            let next = current.after_passed(&passed);
-            let kern = passed.kern();
+    while let Some(front) = rest.pop(context.arena) {
+        if let Some(passed) = turn(context.fonts, context.arena, current, front, &mut rest)? {
             let first = pieces.len();
-            let half = set_item(pieces, alloc, fonts, current, passed)?;
+            let half = set_item(pieces, context, current, &passed)?;
             reach = reach.with_pieces(pieces, first);
-            push_with_kern(&mut items, half, kern)?;
-            current = next;
+            push_with_kern(&mut items, half, passed.kern())?;
+            current = current.after_passed(&passed);
         }
     }
     Ok(finish(items, reach))
@@ -112,44 +119,39 @@ pub(crate) fn first_pass_on(
 #[cycle(setting)]
 fn set_item(
     pieces: &mut Pieces,
-    alloc: Global,
-    fonts: &FontSet,
+    context: Context<'_>,
     current: Current,
-    passed: Passed,
+    passed: &Passed,
 ) -> Result<PlacedHalf, SetFault>
-    requires modest { IsModestElement (element_of_passed (passed_value passed)) }
+    requires modest { ModestPassed context.arena.now.closed passed.now }
     ensures is { SetsHalfOn result pieces.old pieces.new
-        (FirstPass.set_item fonts.now current (flat_item fonts.now (passed_value passed))) }
+        (FirstPass.set_item context.entry.fonts.now current (flat_item context.entry.fonts.now
+        (passed_in context.entry.arena.now.closed passed.now))) }
 {
     match passed {
-        Passed::Atom { role, atom, .. } => {
-            let atom = Box::into_inner(atom);
-            let class = forward(current.last, kind_class(atom.kind));
+        Passed::Atom { role, noad, .. } => {
+            let class = forward(current.last, kind_class(noad.kind));
             let first = pieces.len();
-            set_atom(pieces, alloc, fonts, current.style, role, atom)?;
+            set_atom(pieces, context, current.style, *role, noad)?;
             Ok(placed_after(pieces, first, class))
         }
         Passed::Fraction(fraction) => {
             let first = pieces.len();
-            set_fraction(
-                pieces,
-                alloc,
-                fonts,
-                current.style,
-                Box::into_inner(fraction),
-            )?;
+            set_fraction(pieces, context, current.style, fraction)?;
             Ok(placed_after(pieces, first, Class::Inner))
         }
-        Passed::Left(delim) => Ok(PlacedHalf::Left(delim)),
-        Passed::Middle(delim) => Ok(PlacedHalf::Middle(delim)),
-        Passed::Right(delim) => Ok(PlacedHalf::Right(delim)),
-        Passed::Style(style) => Ok(PlacedHalf::Style(style)),
-        Passed::MuSpace(glue) => make_space(glue_in_points(fonts, current.style, glue)),
-        Passed::Space(glue) => make_space(glue),
-        Passed::MuKern(amount) => {
-            make_kern(in_points(fonts, current.style, Length { sp: amount }))
+        Passed::Left(delim) => Ok(PlacedHalf::Left(*delim)),
+        Passed::Middle(delim) => Ok(PlacedHalf::Middle(*delim)),
+        Passed::Right(delim) => Ok(PlacedHalf::Right(*delim)),
+        Passed::Style(style) => Ok(PlacedHalf::Style(*style)),
+        Passed::MuSpace(glue) => {
+            make_space(glue_in_points(context.fonts, current.style, long_glue(*glue)))
         }
-        Passed::Kern(amount) => make_kern(Length { sp: amount }),
+        Passed::Space(glue) => make_space(long_glue(*glue)),
+        Passed::MuKern(amount) => {
+            make_kern(in_points(context.fonts, current.style, long_length(*amount)))
+        }
+        Passed::Kern(amount) => make_kern(long_length(*amount)),
     }
 }
 
@@ -157,46 +159,36 @@ fn set_item(
 #[cycle(setting)]
 fn set_atom(
     pieces: &mut Pieces,
-    alloc: Global,
-    fonts: &FontSet,
+    context: Context<'_>,
     style: Style,
     role: JoiningRole,
-    atom: Atom,
+    atom: &Noad,
 ) -> Result<(), SetFault>
-    requires modest { IsModestElement (atom_element atom) }
-    ensures is { SetsAtomOn result pieces.old pieces.new (atom_row_of fonts.now style (role_value role) atom) }
+    requires modest { ModestAtom context.arena.now.closed atom.now }
+    ensures is { SetsAtomOn result pieces.old pieces.new
+        (atom_row_of context.entry.fonts.now context.entry.arena.now.closed style (role_value role) atom.now) }
 {
-    let form = form_of(style, &atom);
-    let Atom {
+    let Noad {
         kind,
         nucleus,
         sup,
         sub,
         ..
-    } = atom;
-    match form {
-        AtomForm::Limits => set_under_limits(pieces, alloc, fonts, style, nucleus, sup, sub),
+    } = *atom;
+    match form_of(style, atom) {
+        AtomForm::Limits => set_under_limits(pieces, context, style, nucleus, sup, sub),
         AtomForm::AccentInside { accent, symbol } => {
-            set_accent_inside(pieces, alloc, fonts, style, accent, symbol, sup, sub)
+            set_accent_inside(pieces, context, style, accent, symbol, sup, sub)
         }
-        AtomForm::Root { sign } => set_root(pieces, alloc, fonts, style, sign, nucleus),
+        AtomForm::Root { sign } => set_root(pieces, context, style, sign, nucleus),
         AtomForm::Beside => {
-            let has_subscript = !is_empty(&sub);
+            let has_subscript = !is_empty(sub);
             let first = pieces.len();
-            let delta = set_nucleus(
-                pieces,
-                alloc,
-                fonts,
-                style,
-                kind,
-                role,
-                nucleus,
-                has_subscript,
-            )?;
-            if is_empty(&sup) && !has_subscript {
+            let delta = set_nucleus(pieces, context, style, kind, role, nucleus, has_subscript)?;
+            if is_empty(sup) && !has_subscript {
                 return without_scripts(pieces, first);
             }
-            set_scripts(pieces, alloc, fonts, style, first, delta, sup, sub)
+            set_scripts(pieces, context, style, first, delta, sup, sub)
         }
     }
 }
@@ -208,26 +200,33 @@ fn set_atom(
 #[inline(never)]
 fn set_scripts(
     pieces: &mut Pieces,
-    alloc: Global,
-    fonts: &FontSet,
+    context: Context<'_>,
     style: Style,
     first: usize,
     delta: Length,
-    sup: Field,
-    sub: Field,
+    sup: Cell,
+    sub: Cell,
 ) -> Result<(), SetFault>
     requires few { length (drop first pieces.old) ≤ 2 }
     requires delta { Within (2 ^ 31) delta.sp }
-    requires sup { IsModestPart (part_of_field sup) }
-    requires sub { IsModestPart (part_of_field sub) }
+    requires sup { ModestCell context.arena.now.closed sup }
+    requires sub { ModestCell context.arena.now.closed sub }
     ensures is { (before row : List PieceValue) → length before ≡ first → pieces.old ≡ before ++ row
         → SetsAtomOn result before pieces.new
-        (row_with_fields fonts.now style (record { row = row; delta = delta.sp })
-        (field_content fonts.now sup) (field_content fonts.now sub)) }
+        (row_with_fields context.entry.fonts.now style (record { row = row; delta = delta.sp })
+        (field_content context.entry.fonts.now context.entry.arena.now.closed sup)
+        (field_content context.entry.fonts.now context.entry.arena.now.closed sub)) }
 {
-    let sup = set_script(pieces, alloc, fonts, style.sup(), sup)?;
-    let sub = set_script(pieces, alloc, fonts, style.sub(), sub)?;
-    with_scripts(pieces, fonts, style, first, delta, Scripts { sup, sub })
+    let sup = set_script(pieces, context, style.sup(), sup)?;
+    let sub = set_script(pieces, context, style.sub(), sub)?;
+    with_scripts(
+        pieces,
+        context.fonts,
+        style,
+        first,
+        delta,
+        Scripts { sup, sub },
+    )
 }
 
 // The row of an operator that is set now, with its scripts above and below it.
@@ -235,42 +234,50 @@ fn set_scripts(
 #[inline(never)]
 fn set_under_limits(
     pieces: &mut Pieces,
-    alloc: Global,
-    fonts: &FontSet,
+    context: Context<'_>,
     style: Style,
-    nucleus: Field,
-    sup: Field,
-    sub: Field,
+    nucleus: Cell,
+    sup: Cell,
+    sub: Cell,
 ) -> Result<(), SetFault>
-    requires nucleus { IsModestPart (part_of_field nucleus) }
-    requires sup { IsModestPart (part_of_field sup) }
-    requires sub { IsModestPart (part_of_field sub) }
+    requires nucleus { ModestCell context.arena.now.closed nucleus }
+    requires sup { ModestCell context.arena.now.closed sup }
+    requires sub { ModestCell context.arena.now.closed sub }
     ensures is { SetsAtomOn result pieces.old pieces.new
-        (under_limits fonts.now style (field_content fonts.now nucleus)
-        (field_content fonts.now sup) (field_content fonts.now sub)) }
+        (under_limits context.entry.fonts.now style
+        (field_content context.entry.fonts.now context.entry.arena.now.closed nucleus)
+        (field_content context.entry.fonts.now context.entry.arena.now.closed sup)
+        (field_content context.entry.fonts.now context.entry.arena.now.closed sub)) }
 {
-    let delta = set_operator(pieces, alloc, fonts, style, nucleus)?;
-    let sup = set_script(pieces, alloc, fonts, style.sup(), sup)?;
-    let sub = set_script(pieces, alloc, fonts, style.sub(), sub)?;
-    with_limits(pieces, fonts, style.size(), delta, Scripts { sup, sub })
+    let delta = set_operator(pieces, context, style, nucleus)?;
+    let sup = set_script(pieces, context, style.sup(), sup)?;
+    let sub = set_script(pieces, context, style.sub(), sub)?;
+    with_limits(
+        pieces,
+        context.fonts,
+        style.size(),
+        delta,
+        Scripts { sup, sub },
+    )
 }
 
 // The clean box of a script, and whether there is one.
 #[cycle(setting)]
 fn set_script(
     pieces: &mut Pieces,
-    alloc: Global,
-    fonts: &FontSet,
+    context: Context<'_>,
     style: Style,
-    field: Field,
+    field: Cell,
 ) -> Result<bool, SetFault>
-    requires modest { IsModestPart (part_of_field field) }
-    ensures is { SetsScriptOn result pieces.old pieces.new (script_box fonts.now style (field_content fonts.now field)) }
+    requires modest { ModestCell context.arena.now.closed field }
+    ensures is { SetsScriptOn result pieces.old pieces.new
+        (script_box context.entry.fonts.now style
+        (field_content context.entry.fonts.now context.entry.arena.now.closed field)) }
 {
-    if is_empty(&field) {
+    if is_empty(field) {
         return Ok(false);
     }
-    clean_field(pieces, alloc, fonts, style, field)?;
+    clean_field(pieces, context, style, field)?;
     Ok(true)
 }
 
@@ -278,17 +285,18 @@ fn set_script(
 #[cycle(setting)]
 fn clean_field(
     pieces: &mut Pieces,
-    alloc: Global,
-    fonts: &FontSet,
+    context: Context<'_>,
     style: Style,
-    field: Field,
+    field: Cell,
 ) -> Result<(), SetFault>
-    requires modest { IsModestPart (part_of_field field) }
-    ensures is { SetsBoxOn result pieces.old pieces.new (clean_field fonts.now style (field_content fonts.now field)) }
+    requires modest { ModestCell context.arena.now.closed field }
+    ensures is { SetsBoxOn result pieces.old pieces.new
+        (clean_field context.entry.fonts.now style
+        (field_content context.entry.fonts.now context.entry.arena.now.closed field)) }
 {
     match field {
-        Field::Sym(symbol) => clean_symbol(pieces, fonts, style, symbol),
-        Field::List(list) => clean_list(pieces, alloc, fonts, style, list),
+        Cell::Sym(symbol) => clean_symbol(pieces, context.fonts, style, symbol),
+        Cell::List(list) => clean_list(pieces, context, style, list),
         _ => empty_box(pieces),
     }
 }
@@ -297,16 +305,16 @@ fn clean_field(
 #[cycle(setting)]
 fn clean_list(
     pieces: &mut Pieces,
-    alloc: Global,
-    fonts: &FontSet,
+    context: Context<'_>,
     style: Style,
-    list: MathList,
+    list: Span,
 ) -> Result<(), SetFault>
-    requires modest { IsModestList list }
-    ensures is { SetsBoxOn result pieces.old pieces.new (clean_list (list_content fonts.now list) style) }
+    requires modest { ModestSpan context.arena.now.closed list }
+    ensures is { SetsBoxOn result pieces.old pieces.new
+        (clean_list (list_content context.entry.fonts.now (sequence_in context.entry.arena.now.closed list)) style) }
 {
     let first = pieces.len();
-    set_list_on(pieces, alloc, fonts, list, style)?;
+    set_span_on(pieces, context, list, style)?;
     cleaned(pieces, first)
 }
 
@@ -318,32 +326,23 @@ fn clean_list(
 #[inline(never)]
 fn set_nucleus(
     pieces: &mut Pieces,
-    alloc: Global,
-    fonts: &FontSet,
+    context: Context<'_>,
     style: Style,
     kind: Kind,
     role: JoiningRole,
-    field: Field,
+    field: Cell,
     has_subscript: bool,
 ) -> Result<Length, SetFault>
-    requires modest { IsModestPart (part_of_field field) }
+    requires modest { ModestCell context.arena.now.closed field }
     ensures is { SetsNucleusOn result pieces.old pieces.new
-        (kind_nucleus kind fonts.now style (role_value role) (field_content fonts.now field) has_subscript) }
+        (kind_nucleus kind context.entry.fonts.now style (role_value role)
+        (field_content context.entry.fonts.now context.entry.arena.now.closed field) has_subscript) }
 {
     match kind {
         Kind::Plain(class) => {
-            set_plain(
-                pieces,
-                alloc,
-                fonts,
-                style,
-                class,
-                role,
-                field,
-                has_subscript,
-            )
+            set_plain(pieces, context, style, class, role, field, has_subscript)
         }
-        _ => part_nucleus(set_part(pieces, alloc, fonts, style, kind, field)),
+        _ => part_nucleus(set_part(pieces, context, style, kind, field)),
     }
 }
 
@@ -351,27 +350,28 @@ fn set_nucleus(
 #[cycle(setting)]
 fn set_part(
     pieces: &mut Pieces,
-    alloc: Global,
-    fonts: &FontSet,
+    context: Context<'_>,
     style: Style,
     kind: Kind,
-    field: Field,
+    field: Cell,
 ) -> Result<(), SetFault>
-    requires modest { IsModestPart (part_of_field field) }
+    requires modest { ModestCell context.arena.now.closed field }
     requires other { (class : Class) → kind ≡ Plain class → ⊥ }
-    ensures is { SetsBoxOn result pieces.old pieces.new (part_box kind fonts.now style (field_content fonts.now field)) }
+    ensures is { SetsBoxOn result pieces.old pieces.new
+        (part_box kind context.entry.fonts.now style
+        (field_content context.entry.fonts.now context.entry.arena.now.closed field)) }
 {
     match kind {
-        Kind::Radical(sign) => set_radical(pieces, alloc, fonts, style, sign, field),
-        Kind::Accent(accent) => set_accent(pieces, alloc, fonts, style, accent, field),
-        Kind::Over => set_overline(pieces, alloc, fonts, style, field),
-        Kind::Under => set_underline(pieces, alloc, fonts, style, field),
-        Kind::Vcenter => set_vcenter(pieces, alloc, fonts, style, field),
+        Kind::Radical(sign) => set_radical(pieces, context, style, sign, field),
+        Kind::Accent(accent) => set_accent(pieces, context, style, accent, field),
+        Kind::Over => set_overline(pieces, context, style, field),
+        Kind::Under => set_underline(pieces, context, style, field),
+        Kind::Vcenter => set_vcenter(pieces, context, style, field),
         Kind::Veil {
             width,
             height,
             marks,
-        } => set_veil(pieces, alloc, fonts, style, width, height, marks, field),
+        } => set_veil(pieces, context, style, width, height, marks, field),
         Kind::Plain(_) => unreachable!(),
     }
 }
@@ -380,24 +380,32 @@ fn set_part(
 #[cycle(setting)]
 fn set_plain(
     pieces: &mut Pieces,
-    alloc: Global,
-    fonts: &FontSet,
+    context: Context<'_>,
     style: Style,
     class: Class,
     role: JoiningRole,
-    field: Field,
+    field: Cell,
     has_subscript: bool,
 ) -> Result<Length, SetFault>
-    requires modest { IsModestPart (part_of_field field) }
+    requires modest { ModestCell context.arena.now.closed field }
     ensures is { SetsNucleusOn result pieces.old pieces.new
-        (class_nucleus class fonts.now style (role_value role) (field_content fonts.now field) has_subscript) }
+        (class_nucleus class context.entry.fonts.now style (role_value role)
+        (field_content context.entry.fonts.now context.entry.arena.now.closed field) has_subscript) }
 {
     match field {
-        Field::Sym(symbol) => {
-            class_nucleus(pieces, fonts, style, class, role, symbol, has_subscript)
+        Cell::Sym(symbol) => {
+            class_nucleus(
+                pieces,
+                context.fonts,
+                style,
+                class,
+                role,
+                symbol,
+                has_subscript,
+            )
         }
-        Field::List(list) => part_nucleus(pack_list(pieces, alloc, fonts, style, list)),
-        Field::Big { delim, level } => big_nucleus(pieces, fonts, delim, level),
+        Cell::List(list) => part_nucleus(pack_list(pieces, context, style, list)),
+        Cell::Big { delim, level } => big_nucleus(pieces, context.fonts, delim, level),
         _ => Ok(Length { sp: 0 }),
     }
 }
@@ -406,16 +414,16 @@ fn set_plain(
 #[cycle(setting)]
 fn pack_list(
     pieces: &mut Pieces,
-    alloc: Global,
-    fonts: &FontSet,
+    context: Context<'_>,
     style: Style,
-    list: MathList,
+    list: Span,
 ) -> Result<(), SetFault>
-    requires modest { IsModestList list }
-    ensures is { SetsBoxOn result pieces.old pieces.new (list_box (list_content fonts.now list) style) }
+    requires modest { ModestSpan context.arena.now.closed list }
+    ensures is { SetsBoxOn result pieces.old pieces.new
+        (list_box (list_content context.entry.fonts.now (sequence_in context.entry.arena.now.closed list)) style) }
 {
     let first = pieces.len();
-    set_list_on(pieces, alloc, fonts, list, style)?;
+    set_span_on(pieces, context, list, style)?;
     packed(pieces, first)
 }
 
@@ -424,18 +432,19 @@ fn pack_list(
 #[inline(never)]
 fn set_operator(
     pieces: &mut Pieces,
-    alloc: Global,
-    fonts: &FontSet,
+    context: Context<'_>,
     style: Style,
-    field: Field,
+    field: Cell,
 ) -> Result<Length, SetFault>
-    requires modest { IsModestPart (part_of_field field) }
-    ensures is { SetsOperatorOn result pieces.old pieces.new (operator_box fonts.now style (field_content fonts.now field)) }
+    requires modest { ModestCell context.arena.now.closed field }
+    ensures is { SetsOperatorOn result pieces.old pieces.new
+        (operator_box context.entry.fonts.now style
+        (field_content context.entry.fonts.now context.entry.arena.now.closed field)) }
 {
     match field {
-        Field::Sym(symbol) => symbol_operator(pieces, fonts, style, symbol),
-        Field::List(list) => part_operator(clean_list(pieces, alloc, fonts, style, list)),
-        Field::Big { delim, level } => big_operator(pieces, fonts, delim, level),
+        Cell::Sym(symbol) => symbol_operator(pieces, context.fonts, style, symbol),
+        Cell::List(list) => part_operator(clean_list(pieces, context, style, list)),
+        Cell::Big { delim, level } => big_operator(pieces, context.fonts, delim, level),
         _ => part_operator(empty_box(pieces)),
     }
 }
@@ -445,17 +454,18 @@ fn set_operator(
 #[inline(never)]
 fn pack_field(
     pieces: &mut Pieces,
-    alloc: Global,
-    fonts: &FontSet,
+    context: Context<'_>,
     style: Style,
-    field: Field,
+    field: Cell,
 ) -> Result<(), SetFault>
-    requires modest { IsModestPart (part_of_field field) }
-    ensures is { SetsBoxOn result pieces.old pieces.new (packed_field fonts.now style (field_content fonts.now field)) }
+    requires modest { ModestCell context.arena.now.closed field }
+    ensures is { SetsBoxOn result pieces.old pieces.new
+        (packed_field context.entry.fonts.now style
+        (field_content context.entry.fonts.now context.entry.arena.now.closed field)) }
 {
     let first = pieces.len();
     let role = JoiningRole::Ordinary;
-    set_plain(pieces, alloc, fonts, style, Class::Ord, role, field, false)?;
+    set_plain(pieces, context, style, Class::Ord, role, field, false)?;
     without_scripts(pieces, first)?;
     packed(pieces, first)
 }
@@ -467,75 +477,74 @@ fn pack_field(
 #[inline(never)]
 fn set_root(
     pieces: &mut Pieces,
-    alloc: Global,
-    fonts: &FontSet,
+    context: Context<'_>,
     style: Style,
     sign: Delim,
-    nucleus: Field,
+    nucleus: Cell,
 ) -> Result<(), SetFault>
-    requires degree { HasDegree (part_of_field nucleus) }
-    requires modest { IsModestPart (part_of_field nucleus) }
+    requires degree { HasDegree (cell_part context.arena.now.closed nucleus) }
+    requires modest { ModestCell context.arena.now.closed nucleus }
     ensures is { (sup sub : Content) → SetsAtomOn result pieces.old pieces.new
-        (radical_row fonts.now style sign (field_content fonts.now nucleus) sup sub) }
+        (radical_row context.entry.fonts.now style sign
+        (field_content context.entry.fonts.now context.entry.arena.now.closed nucleus) sup sub) }
 {
-    let Field::Root(boxed) = nucleus else {
-        unreachable!();
-    };
-    let root = Box::into_inner(boxed);
-    let Root { degree, body } = root;
+    let root = root_of(context.arena, nucleus);
     let first = pieces.len();
-    pack_field(pieces, alloc, fonts, Style::Ss, Field::List(degree))?;
-    set_radical(pieces, alloc, fonts, style.uncramped(), sign, body)?;
-    with_degree(pieces, fonts, style, first)
+    pack_field(pieces, context, Style::Ss, Cell::List(root.degree))?;
+    set_radical(pieces, context, style.uncramped(), sign, root.body)?;
+    with_degree(pieces, context.fonts, style, first)
 }
 
 #[cycle(setting)]
 #[inline(never)]
 fn set_radical(
     pieces: &mut Pieces,
-    alloc: Global,
-    fonts: &FontSet,
+    context: Context<'_>,
     style: Style,
     sign: Delim,
-    field: Field,
+    field: Cell,
 ) -> Result<(), SetFault>
-    requires modest { IsModestPart (part_of_field field) }
-    ensures is { SetsBoxOn result pieces.old pieces.new (radical_part fonts.now style sign (field_content fonts.now field)) }
+    requires modest { ModestCell context.arena.now.closed field }
+    ensures is { SetsBoxOn result pieces.old pieces.new
+        (radical_part context.entry.fonts.now style sign
+        (field_content context.entry.fonts.now context.entry.arena.now.closed field)) }
 {
-    clean_field(pieces, alloc, fonts, style.cramped(), field)?;
-    radical(pieces, fonts, style, sign)
+    clean_field(pieces, context, style.cramped(), field)?;
+    radical(pieces, context.fonts, style, sign)
 }
 
 #[cycle(setting)]
 #[inline(never)]
 fn set_overline(
     pieces: &mut Pieces,
-    alloc: Global,
-    fonts: &FontSet,
+    context: Context<'_>,
     style: Style,
-    field: Field,
+    field: Cell,
 ) -> Result<(), SetFault>
-    requires modest { IsModestPart (part_of_field field) }
-    ensures is { SetsBoxOn result pieces.old pieces.new (overline_part fonts.now style (field_content fonts.now field)) }
+    requires modest { ModestCell context.arena.now.closed field }
+    ensures is { SetsBoxOn result pieces.old pieces.new
+        (overline_part context.entry.fonts.now style
+        (field_content context.entry.fonts.now context.entry.arena.now.closed field)) }
 {
-    clean_field(pieces, alloc, fonts, style.cramped(), field)?;
-    overline(pieces, fonts, style.size())
+    clean_field(pieces, context, style.cramped(), field)?;
+    overline(pieces, context.fonts, style.size())
 }
 
 #[cycle(setting)]
 #[inline(never)]
 fn set_underline(
     pieces: &mut Pieces,
-    alloc: Global,
-    fonts: &FontSet,
+    context: Context<'_>,
     style: Style,
-    field: Field,
+    field: Cell,
 ) -> Result<(), SetFault>
-    requires modest { IsModestPart (part_of_field field) }
-    ensures is { SetsBoxOn result pieces.old pieces.new (underline_part fonts.now style (field_content fonts.now field)) }
+    requires modest { ModestCell context.arena.now.closed field }
+    ensures is { SetsBoxOn result pieces.old pieces.new
+        (underline_part context.entry.fonts.now style
+        (field_content context.entry.fonts.now context.entry.arena.now.closed field)) }
 {
-    clean_field(pieces, alloc, fonts, style, field)?;
-    underline(pieces, fonts, style.size())
+    clean_field(pieces, context, style, field)?;
+    underline(pieces, context.fonts, style.size())
 }
 
 // An accent over a nucleus whose scripts belong to the whole.
@@ -543,20 +552,21 @@ fn set_underline(
 #[inline(never)]
 fn set_accent(
     pieces: &mut Pieces,
-    alloc: Global,
-    fonts: &FontSet,
+    context: Context<'_>,
     style: Style,
     symbol: Symbol,
-    field: Field,
+    field: Cell,
 ) -> Result<(), SetFault>
-    requires modest { IsModestPart (part_of_field field) }
-    ensures is { SetsBoxOn result pieces.old pieces.new (accent_part fonts.now style symbol (field_content fonts.now field)) }
+    requires modest { ModestCell context.arena.now.closed field }
+    ensures is { SetsBoxOn result pieces.old pieces.new
+        (accent_part context.entry.fonts.now style symbol
+        (field_content context.entry.fonts.now context.entry.arena.now.closed field)) }
 {
-    find_symbol(fonts, style.size(), symbol)?;
-    let skew = field_skew(fonts, style.size(), &field);
-    clean_field(pieces, alloc, fonts, style.cramped(), field)?;
+    find_symbol(context.fonts, style.size(), symbol)?;
+    let skew = field_skew(context.fonts, style.size(), field);
+    clean_field(pieces, context, style.cramped(), field)?;
     let plain = pieces.last_extents();
-    accent(pieces, fonts, style.size(), symbol, skew, plain)
+    accent(pieces, context.fonts, style.size(), symbol, skew, plain)
 }
 
 // An accent over a symbol whose scripts belong under it.
@@ -564,26 +574,33 @@ fn set_accent(
 #[inline(never)]
 fn set_accent_inside(
     pieces: &mut Pieces,
-    alloc: Global,
-    fonts: &FontSet,
+    context: Context<'_>,
     style: Style,
     accent_symbol: Symbol,
     symbol: Symbol,
-    sup: Field,
-    sub: Field,
+    sup: Cell,
+    sub: Cell,
 ) -> Result<(), SetFault>
-    requires sup { IsModestPart (part_of_field sup) }
-    requires sub { IsModestPart (part_of_field sub) }
+    requires sup { ModestCell context.arena.now.closed sup }
+    requires sub { ModestCell context.arena.now.closed sub }
     ensures is { SetsAtomOn result pieces.old pieces.new
-        (accent_inside fonts.now style accent_symbol (SymbolContent symbol)
-        (field_content fonts.now sup) (field_content fonts.now sub)) }
+        (accent_inside context.entry.fonts.now style accent_symbol (SymbolContent symbol)
+        (field_content context.entry.fonts.now context.entry.arena.now.closed sup)
+        (field_content context.entry.fonts.now context.entry.arena.now.closed sub)) }
 {
-    find_symbol(fonts, style.size(), accent_symbol)?;
-    let plain = symbol_extents(pieces, fonts, style.cramped(), symbol)?;
+    find_symbol(context.fonts, style.size(), accent_symbol)?;
+    let plain = symbol_extents(pieces, context.fonts, style.cramped(), symbol)?;
     let first = pieces.len();
-    set_symbol(pieces, alloc, fonts, style, symbol, sup, sub)?;
-    let skew = skew_of(fonts, style.size(), symbol);
-    accent(pieces, fonts, style.size(), accent_symbol, skew, plain)?;
+    set_symbol(pieces, context, style, symbol, sup, sub)?;
+    let skew = skew_of(context.fonts, style.size(), symbol);
+    accent(
+        pieces,
+        context.fonts,
+        style.size(),
+        accent_symbol,
+        skew,
+        plain,
+    )?;
     test_row(pieces, first)
 }
 
@@ -591,22 +608,23 @@ fn set_accent_inside(
 #[cycle(setting)]
 fn set_symbol(
     pieces: &mut Pieces,
-    alloc: Global,
-    fonts: &FontSet,
+    context: Context<'_>,
     style: Style,
     symbol: Symbol,
-    sup: Field,
-    sub: Field,
+    sup: Cell,
+    sub: Cell,
 ) -> Result<(), SetFault>
-    requires sup { IsModestPart (part_of_field sup) }
-    requires sub { IsModestPart (part_of_field sub) }
+    requires sup { ModestCell context.arena.now.closed sup }
+    requires sub { ModestCell context.arena.now.closed sub }
     ensures is { SetsBoxOn result pieces.old pieces.new
-        (symbol_with_scripts fonts.now style symbol (field_content fonts.now sup) (field_content fonts.now sub)) }
+        (symbol_with_scripts context.entry.fonts.now style symbol
+        (field_content context.entry.fonts.now context.entry.arena.now.closed sup)
+        (field_content context.entry.fonts.now context.entry.arena.now.closed sub)) }
 {
     let first = pieces.len();
     let role = JoiningRole::Ordinary;
-    let delta = symbol_nucleus(pieces, fonts, style, symbol, role, !is_empty(&sub))?;
-    set_scripts(pieces, alloc, fonts, style, first, delta, sup, sub)?;
+    let delta = symbol_nucleus(pieces, context.fonts, style, symbol, role, !is_empty(sub))?;
+    set_scripts(pieces, context, style, first, delta, sup, sub)?;
     packed(pieces, first)
 }
 
@@ -615,19 +633,19 @@ fn set_symbol(
 #[inline(never)]
 fn set_veil(
     pieces: &mut Pieces,
-    alloc: Global,
-    fonts: &FontSet,
+    context: Context<'_>,
     style: Style,
     width: bool,
     height: bool,
     marks: bool,
-    field: Field,
+    field: Cell,
 ) -> Result<(), SetFault>
-    requires modest { IsModestPart (part_of_field field) }
+    requires modest { ModestCell context.arena.now.closed field }
     ensures is { SetsBoxOn result pieces.old pieces.new
-        (veil_part fonts.now style width height marks (field_content fonts.now field)) }
+        (veil_part context.entry.fonts.now style width height marks
+        (field_content context.entry.fonts.now context.entry.arena.now.closed field)) }
 {
-    pack_field(pieces, alloc, fonts, style.uncramped(), field)?;
+    pack_field(pieces, context, style.uncramped(), field)?;
     veil(pieces, width, height, marks)
 }
 
@@ -635,42 +653,51 @@ fn set_veil(
 #[inline(never)]
 fn set_vcenter(
     pieces: &mut Pieces,
-    alloc: Global,
-    fonts: &FontSet,
+    context: Context<'_>,
     style: Style,
-    field: Field,
+    field: Cell,
 ) -> Result<(), SetFault>
-    requires modest { IsModestPart (part_of_field field) }
-    ensures is { SetsBoxOn result pieces.old pieces.new (vcenter_part fonts.now style (field_content fonts.now field)) }
+    requires modest { ModestCell context.arena.now.closed field }
+    ensures is { SetsBoxOn result pieces.old pieces.new
+        (vcenter_part context.entry.fonts.now style
+        (field_content context.entry.fonts.now context.entry.arena.now.closed field)) }
 {
     let first = pieces.len();
     match field {
-        Field::Rows(rows) => {
-            set_rows(pieces, alloc, fonts, rows)?;
-            vcenter(pieces, alloc, fonts, style.size(), first)
+        Cell::Rows(rows) => {
+            set_rows(pieces, context, Look::Matrix, rows)?;
+            vcenter(pieces, context.alloc, context.fonts, style.size(), first)
         }
-        Field::Table(table) => set_table(pieces, alloc, fonts, style, table),
-        _ => vcenter(pieces, alloc, fonts, style.size(), first),
+        Cell::Table(look, rows) => set_table(pieces, context, style, look, rows),
+        _ => vcenter(pieces, context.alloc, context.fonts, style.size(), first),
     }
 }
 
-// Rows, each a formula in text style, as boxes: how many.
+// Rows, each a formula in text style, as boxes: how many. Of a row of equations these are the cells that have a column.
 #[cycle(setting)]
 fn set_rows(
     pieces: &mut Pieces,
-    alloc: Global,
-    fonts: &FontSet,
-    rows: RowList,
+    context: Context<'_>,
+    look: Look,
+    rows: Span,
 ) -> Result<usize, SetFault>
-    requires modest { IsModestRows rows }
-    ensures is { SetsBoxesOn result pieces.old pieces.new (pack_rows (rows_by_style fonts.now rows)) }
+    requires within { rows.end ≤ length context.arena.now.closed }
+    requires modest { IsModestRows (rows_in context.arena.now.closed rows) }
+    ensures is { SetsBoxesOn result pieces.old pieces.new
+        (pack_rows (rows_by_style context.entry.fonts.now (rows_in_columns look
+        (rows_in context.entry.arena.now.closed rows)))) }
     ensures few { IfOk result (λ n. n ≤ 2 ^ 18) }
-    ensures count { IfOk result (λ n. n ≡ rows_length rows) }
+    ensures count { IfOk result (λ n. n ≡ rows_length (rows_in_columns look
+        (rows_in context.entry.arena.now.closed rows))) }
 {
-    let rows = rows.into_vec();
-    let count = rows.len();
-    for list in rows {
-        pack_list(pieces, alloc, fonts, Style::T, list)?;
+    let mut rest = rows;
+    let mut count = 0;
+    while let Some(list) = next_row(context.arena, &mut rest) {
+        if !has_column(look, count) {
+            return Ok(count);
+        }
+        pack_list(pieces, context, Style::T, list)?;
+        count += 1;
     }
     Ok(count)
 }
@@ -680,26 +707,42 @@ fn set_rows(
 #[inline(never)]
 fn set_table(
     pieces: &mut Pieces,
-    alloc: Global,
-    fonts: &FontSet,
+    context: Context<'_>,
     style: Style,
-    table: Table,
+    look: Look,
+    rows: Span,
 ) -> Result<(), SetFault>
-    requires modest { IsModestGrid table.rows }
+    requires within { rows.end ≤ length context.arena.now.closed }
+    requires modest { IsModestGrid (grid_in context.arena.now.closed rows) }
     ensures is { SetsBoxOn result pieces.old pieces.new
-        (table_part fonts.now style table.look (cells_by_style fonts.now table.rows)) }
+        (table_part context.entry.fonts.now style look (cells_by_style context.entry.fonts.now
+        (grid_in context.entry.arena.now.closed rows))) }
 {
-    let Table { look, rows } = table;
     let first = pieces.len();
     match look {
         Look::Matrix => {
-            let strut = table_strut(fonts)?;
-            let counts = set_cells(pieces, alloc, fonts, look, rows)?;
-            matrix(pieces, alloc, fonts, style.size(), strut, first, &counts)
+            let strut = table_strut(context.fonts)?;
+            let counts = set_cells(pieces, context, look, rows)?;
+            matrix(
+                pieces,
+                context.alloc,
+                context.fonts,
+                style.size(),
+                strut,
+                first,
+                &counts,
+            )
         }
         Look::Equations => {
-            let counts = set_cells(pieces, alloc, fonts, look, rows)?;
-            equations(pieces, alloc, fonts, style.size(), first, &counts)
+            let counts = set_cells(pieces, context, look, rows)?;
+            equations(
+                pieces,
+                context.alloc,
+                context.fonts,
+                style.size(),
+                first,
+                &counts,
+            )
         }
     }
 }
@@ -708,22 +751,24 @@ fn set_table(
 #[cycle(setting)]
 fn set_cells(
     pieces: &mut Pieces,
-    alloc: Global,
-    fonts: &FontSet,
+    context: Context<'_>,
     look: Look,
-    rows: TableRows,
+    rows: Span,
 ) -> Result<Vec<usize>, SetFault>
-    requires modest { IsModestGrid rows }
-    ensures is { IfOk result (λ counts.
-        CellsOn counts.items pieces.old pieces.new (pack_cells look (cells_by_style fonts.now rows))) }
-    ensures fault { IfErr result (λ fault. SetFails fault (pack_cells look (cells_by_style fonts.now rows))) }
+    requires within { rows.end ≤ length context.arena.now.closed }
+    requires modest { IsModestGrid (grid_in context.arena.now.closed rows) }
+    ensures is { IfOk result (λ counts. CellsOn counts.items pieces.old pieces.new
+        (pack_cells look (cells_by_style context.entry.fonts.now (grid_in context.entry.arena.now.closed rows)))) }
+    ensures fault { IfErr result (λ fault. SetFails fault
+        (pack_cells look (cells_by_style context.entry.fonts.now (grid_in context.entry.arena.now.closed rows)))) }
     ensures few { IfOk result (λ counts. length counts.items ≤ 2 ^ 18) }
     ensures columns { IfOk result (λ counts. All (λ n. n ≤ 2 ^ 18) counts.items) }
     ensures sides { look ≡ Equations → IfOk result (λ counts. All (λ n. n ≤ 2) counts.items) }
 {
-    let mut counts = Vec::new(alloc);
-    for row in rows.into_vec() {
-        let count = set_rows(pieces, alloc, fonts, in_columns(look, row))?;
+    let mut counts = Vec::new(context.alloc);
+    let mut rest = rows;
+    while let Some(cells) = next_cells(context.arena, &mut rest) {
+        let count = set_rows(pieces, context, look, cells)?;
         push_count(&mut counts, count)?;
     }
     Ok(counts)
@@ -736,22 +781,22 @@ fn set_cells(
 #[inline(never)]
 fn set_fraction(
     pieces: &mut Pieces,
-    alloc: Global,
-    fonts: &FontSet,
+    context: Context<'_>,
     style: Style,
-    fields: Fraction,
+    fields: &FractionNoad,
 ) -> Result<(), SetFault>
-    requires modest { IsModestElement (fraction_element fields) }
-    ensures is { SetsAtomOn result pieces.old pieces.new (fraction_row_of fonts.now style fields) }
+    requires modest { ModestFraction context.arena.now.closed fields.now }
+    ensures is { SetsAtomOn result pieces.old pieces.new
+        (fraction_row_of context.entry.fonts.now context.entry.arena.now.closed style fields.now) }
 {
-    let Fraction {
+    let FractionNoad {
         thickness,
         left,
         right,
         num,
         den,
-    } = fields;
-    clean_list(pieces, alloc, fonts, style.num(), num)?;
-    clean_list(pieces, alloc, fonts, style.den(), den)?;
-    fraction(pieces, fonts, style, thickness, left, right)
+    } = *fields;
+    clean_list(pieces, context, style.num(), num)?;
+    clean_list(pieces, context, style.den(), den)?;
+    fraction(pieces, context.fonts, style, thickness, left, right)
 }

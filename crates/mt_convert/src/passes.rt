@@ -1,17 +1,19 @@
 //! The two passes over a math list (The TeXbook, Appendix G; tex.web, sections 719 to 767).
-ghost use Rattle.std.specs.Prelude.{◌≤◌, ◌*◌, ◌^◌, IfOk, length};
+ghost use Rattle.std.specs.Prelude.{◌≤◌, ◌*◌, ◌^◌, IfOk, OnOk, drop, length};
 ghost use Rattle.mt_box.specs.Rows.{piece_values};
 ghost use Rattle.mt_rules.specs.Modest.{IsModestList, list_nesting};
-ghost use Rattle.mt_convert.specs.Calls.{SetsHalves, SetsRow};
+ghost use Rattle.mt_convert.specs.Calls.{SetsHalves, SetsRow, SetsRowOn};
 ghost use Rattle.mt_convert.specs.Halfway.{HalvesFit, RowFits};
 ghost use Rattle.mt_convert.specs.Holding.{RowHolds};
 ghost use Rattle.mt_convert.specs.ListRow.{halves_of, list_row};
 
 use crate::SetFault;
+use crate::context::Context;
 use crate::halfway::Halfway;
-use crate::list::{first_pass_on, set_list_on};
+use crate::list::{first_pass_on, set_span_on};
 use crate::set::clean::look_at_fonts;
 use crate::taking::halfway_of;
+use mt_arena::{Arena, put_list};
 use mt_box::Row;
 use mt_family::FontSet;
 use mt_pieces::Pieces;
@@ -49,10 +51,41 @@ pub fn set_list(
     ensures fits { IfOk result (RowFits (12 * list_nesting list)) }
     ensures holds { IfOk result (λ row. RowHolds fonts.now (piece_values row)) }
 {
-    look_at_fonts(fonts);
     let mut pieces = Pieces::with_capacity(alloc, ROOM)?;
-    set_list_on(&mut pieces, alloc, fonts, list, style)?;
+    let mut arena = Arena::new(alloc);
+    set_list_on(&mut pieces, &mut arena, alloc, fonts, list, style)?;
     Ok(pieces.take_row(alloc, 0)?)
+}
+
+/// The row of a math list in a style, as by [`set_list`], as pieces behind those that are there.
+///
+/// The list is modest, as for [`set_list`]. What the arena has is dropped: its memory is used again.
+///
+/// # Errors
+///
+/// Those of [`set_list`]. What pieces there are after an error is not said.
+pub fn set_list_on(
+    pieces: &mut Pieces,
+    arena: &mut Arena,
+    alloc: Global,
+    fonts: &FontSet,
+    list: MathList,
+    style: Style,
+) -> Result<(), SetFault>
+    requires modest { IsModestList list }
+    ensures is { SetsRowOn result pieces.old pieces.new (list_row fonts.now style list) }
+    ensures few { OnOk result (length (drop (length pieces.old) pieces.new) ≤ 2 ^ 21) }
+    ensures holds { OnOk result (RowHolds fonts.now (drop (length pieces.old) pieces.new)) }
+{
+    look_at_fonts(fonts);
+    arena.clear();
+    let span = put_list(arena, &list)?;
+    let context = Context {
+        alloc,
+        fonts,
+        arena,
+    };
+    set_span_on(pieces, context, span, style)
 }
 
 /// The first pass over a math list in a style: its items set, with their final classes, and how far
@@ -76,6 +109,13 @@ pub fn first_pass(
     ensures fits { IfOk result (λ half. HalvesFit (12 * list_nesting list) half.items) }
 {
     let mut pieces = Pieces::with_capacity(alloc, ROOM)?;
-    let halves = first_pass_on(&mut pieces, alloc, fonts, list, style)?;
+    let mut arena = Arena::new(alloc);
+    let span = put_list(&mut arena, &list)?;
+    let context = Context {
+        alloc,
+        fonts,
+        arena: &arena,
+    };
+    let halves = first_pass_on(&mut pieces, context, span, style)?;
     Ok(halfway_of(alloc, pieces, halves)?)
 }

@@ -6,8 +6,9 @@ use Rattle.std.proofs.lemmas.Int.{ints}
 use Rattle.mt_scaled.specs.Number.{max_dimen}
 use Rattle.mt_family.specs.SetValue.{SetValue}
 use Rattle.mt_rules.specs.declared.class.Class.{Class}
-use Rattle.mt_rules.specs.declared.list.Atom.{Atom}
-use Rattle.mt_rules.specs.declared.list.Fraction.{Fraction}
+use Rattle.mt_arena.specs.declared.thing.Noad.{Noad}
+use Rattle.mt_arena.specs.declared.thing.FractionNoad.{FractionNoad}
+use Rattle.mt_arena.specs.Arena.{Held}
 use Rattle.mt_rules.specs.declared.class.Class.TheVariants.{Inner}
 use Rattle.mt_rules.specs.Classes.{kind_class, forward_of}
 use Rattle.mt_rules.specs.Setting.{Setting, ◌>>=◌}
@@ -25,30 +26,32 @@ use Rattle.mt_convert.specs.inner.LoneAtoms.{is_set_atom}
 use Rattle.mt_convert.specs.inner.OnPieces.{AtomOn, HalfOn, SetsHalfOn, SetsPlaced}
 use Rattle.mt_convert.specs.inner.Placed.{PlacedFits, placed_value}
 use Rattle.mt_convert.specs.inner.Fields.{atom_row_of, fraction_row_of}
-use Rattle.mt_convert.specs.inner.Turns.{PassedElement, atom_passed, flat_item, fraction_passed, role_value}
+use Rattle.mt_convert.specs.declared.flat.passed.Passed.TheVariants as passed
+use Rattle.mt_convert.specs.inner.Spans.{passed_in}
+use Rattle.mt_convert.specs.inner.Turns.{PassedElement, flat_item, role_value}
 use Rattle.mt_convert.proofs.Appending.{fails_then}
 use Rattle.mt_convert.proofs.Behind.{nil_right}
 
 abbrev as_half : Class → List PieceValue → Setting HalfValue
 as_half class row = Ok (HalfAtom class row)
 
-pub atom_item_fails : (fault : SetFault) (fonts : SetValue) (current : Current) (p : PassedElement) (a : Atom) (role : JoiningRole) (kern : Option ℤ) → p ≡ atom_passed a role kern → SetFails fault (atom_row_of fonts current.style (role_value role) a) → SetFails fault (set_item fonts current (flat_item fonts p))
-atom_item_fails fault fonts current p a role kern e h =
+pub atom_item_fails : (fault : SetFault) (fonts : SetValue) (current : Current) (p : PassedElement) (es : List Held) (a : Noad) (role : JoiningRole) (kern : Option ℤ) → p ≡ passed_in es (passed.Atom role kern a) → SetFails fault (atom_row_of fonts es current.style (role_value role) a) → SetFails fault (set_item fonts current (flat_item fonts p))
+atom_item_fails fault fonts current p es a role kern e h =
     subst (λ q. SetFails fault (set_item fonts current (flat_item fonts q))) (sym e)
-    (fails_then fault (atom_row_of fonts current.style (role_value role) a) (as_half (forward_of current.last (kind_class a.kind))) h)
+    (fails_then fault (atom_row_of fonts es current.style (role_value role) a) (as_half (forward_of current.last (kind_class a.kind))) h)
 
-pub atom_item_made : (fonts : SetValue) (current : Current) (p : PassedElement) (a : Atom) (role : JoiningRole) (kern : Option ℤ) (row : List PieceValue) (class : Class) → p ≡ atom_passed a role kern → class ≡ forward_of current.last (kind_class a.kind) → atom_row_of fonts current.style (role_value role) a ≡ Ok row → set_item fonts current (flat_item fonts p) ≡ Ok (HalfAtom class row)
-atom_item_made fonts current p a role kern row class e g h =
+pub atom_item_made : (fonts : SetValue) (current : Current) (p : PassedElement) (es : List Held) (a : Noad) (role : JoiningRole) (kern : Option ℤ) (row : List PieceValue) (class : Class) → p ≡ passed_in es (passed.Atom role kern a) → class ≡ forward_of current.last (kind_class a.kind) → atom_row_of fonts es current.style (role_value role) a ≡ Ok row → set_item fonts current (flat_item fonts p) ≡ Ok (HalfAtom class row)
+atom_item_made fonts current p es a role kern row class e g h =
     ap (λ q. set_item fonts current (flat_item fonts q)) e
     ∙ (ap (λ s. s >>= as_half (forward_of current.last (kind_class a.kind))) h ∙ ap (λ k. as_half k row) (sym g))
 
-pub fraction_item_fails : (fault : SetFault) (fonts : SetValue) (current : Current) (p : PassedElement) (f : Fraction) → p ≡ fraction_passed f → SetFails fault (fraction_row_of fonts current.style f) → SetFails fault (set_item fonts current (flat_item fonts p))
-fraction_item_fails fault fonts current p f e h =
+pub fraction_item_fails : (fault : SetFault) (fonts : SetValue) (current : Current) (p : PassedElement) (es : List Held) (f : FractionNoad) → p ≡ passed_in es (passed.Fraction f) → SetFails fault (fraction_row_of fonts es current.style f) → SetFails fault (set_item fonts current (flat_item fonts p))
+fraction_item_fails fault fonts current p es f e h =
     subst (λ q. SetFails fault (set_item fonts current (flat_item fonts q))) (sym e)
-    (fails_then fault (fraction_row_of fonts current.style f) (as_half Inner) h)
+    (fails_then fault (fraction_row_of fonts es current.style f) (as_half Inner) h)
 
-pub fraction_item_made : (fonts : SetValue) (current : Current) (p : PassedElement) (f : Fraction) (row : List PieceValue) → p ≡ fraction_passed f → fraction_row_of fonts current.style f ≡ Ok row → set_item fonts current (flat_item fonts p) ≡ Ok (HalfAtom Inner row)
-fraction_item_made fonts current p f row e h = ap (λ q. set_item fonts current (flat_item fonts q)) e ∙ ap (λ s. s >>= as_half Inner) h
+pub fraction_item_made : (fonts : SetValue) (current : Current) (p : PassedElement) (es : List Held) (f : FractionNoad) (row : List PieceValue) → p ≡ passed_in es (passed.Fraction f) → fraction_row_of fonts es current.style f ≡ Ok row → set_item fonts current (flat_item fonts p) ≡ Ok (HalfAtom Inner row)
+fraction_item_made fonts current p es f row e h = ap (λ q. set_item fonts current (flat_item fonts q)) e ∙ ap (λ s. s >>= as_half Inner) h
 
 -- ---- on the pieces
 

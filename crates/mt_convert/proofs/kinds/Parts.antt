@@ -13,9 +13,10 @@ use Rattle.mt_rules.specs.declared.style.Style.{Style}
 use Rattle.mt_rules.specs.declared.symbol.Symbol.{Symbol}
 use Rattle.mt_rules.specs.Styles.{size_of, sup_of, sub_of}
 use Rattle.mt_rules.specs.Setting.{Setting, ◌>>=◌, pack_row, empty_layout}
-use Rattle.mt_rules.specs.View.{part_of_field}
-use Rattle.mt_rules.specs.declared.list.Field.{Field}
-use Rattle.mt_rules.specs.declared.list.Field.TheVariants.{Empty, Sym, List as OfList, Rows as OfRows, Table as OfTable, Root as OfRoot, Big as OfBig}
+use Rattle.mt_arena.specs.declared.thing.Cell.{Cell}
+use Rattle.mt_arena.specs.declared.thing.Cell.TheVariants.{Empty, Sym, List as OfList, Rows as OfRows, Table as OfTable, Root as OfRoot, Big as OfBig}
+use Rattle.mt_arena.specs.declared.thing.Span.{Span}
+use Rattle.mt_arena.specs.Arena.{Held, cell_part}
 use Rattle.mt_rules.specs.declared.symbol.Delim.{Delim}
 use Rattle.mt_rules.specs.Sequence.{Sequence, Part, EmptyPart, SymbolPart, ListPart, RowsPart, TablePart, RootPart, BigPart}
 use Rattle.mt_rules.specs.Nuclei.{RowByStyle, Content, SymbolContent, BigContent, SymbolRole, Nucleus, clean_symbol, clean_list, clean_field, make_clean, packed_list, big_nucleus, nucleus_row, empty_nucleus, symbol_nucleus}
@@ -31,6 +32,7 @@ use Rattle.mt_convert.specs.inner.Turns.{is_empty_part}
 use Rattle.mt_convert.proofs.Appending.{fails_then}
 use Rattle.mt_convert.proofs.Behind.{nil_right}
 use Rattle.mt_convert.proofs.Turning.{same_empty}
+use Rattle.mt_convert.proofs.kinds.Bounds.{a_root}
 use Rattle.mt_convert.proofs.kinds.Chains.{first_made, joined}
 
 -- ---- a list
@@ -65,14 +67,14 @@ clean_empty_is fonts style (TablePart look grid) h = refl
 clean_empty_is fonts style (RootPart degree body) h = refl
 clean_empty_is fonts style (BigPart delim level) h = refl
 
-pub has_no_box : (f : Field) → ((symbol : Symbol) → f ≡ Sym symbol → ⊥) → ((list : Sequence) → f ≡ OfList list → ⊥) → HasNoBox (part_of_field f)
-has_no_box Empty s l = tt
-has_no_box (Sym symbol) s l = absurd (s symbol refl)
-has_no_box (OfList list) s l = absurd (l list refl)
-has_no_box (OfRows rows) s l = tt
-has_no_box (OfTable table) s l = tt
-has_no_box (OfRoot root) s l = tt
-has_no_box (OfBig delim level) s l = tt
+pub has_no_box : (es : List Held) (f : Cell) → ((symbol : Symbol) → f ≡ Sym symbol → ⊥) → ((list : Span) → f ≡ OfList list → ⊥) → HasNoBox (cell_part es f)
+has_no_box es Empty s l = tt
+has_no_box es (Sym symbol) s l = absurd (s symbol refl)
+has_no_box es (OfList list) s l = absurd (l list refl)
+has_no_box es (OfRows rows) s l = tt
+has_no_box es (OfTable look rows) s l = tt
+has_no_box es (OfRoot at) s l = subst HasNoBox (sym (a_root es at).is) tt
+has_no_box es (OfBig delim level) s l = tt
 
 -- ---- a script
 
@@ -154,14 +156,14 @@ HasNoNucleus (ListPart list) = ⊥
 HasNoNucleus (BigPart delim level) = ⊥
 HasNoNucleus _ = ⊤
 
-pub has_no_nucleus : (f : Field) → ((symbol : Symbol) → f ≡ Sym symbol → ⊥) → ((list : Sequence) → f ≡ OfList list → ⊥) → ((delim : Delim) (level : ℕ) → f ≡ OfBig delim level → ⊥) → HasNoNucleus (part_of_field f)
-has_no_nucleus Empty s l b = tt
-has_no_nucleus (Sym symbol) s l b = absurd (s symbol refl)
-has_no_nucleus (OfList list) s l b = absurd (l list refl)
-has_no_nucleus (OfRows rows) s l b = tt
-has_no_nucleus (OfTable table) s l b = tt
-has_no_nucleus (OfRoot root) s l b = tt
-has_no_nucleus (OfBig delim level) s l b = absurd (b delim level refl)
+pub has_no_nucleus : (es : List Held) (f : Cell) → ((symbol : Symbol) → f ≡ Sym symbol → ⊥) → ((list : Span) → f ≡ OfList list → ⊥) → ((delim : Delim) (level : ℕ) → f ≡ OfBig delim level → ⊥) → HasNoNucleus (cell_part es f)
+has_no_nucleus es Empty s l b = tt
+has_no_nucleus es (Sym symbol) s l b = absurd (s symbol refl)
+has_no_nucleus es (OfList list) s l b = absurd (l list refl)
+has_no_nucleus es (OfRows rows) s l b = tt
+has_no_nucleus es (OfTable look rows) s l b = tt
+has_no_nucleus es (OfRoot at) s l b = subst HasNoNucleus (sym (a_root es at).is) tt
+has_no_nucleus es (OfBig delim level) s l b = absurd (b delim level refl)
 
 empty_row_is : (fonts : SetValue) (style : Style) (role : SymbolRole) (p : Part) (has_subscript : Bool) → HasNoNucleus p → nucleus_row fonts style (content_of fonts p) role has_subscript ≡ Ok empty_nucleus
 unfolding nucleus_row

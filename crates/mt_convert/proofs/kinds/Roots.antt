@@ -8,9 +8,6 @@ use Rattle.mt_rules.specs.declared.class.Class.TheVariants.{Ord, Op, Bin, Rel, O
 use Rattle.mt_rules.specs.declared.kind.Kind.{Kind}
 use Rattle.mt_rules.specs.declared.kind.Kind.TheVariants.{Plain, Radical, Accent, Over, Under, Vcenter, Veil}
 use Rattle.mt_rules.specs.declared.kind.Limits.{Limits}
-use Rattle.mt_rules.specs.declared.list.Field.{Field}
-use Rattle.mt_rules.specs.declared.list.Field.TheVariants.{Empty, Sym, List as OfList, Rows as OfRows, Table as OfTable, Root as OfRoot, Big as OfBig}
-use Rattle.mt_rules.specs.View.{part_of_field}
 use Rattle.mt_rules.specs.declared.style.Style.{Style}
 use Rattle.mt_rules.specs.declared.style.Style.TheVariants.{Ss}
 use Rattle.mt_rules.specs.declared.symbol.Delim.{Delim}
@@ -135,12 +132,3 @@ root_form fonts style role Over limits p q r sign e = absurd (cc)
 root_form fonts style role Under limits p q r sign e = absurd (cc)
 root_form fonts style role Vcenter limits p q r sign e = absurd (cc)
 root_form fonts style role (Veil width height marks) limits p q r sign e = absurd (cc)
-
-pub no_degree : (f : Field) → ((root : _) → f ≡ OfRoot root → ⊥) → HasDegree (part_of_field f) → ⊥
-no_degree Empty n h = h
-no_degree (Sym symbol) n h = h
-no_degree (OfList list) n h = h
-no_degree (OfRows rows) n h = h
-no_degree (OfTable table) n h = h
-no_degree (OfRoot root) n h = n root refl
-no_degree (OfBig delim level) n h = h

@@ -1,6 +1,7 @@
--- Rows of a vcenter atom, packed one by one.
-use Rattle.std.proofs.Common.{◌≡◌, ℕ, ◌+◌, ◌≤◌, ◌^◌, List, [], ◌∷◌, ◌++◌, length, ap, sym, ◌∙◌, refl, subst, arith, append_assoc}
-use Rattle.std.specs.Prelude.{Ok, Err, pos, ⊤}
+-- Rows of a vcenter atom and of a table, packed one by one.
+use Rattle.std.proofs.Common.{◌≡◌, ℕ, zero, suc, ◌+◌, ◌≤◌, ◌^◌, List, [], ◌∷◌, ◌++◌, length, true, false, ap, sym, ◌∙◌, refl, subst, arith, append_assoc}
+use Rattle.std.specs.Prelude.{Ok, Err, nat_lt, pos, ⊤}
+use Rattle.std.proofs.lemmas.Bool.{ltb_from_iff}
 use Rattle.mt_family.specs.SetValue.{SetValue}
 use Rattle.mt_box.specs.Layout.{Layout}
 use Rattle.mt_box.specs.Rows.{PieceValue, PieceBox}
@@ -10,12 +11,13 @@ use Rattle.mt_family.specs.declared.size.Size.{Size}
 use Rattle.mt_rules.specs.declared.style.Style.{Style}
 use Rattle.mt_rules.specs.Styles.{size_of}
 use Rattle.mt_rules.specs.Vcenter.{vcenter}
-use Rattle.mt_rules.specs.View.{part_of_field}
-use Rattle.mt_rules.specs.declared.list.Field.{Field}
-use Rattle.mt_rules.specs.declared.list.Field.TheVariants.{Empty, Sym, List as OfList, Rows as OfRows, Table as OfTable, Root as OfRoot, Big as OfBig}
-use Rattle.mt_rules.specs.declared.list.Table.{Table}
+use Rattle.mt_rules.specs.declared.list.Look.{Look}
+use Rattle.mt_rules.specs.declared.list.Look.TheVariants.{Matrix, Equations}
+use Rattle.mt_arena.specs.declared.thing.Cell.{Cell}
+use Rattle.mt_arena.specs.declared.thing.Cell.TheVariants.{Empty, Sym, List as OfList, Rows as OfRows, Table as OfTable, Root as OfRoot, Big as OfBig}
+use Rattle.mt_arena.specs.declared.thing.Span.{Span}
+use Rattle.mt_arena.specs.Arena.{Held, cell_part}
 use Rattle.mt_rules.specs.Sequence.{Part, EmptyPart, SymbolPart, ListPart, RowsPart, TablePart, RootPart, BigPart, Sequence, Rows, NoRows, MoreRows, rows_length, rows_size, sequence_size}
-use Rattle.mt_rules.specs.Rows.{rows_of}
 use Rattle.mt_rules.specs.Modest.{IsModestList, rows_items}
 use Rattle.mt_rules.specs.Nuclei.{RowByStyle}
 use Rattle.mt_rules.specs.AtomRow.{pack_rows, vcenter_part}
@@ -28,35 +30,77 @@ use Rattle.mt_convert.specs.inner.AtomSteps.{list_box}
 use Rattle.mt_convert.specs.inner.Fields.{list_content}
 use Rattle.mt_convert.specs.inner.Modest.{IsModestRows}
 use Rattle.mt_convert.specs.inner.OnPieces.{BoxOn, BoxesOn}
+use Rattle.mt_convert.specs.inner.Tables.{columns_from, has_column, rows_in_columns}
 use Rattle.mt_convert.proofs.Appending.{appended_nil, appended_end, fails_then}
-use Rattle.mt_convert.proofs.kinds.Bounds.{first_row, other_rows}
+use Rattle.mt_convert.proofs.kinds.Bounds.{a_root, first_row, other_rows}
 use Rattle.mt_convert.proofs.Behind.{nil_right}
 use Rattle.mt_convert.proofs.kinds.Chains.{first_made, joined}
 
+-- ---- those of a row of a table that have a column
+
+pub two_of_equations : (n : ℕ) → nat_lt n 2 ≡ has_column Equations n
+two_of_equations zero = refl
+two_of_equations (suc zero) = refl
+two_of_equations (suc (suc n)) = sym (ltb_from_iff ((λ e. absurd (cc)), (λ l. absurd (omega (arith, l)))))
+
+all_columns : (look : Look) (rows : Rows) → columns_from look 0 rows ≡ rows_in_columns look rows
+all_columns Matrix rows = refl
+all_columns Equations rows = refl
+
+pub no_columns : (look : Look) (n : ℕ) → columns_from look n NoRows ≡ NoRows
+no_columns Matrix n = refl
+no_columns Equations zero = refl
+no_columns Equations (suc zero) = refl
+no_columns Equations (suc (suc n)) = refl
+
+pub column_missing : (look : Look) (n : ℕ) (rows : Rows) → has_column look n ≡ false → columns_from look n rows ≡ NoRows
+column_missing Matrix n rows e = absurd (cc)
+column_missing Equations zero rows e = absurd (cc)
+column_missing Equations (suc zero) rows e = absurd (cc)
+column_missing Equations (suc (suc n)) rows e = refl
+
+next_column' : (look : Look) (n : ℕ) (s : Sequence) (rows : Rows) → has_column look n ≡ true → columns_from look n (MoreRows s rows) ≡ MoreRows s (columns_from look (suc n) rows)
+next_column' Matrix n s rows e = refl
+next_column' Equations zero s NoRows e = refl
+next_column' Equations zero s (MoreRows t rows) e = refl
+next_column' Equations (suc zero) s rows e = refl
+next_column' Equations (suc (suc n)) s rows e = absurd (cc)
+
+next_column : (look : Look) (n : ℕ) (s : Sequence) (rows : Rows) → has_column look n ≡ true → columns_from look n (MoreRows s rows) ≡ MoreRows s (columns_from look (n + 1) rows)
+next_column look n s rows e = next_column' look n s rows e ∙ ap (λ m. MoreRows s (columns_from look m rows)) (omega arith)
+
+some_size : (rows : Rows) → 1 ≤ rows_size rows
+some_size NoRows = omega arith
+some_size (MoreRows s rows) = omega arith
+
+-- ---- the boxes so far
+
 -- the boxes of the whole are those so far, and then those of the rest
-pub record RowsSoFar (fonts : SetValue) (whole : Rows) (rest : List Sequence) (old new : List PieceValue) : Type 0 where
+pub record RowsSoFar (fonts : SetValue) (look : Look) (whole rest : Rows) (count : ℕ) (old new : List PieceValue) : Type 0 where
   pub boxes : List Layout
   pub stays : new ≡ old ++ unraised_boxes boxes
-  pub whole_is : pack_rows (rows_by_style fonts whole) ≡ appended_to boxes (pack_rows (rows_by_style fonts (rows_of rest)))
-  pub count : length boxes + rows_length (rows_of rest) ≡ rows_length whole
-  pub size : rows_size (rows_of rest) ≤ rows_size whole
-  pub modest : IsModestRows (rows_of rest)
+  pub counted : count ≡ length boxes
+  pub whole_is : pack_rows (rows_by_style fonts (rows_in_columns look whole)) ≡ appended_to boxes (pack_rows (rows_by_style fonts (columns_from look count rest)))
+  pub total : count + rows_length (columns_from look count rest) ≡ rows_length (rows_in_columns look whole)
+  pub size : rows_size rest ≤ rows_size whole
+  pub modest : IsModestRows rest
 
-pub rows_start : (fonts : SetValue) (whole : Rows) (rest items : List Sequence) (old : List PieceValue) → IsModestRows whole → rest ≡ items → rows_of items ≡ whole → RowsSoFar fonts whole rest old old
-rows_start fonts whole rest items old modest e f = rw e (rw (sym f) (record {
+pub rows_start : (fonts : SetValue) (look : Look) (whole : Rows) (old : List PieceValue) → IsModestRows whole → RowsSoFar fonts look whole whole 0 old old
+rows_start fonts look whole old m = record {
   boxes = [];
   stays = nil_right old;
-  whole_is = sym (appended_nil _);
-  count = omega arith;
+  counted = refl;
+  whole_is = sym (appended_nil _ ∙ ap (λ r. pack_rows (rows_by_style fonts r)) (all_columns look whole));
+  total = omega (arith, ap rows_length (all_columns look whole));
   size = omega arith;
-  modest = subst IsModestRows (sym f) modest;
-}))
+  modest = m;
+}
 
-pub next_row : (fonts : SetValue) (whole : Rows) (rest : List Sequence) (old new : List PieceValue) (list : Sequence) (rest' : List Sequence) → RowsSoFar fonts whole rest old new → rest ≡ list ∷ rest' → IsModestList list
-next_row fonts whole rest old new list rest' h e = first_row list (rows_of rest') (subst (λ r. IsModestRows (rows_of r)) e h.modest)
+pub next_row : (fonts : SetValue) (look : Look) (whole rest : Rows) (count : ℕ) (old new : List PieceValue) (list : Sequence) (rest' : Rows) → RowsSoFar fonts look whole rest count old new → rest ≡ MoreRows list rest' → IsModestList list
+next_row fonts look whole rest count old new list rest' h e = first_row list rest' (subst IsModestRows e h.modest)
 
-pub next_size : (fonts : SetValue) (whole : Rows) (rest : List Sequence) (old new : List PieceValue) (list : Sequence) (rest' : List Sequence) → RowsSoFar fonts whole rest old new → rest ≡ list ∷ rest' → sequence_size list + 1 ≤ rows_size whole
-next_size fonts whole rest old new list rest' h e = omega (arith, subst (λ r. rows_size (rows_of r) ≤ rows_size whole) e h.size)
+pub next_size : (fonts : SetValue) (look : Look) (whole rest : Rows) (count : ℕ) (old new : List PieceValue) (list : Sequence) (rest' : Rows) → RowsSoFar fonts look whole rest count old new → rest ≡ MoreRows list rest' → sequence_size list + 1 ≤ rows_size whole
+next_size fonts look whole rest count old new list rest' h e = omega (arith, ap rows_size e, h.size, some_size rest')
 
 pub appended_cons : {A : Type 0} (there : List A) (x : A) (s : Setting (List A)) → appended_to there (s >>= (λ xs. Ok (x ∷ xs))) ≡ appended_to (there ++ x ∷ []) s
 appended_cons there x (Ok xs) = ap (λ ys. Ok ys) (sym (append_assoc there (x ∷ []) xs))
@@ -78,52 +122,60 @@ pub unraised_length : (bs : List Layout) → length (unraised_boxes bs) ≡ leng
 unraised_length [] = refl
 unraised_length (b ∷ bs) = omega (arith, unraised_length bs)
 
-pub rows_step : (fonts : SetValue) (whole : Rows) (rest : List Sequence) (old mid new : List PieceValue) (list : Sequence) (rest' : List Sequence) → RowsSoFar fonts whole rest old mid → rest ≡ list ∷ rest' → BoxOn mid new (list_box (list_content fonts list) T) → RowsSoFar fonts whole rest' old new
-rows_step fonts whole rest old mid new list rest' h e b =
-    let g = subst (λ r. RowsSoFar fonts whole r old mid) e h in
-    let others = pack_rows (rows_by_style fonts (rows_of rest')) in
+pub rows_step : (fonts : SetValue) (look : Look) (whole rest : Rows) (count : ℕ) (old mid new : List PieceValue) (list : Sequence) (rest' : Rows) → RowsSoFar fonts look whole rest count old mid → rest ≡ MoreRows list rest' → has_column look count ≡ true → BoxOn mid new (list_box (list_content fonts list) T) → RowsSoFar fonts look whole rest' (count + 1) old new
+rows_step fonts look whole rest count old mid new list rest' h e c b =
+    let g = subst (λ r. RowsSoFar fonts look whole r count old mid) e h in
+    let f = next_column look count list rest' c in
+    let others = pack_rows (rows_by_style fonts (columns_from look (count + 1) rest')) in
     record {
       boxes = g.boxes ++ b.box ∷ [];
       stays =
           b.stays
           ∙ (ap (λ x. x ++ PieceBox (pos 0) b.box ∷ []) g.stays
           ∙ (append_assoc old (unraised_boxes g.boxes) (PieceBox (pos 0) b.box ∷ []) ∙ ap (λ x. old ++ x) (sym (unraised_append g.boxes (b.box ∷ [])))));
+      counted = omega (arith, g.counted, one_longer g.boxes b.box);
       whole_is =
           g.whole_is
+          ∙ (ap (λ r. appended_to g.boxes (pack_rows (rows_by_style fonts r))) f
           ∙ (ap (appended_to g.boxes) (packed_first (list_content fonts list) others)
-          ∙ (ap (λ s. appended_to g.boxes (s >>= (λ box. others >>= (λ boxes. Ok (box ∷ boxes))))) b.is ∙ appended_cons g.boxes b.box others));
-      count = omega (arith, g.count, one_longer g.boxes b.box);
+          ∙ (ap (λ s. appended_to g.boxes (s >>= (λ box. others >>= (λ boxes. Ok (box ∷ boxes))))) b.is ∙ appended_cons g.boxes b.box others)));
+      total = omega (arith, g.total, ap rows_length f);
       size = omega (arith, g.size);
-      modest = other_rows list (rows_of rest') g.modest;
+      modest = other_rows list rest' g.modest;
     }
 
-pub row_fails : (fault : SetFault) (fonts : SetValue) (whole : Rows) (rest : List Sequence) (old mid : List PieceValue) (list : Sequence) (rest' : List Sequence) → RowsSoFar fonts whole rest old mid → rest ≡ list ∷ rest' → SetFails fault (list_box (list_content fonts list) T) → SetFails fault (pack_rows (rows_by_style fonts whole))
-row_fails fault fonts whole rest old mid list rest' h e bad =
-    let g = subst (λ r. RowsSoFar fonts whole r old mid) e h in
-    let others = pack_rows (rows_by_style fonts (rows_of rest')) in
+pub row_fails : (fault : SetFault) (fonts : SetValue) (look : Look) (whole rest : Rows) (count : ℕ) (old mid : List PieceValue) (list : Sequence) (rest' : Rows) → RowsSoFar fonts look whole rest count old mid → rest ≡ MoreRows list rest' → has_column look count ≡ true → SetFails fault (list_box (list_content fonts list) T) → SetFails fault (pack_rows (rows_by_style fonts (rows_in_columns look whole)))
+row_fails fault fonts look whole rest count old mid list rest' h e c bad =
+    let g = subst (λ r. RowsSoFar fonts look whole r count old mid) e h in
+    let others = pack_rows (rows_by_style fonts (columns_from look (count + 1) rest')) in
     subst (SetFails fault) (sym g.whole_is)
-    (fails_then fault (pack_rows (rows_by_style fonts (rows_of (list ∷ rest')))) (λ more. Ok (g.boxes ++ more))
-    (subst (SetFails fault) (sym (packed_first (list_content fonts list) others)) (fails_then fault (list_box (list_content fonts list) T) (λ box. others >>= (λ boxes. Ok (box ∷ boxes))) bad)))
-
-pub rows_end : (fonts : SetValue) (whole : Rows) (rest : List Sequence) (old new : List PieceValue) (count : ℕ) → RowsSoFar fonts whole rest old new → rest ≡ [] → count ≡ rows_length whole → BoxesOn count old new (pack_rows (rows_by_style fonts whole))
-rows_end fonts whole rest old new count h e n =
-    let g = subst (λ r. RowsSoFar fonts whole r old new) e h in
-    record { boxes = g.boxes; is = g.whole_is ∙ appended_end g.boxes; counted = omega (arith, n, g.count); stays = g.stays }
-
--- how many there are
-rows_counted : (lists : List Sequence) → rows_length (rows_of lists) ≡ length lists
-rows_counted [] = refl
-rows_counted (list ∷ lists) = omega (arith, rows_counted lists)
-
-pub count_is : (whole : Rows) (lists : List Sequence) (count : ℕ) → rows_of lists ≡ whole → count ≡ length lists → count ≡ rows_length whole
-count_is whole lists count e f = f ∙ (sym (rows_counted lists) ∙ ap rows_length e)
+    (fails_then fault (pack_rows (rows_by_style fonts (columns_from look count (MoreRows list rest')))) (λ more. Ok (g.boxes ++ more))
+    (subst (λ r. SetFails fault (pack_rows (rows_by_style fonts r))) (sym (next_column look count list rest' c))
+    (subst (SetFails fault) (sym (packed_first (list_content fonts list) others)) (fails_then fault (list_box (list_content fonts list) T) (λ box. others >>= (λ boxes. Ok (box ∷ boxes))) bad))))
 
 rows_within : (rows : Rows) → rows_length rows ≤ rows_items rows
 rows_within NoRows = omega arith
 rows_within (MoreRows list rows) = omega (arith, rows_within rows)
 
-pub rows_few : (whole : Rows) (count : ℕ) → IsModestRows whole → count ≡ rows_length whole → count ≤ 2 ^ 18
-rows_few whole count m e = omega (arith, e, m.items, rows_within whole)
+columns_within : (look : Look) (rows : Rows) → rows_length (rows_in_columns look rows) ≤ rows_length rows
+columns_within Matrix rows = omega arith
+columns_within Equations NoRows = omega arith
+columns_within Equations (MoreRows s NoRows) = omega arith
+columns_within Equations (MoreRows s (MoreRows t rows)) = omega arith
+
+pub rows_few : (fonts : SetValue) (look : Look) (whole rest : Rows) (count : ℕ) (old new : List PieceValue) → IsModestRows whole → RowsSoFar fonts look whole rest count old new → count ≤ 2 ^ 18
+rows_few fonts look whole rest count old new m g = omega (arith, m.items, rows_within whole, columns_within look whole, g.total)
+
+-- no row is left that has a column
+pub record AllRows (fonts : SetValue) (look : Look) (whole : Rows) (count : ℕ) (old new : List PieceValue) : Type 0 where
+  pub is : BoxesOn count old new (pack_rows (rows_by_style fonts (rows_in_columns look whole)))
+  pub counted : count ≡ rows_length (rows_in_columns look whole)
+
+pub rows_end : (fonts : SetValue) (look : Look) (whole rest : Rows) (count : ℕ) (old new : List PieceValue) → RowsSoFar fonts look whole rest count old new → columns_from look count rest ≡ NoRows → AllRows fonts look whole count old new
+rows_end fonts look whole rest count old new g e = record {
+  is = record { boxes = g.boxes; is = g.whole_is ∙ (ap (λ r. appended_to g.boxes (pack_rows (rows_by_style fonts r))) e ∙ appended_end g.boxes); counted = g.counted; stays = g.stays };
+  counted = omega (arith, g.total, ap rows_length e);
+}
 
 -- ---- the column of a vcenter atom
 
@@ -151,11 +203,11 @@ vcenter_empty P fonts style size (ListPart list) boxes n e g h = subst (λ b. P 
 vcenter_empty P fonts style size (RootPart degree body) boxes n e g h = subst (λ b. P (vcenter fonts (size_of style) b)) g (subst (λ t. P (vcenter fonts t boxes)) e h)
 vcenter_empty P fonts style size (BigPart delim level) boxes n e g h = subst (λ b. P (vcenter fonts (size_of style) b)) g (subst (λ t. P (vcenter fonts t boxes)) e h)
 
-pub without_rows : (f : Field) → ((rows : Rows) → f ≡ OfRows rows → ⊥) → ((table : Table) → f ≡ OfTable table → ⊥) → HasNoRows (part_of_field f)
-without_rows Empty n m = tt
-without_rows (Sym symbol) n m = tt
-without_rows (OfList list) n m = tt
-without_rows (OfRows rows) n m = n rows refl
-without_rows (OfTable table) n m = m table refl
-without_rows (OfRoot root) n m = tt
-without_rows (OfBig delim level) n m = tt
+pub without_rows : (es : List Held) (f : Cell) → ((rows : Span) → f ≡ OfRows rows → ⊥) → ((look : Look) (rows : Span) → f ≡ OfTable look rows → ⊥) → HasNoRows (cell_part es f)
+without_rows es Empty n m = tt
+without_rows es (Sym symbol) n m = tt
+without_rows es (OfList list) n m = tt
+without_rows es (OfRows rows) n m = n rows refl
+without_rows es (OfTable look rows) n m = m look rows refl
+without_rows es (OfRoot at) n m = subst HasNoRows (sym (a_root es at).is) tt
+without_rows es (OfBig delim level) n m = tt

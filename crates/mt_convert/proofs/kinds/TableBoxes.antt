@@ -1,6 +1,6 @@
 -- The cells of a table, set and packed row by row, and then its box.
 use Rattle.std.proofs.Common.{◌≡◌, ℕ, ◌+◌, ◌≤◌, ◌^◌, List, [], ◌∷◌, ◌++◌, length, All, ap, sym, ◌∙◌, refl, subst, arith, append_assoc}
-use Rattle.std.specs.Prelude.{Ok, map, take}
+use Rattle.std.specs.Prelude.{Ok, map}
 use Rattle.std.proofs.lemmas.List.Elements.{All-append, All-cons}
 use Rattle.mt_family.specs.SetValue.{SetValue}
 use Rattle.mt_box.specs.Layout.{Layout}
@@ -10,8 +10,7 @@ use Rattle.mt_rules.specs.declared.list.Look.TheVariants.{Matrix, Equations}
 use Rattle.mt_rules.specs.declared.style.Style.{Style}
 use Rattle.mt_rules.specs.Setting.{Setting, ◌>>=◌}
 use Rattle.mt_rules.specs.Tables.{Cells}
-use Rattle.mt_rules.specs.Sequence.{Sequence, Rows, NoRows, MoreRows, TableGrid, Part, TablePart, rows_length, rows_size, grid_size}
-use Rattle.mt_rules.specs.Rows.{rows_of, grid_of}
+use Rattle.mt_rules.specs.Sequence.{Rows, NoRows, MoreRows, TableGrid, NoTableRows, MoreTableRows, Part, TablePart, rows_length, rows_size, grid_size}
 use Rattle.mt_rules.specs.Modest.{grid_items}
 use Rattle.mt_rules.specs.AtomRow.{cells_in_columns, pack_rows, pack_cells, table_part, vcenter_part}
 use Rattle.mt_pieces.specs.Celled.{cell_pieces, flat_box}
@@ -25,7 +24,7 @@ use Rattle.mt_convert.specs.inner.OnPieces.{BoxesOn, CellsOn}
 use Rattle.mt_convert.specs.inner.Tables.{rows_in_columns}
 use Rattle.mt_convert.proofs.Appending.{appended_nil, appended_end, fails_then}
 use Rattle.mt_convert.proofs.Behind.{nil_right}
-use Rattle.mt_convert.proofs.kinds.Bounds.{first_row, other_rows, first_cells, other_cells}
+use Rattle.mt_convert.proofs.kinds.Bounds.{first_cells, other_cells}
 use Rattle.mt_convert.proofs.kinds.RowBoxes.{appended_cons, one_longer}
 
 -- ---- the cells that have a column
@@ -35,25 +34,6 @@ columns_by_style fonts Matrix r = refl
 columns_by_style fonts Equations NoRows = refl
 columns_by_style fonts Equations (MoreRows a NoRows) = refl
 columns_by_style fonts Equations (MoreRows a (MoreRows b r)) = refl
-
-columns_modest : (look : Look) (r : Rows) → IsModestRows r → IsModestRows (rows_in_columns look r)
-columns_modest Matrix r h = h
-columns_modest Equations NoRows h = h
-columns_modest Equations (MoreRows a NoRows) h = h
-columns_modest Equations (MoreRows a (MoreRows b r)) h =
-    let first = first_row a (MoreRows b r) h in
-    let second = first_row b r (other_rows a (MoreRows b r) h) in
-    record { nesting = omega (arith, h.nesting); items = omega (arith, h.items); amounts = (first.amounts, (second.amounts, tt)) }
-
-some_size : (r : Rows) → 1 ≤ rows_size r
-some_size NoRows = omega arith
-some_size (MoreRows a r) = omega arith
-
-columns_size : (look : Look) (r : Rows) → rows_size (rows_in_columns look r) ≤ rows_size r
-columns_size Matrix r = omega arith
-columns_size Equations NoRows = omega arith
-columns_size Equations (MoreRows a NoRows) = omega arith
-columns_size Equations (MoreRows a (MoreRows b r)) = omega (arith, some_size r)
 
 only_one : {A : Type 0} (P : A → Type 0) (b : A) → P b → All P (b ∷ [])
 only_one P b h = All-cons P b [] h (λ k d lt. absurd (omega (arith, lt)))
@@ -68,11 +48,6 @@ two_columns Equations NoRows e = omega arith
 two_columns Equations (MoreRows a NoRows) e = omega arith
 two_columns Equations (MoreRows a (MoreRows b r)) e = omega arith
 
-pub first_two : (cells : List Sequence) → rows_of (take 2 cells) ≡ rows_in_columns Equations (rows_of cells)
-first_two [] = refl
-first_two (a ∷ []) = refl
-first_two (a ∷ b ∷ cells) = refl
-
 -- ---- the cells so far
 
 pieces_append : (rows : List Cells) (cells : Cells) → cell_pieces (rows ++ cells ∷ []) ≡ cell_pieces rows ++ unraised_boxes cells
@@ -84,19 +59,19 @@ lengths_append [] cells = refl
 lengths_append (r ∷ rows) cells = ap (λ ns. length r ∷ ns) (lengths_append rows cells)
 
 -- the rows of the whole are those so far, and then those of the rest
-pub record CellsSoFar (fonts : SetValue) (look : Look) (whole : TableGrid) (rest : List Rows) (counts : List ℕ) (old new : List PieceValue) : Type 0 where
+pub record CellsSoFar (fonts : SetValue) (look : Look) (whole : TableGrid) (rest : TableGrid) (counts : List ℕ) (old new : List PieceValue) : Type 0 where
   pub rows : List Cells
   pub stays : new ≡ old ++ cell_pieces rows
   pub counted : counts ≡ map length rows
-  pub whole_is : pack_cells look (cells_by_style fonts whole) ≡ appended_to rows (pack_cells look (cells_by_style fonts (grid_of rest)))
-  pub few : length counts + grid_items (grid_of rest) ≤ grid_items whole
+  pub whole_is : pack_cells look (cells_by_style fonts whole) ≡ appended_to rows (pack_cells look (cells_by_style fonts rest))
+  pub few : length counts + grid_items rest ≤ grid_items whole
   pub columns : All (λ n. n ≤ 2 ^ 18) counts
   pub sides : look ≡ Equations → All (λ n. n ≤ 2) counts
-  pub size : grid_size (grid_of rest) ≤ grid_size whole
-  pub modest : IsModestGrid (grid_of rest)
+  pub size : grid_size rest ≤ grid_size whole
+  pub modest : IsModestGrid rest
 
-pub cells_start : (fonts : SetValue) (look : Look) (whole : TableGrid) (rest items : List Rows) (counts : List ℕ) (old : List PieceValue) → IsModestGrid whole → rest ≡ items → grid_of items ≡ whole → counts ≡ [] → CellsSoFar fonts look whole rest counts old old
-cells_start fonts look whole rest items counts old modest e f g = rw (e, g) (rw (sym f) (record {
+pub cells_start : (fonts : SetValue) (look : Look) (whole : TableGrid) (counts : List ℕ) (old : List PieceValue) → IsModestGrid whole → counts ≡ [] → CellsSoFar fonts look whole whole counts old old
+cells_start fonts look whole counts old m e = rw e (record {
   rows = [];
   stays = nil_right old;
   counted = refl;
@@ -105,23 +80,23 @@ cells_start fonts look whole rest items counts old modest e f g = rw (e, g) (rw 
   columns = λ k d lt. absurd (omega (arith, lt));
   sides = λ _ k d lt. absurd (omega (arith, lt));
   size = omega arith;
-  modest = subst IsModestGrid (sym f) modest;
-}))
+  modest = m;
+})
 
-pub next_cells : (fonts : SetValue) (look : Look) (whole : TableGrid) (rest : List Rows) (counts : List ℕ) (old new : List PieceValue) (row : Rows) (rest' : List Rows) → CellsSoFar fonts look whole rest counts old new → rest ≡ row ∷ rest' → IsModestRows (rows_in_columns look row)
-next_cells fonts look whole rest counts old new row rest' h e = columns_modest look row (first_cells row (grid_of rest') (subst (λ r. IsModestGrid (grid_of r)) e h.modest))
+pub next_cells : (fonts : SetValue) (look : Look) (whole : TableGrid) (rest : TableGrid) (counts : List ℕ) (old new : List PieceValue) (row : Rows) (rest' : TableGrid) → CellsSoFar fonts look whole rest counts old new → rest ≡ MoreTableRows row rest' → IsModestRows row
+next_cells fonts look whole rest counts old new row rest' h e = first_cells row rest' (subst IsModestGrid e h.modest)
 
-pub next_cells_size : (fonts : SetValue) (look : Look) (whole : TableGrid) (rest : List Rows) (counts : List ℕ) (old new : List PieceValue) (row : Rows) (rest' : List Rows) → CellsSoFar fonts look whole rest counts old new → rest ≡ row ∷ rest' → rows_size (rows_in_columns look row) + 1 ≤ grid_size whole
-next_cells_size fonts look whole rest counts old new row rest' h e = omega (arith, columns_size look row, subst (λ r. grid_size (grid_of r) ≤ grid_size whole) e h.size)
+pub next_cells_size : (fonts : SetValue) (look : Look) (whole : TableGrid) (rest : TableGrid) (counts : List ℕ) (old new : List PieceValue) (row : Rows) (rest' : TableGrid) → CellsSoFar fonts look whole rest counts old new → rest ≡ MoreTableRows row rest' → rows_size row + 1 ≤ grid_size whole
+next_cells_size fonts look whole rest counts old new row rest' h e = omega (arith, ap grid_size e, h.size)
 
 -- what is left of a row that was packed, and the rows after it
-abbrev packed_row : SetValue → Look → List Rows → List Layout → Setting (List Cells)
-packed_row fonts look rest cells = pack_cells look (cells_by_style fonts (grid_of rest)) >>= (λ others. Ok (cells ∷ others))
+abbrev packed_row : SetValue → Look → TableGrid → List Layout → Setting (List Cells)
+packed_row fonts look rest cells = pack_cells look (cells_by_style fonts rest) >>= (λ others. Ok (cells ∷ others))
 
-pub cells_step : (fonts : SetValue) (look : Look) (whole : TableGrid) (rest : List Rows) (counts counts' : List ℕ) (old there new : List PieceValue) (row : Rows) (rest' : List Rows) (count : ℕ) → CellsSoFar fonts look whole rest counts old there → rest ≡ row ∷ rest' → BoxesOn count there new (pack_rows (rows_by_style fonts (rows_in_columns look row))) → count ≤ 2 ^ 18 → count ≡ rows_length (rows_in_columns look row) → counts' ≡ counts ++ count ∷ [] → CellsSoFar fonts look whole rest' counts' old new
+pub cells_step : (fonts : SetValue) (look : Look) (whole : TableGrid) (rest : TableGrid) (counts counts' : List ℕ) (old there new : List PieceValue) (row : Rows) (rest' : TableGrid) (count : ℕ) → CellsSoFar fonts look whole rest counts old there → rest ≡ MoreTableRows row rest' → BoxesOn count there new (pack_rows (rows_by_style fonts (rows_in_columns look row))) → count ≤ 2 ^ 18 → count ≡ rows_length (rows_in_columns look row) → counts' ≡ counts ++ count ∷ [] → CellsSoFar fonts look whole rest' counts' old new
 cells_step fonts look whole rest counts counts' old there new row rest' count h e b few count_is pushed =
     let g = subst (λ r. CellsSoFar fonts look whole r counts old there) e h in
-    let others = pack_cells look (cells_by_style fonts (grid_of rest')) in
+    let others = pack_cells look (cells_by_style fonts rest') in
     record {
       rows = g.rows ++ b.boxes ∷ [];
       stays =
@@ -137,22 +112,22 @@ cells_step fonts look whole rest counts counts' old there new row rest' count h 
       columns = subst (All (λ n. n ≤ 2 ^ 18)) (sym pushed) (All-append (λ n. n ≤ 2 ^ 18) counts (count ∷ []) g.columns (only_one (λ n. n ≤ 2 ^ 18) count few));
       sides = λ same. subst (All (λ n. n ≤ 2)) (sym pushed) (All-append (λ n. n ≤ 2) counts (count ∷ []) (g.sides same) (only_one (λ n. n ≤ 2) count (omega (arith, count_is, two_columns look row same))));
       size = omega (arith, g.size);
-      modest = other_cells row (grid_of rest') g.modest;
+      modest = other_cells row rest' g.modest;
     }
 
-pub cells_fail : (fault : SetFault) (fonts : SetValue) (look : Look) (whole : TableGrid) (rest : List Rows) (counts : List ℕ) (old new : List PieceValue) (row : Rows) (rest' : List Rows) → CellsSoFar fonts look whole rest counts old new → rest ≡ row ∷ rest' → SetFails fault (pack_rows (rows_by_style fonts (rows_in_columns look row))) → SetFails fault (pack_cells look (cells_by_style fonts whole))
+pub cells_fail : (fault : SetFault) (fonts : SetValue) (look : Look) (whole : TableGrid) (rest : TableGrid) (counts : List ℕ) (old new : List PieceValue) (row : Rows) (rest' : TableGrid) → CellsSoFar fonts look whole rest counts old new → rest ≡ MoreTableRows row rest' → SetFails fault (pack_rows (rows_by_style fonts (rows_in_columns look row))) → SetFails fault (pack_cells look (cells_by_style fonts whole))
 cells_fail fault fonts look whole rest counts old new row rest' h e bad =
     let g = subst (λ r. CellsSoFar fonts look whole r counts old new) e h in
     subst (SetFails fault) (sym g.whole_is)
-    (fails_then fault (pack_cells look (cells_by_style fonts (grid_of (row ∷ rest')))) (λ more. Ok (g.rows ++ more))
+    (fails_then fault (pack_cells look (cells_by_style fonts (MoreTableRows row rest'))) (λ more. Ok (g.rows ++ more))
     (fails_then fault (pack_rows (cells_in_columns look (rows_by_style fonts row))) (packed_row fonts look rest') (subst (λ r. SetFails fault (pack_rows r)) (sym (columns_by_style fonts look row)) bad)))
 
-pub cells_end : (fonts : SetValue) (look : Look) (whole : TableGrid) (rest : List Rows) (counts : List ℕ) (old new : List PieceValue) → CellsSoFar fonts look whole rest counts old new → rest ≡ [] → CellsOn counts old new (pack_cells look (cells_by_style fonts whole))
+pub cells_end : (fonts : SetValue) (look : Look) (whole : TableGrid) (rest : TableGrid) (counts : List ℕ) (old new : List PieceValue) → CellsSoFar fonts look whole rest counts old new → rest ≡ NoTableRows → CellsOn counts old new (pack_cells look (cells_by_style fonts whole))
 cells_end fonts look whole rest counts old new h e =
     let g = subst (λ r. CellsSoFar fonts look whole r counts old new) e h in
     record { cells = g.rows; is = g.whole_is ∙ appended_end g.rows; counted = g.counted; stays = g.stays }
 
-pub cells_few : (fonts : SetValue) (look : Look) (whole : TableGrid) (rest : List Rows) (counts : List ℕ) (old new : List PieceValue) → IsModestGrid whole → CellsSoFar fonts look whole rest counts old new → length counts ≤ 2 ^ 18
+pub cells_few : (fonts : SetValue) (look : Look) (whole : TableGrid) (rest : TableGrid) (counts : List ℕ) (old new : List PieceValue) → IsModestGrid whole → CellsSoFar fonts look whole rest counts old new → length counts ≤ 2 ^ 18
 cells_few fonts look whole rest counts old new m h = omega (arith, m.items, h.few)
 
 -- ---- the nucleus of a vcenter atom

@@ -3,10 +3,9 @@ use Rattle.std.specs.Prelude.{◌≡◌, ⊤, Bool, true, false, List, [], ◌�
 use Rattle.mt_rules.specs.declared.symbol.Delim.{Delim}
 use Rattle.mt_rules.specs.Facts.{NoBoundary}
 use Rattle.mt_rules.specs.Sequence.{Sequence, End, More, LeftElement, MiddleElement, RightElement, ChoiceElement}
-use Rattle.mt_convert.specs.declared.flat.passed.Passed.{Passed as CodePassed}
 use Rattle.mt_convert.specs.Halves.{HalfValue, HalfLeft, HalfMiddle, HalfRight}
 use Rattle.mt_convert.specs.Halfway.{BoundariesOutside}
-use Rattle.mt_convert.specs.inner.Turns.{PassedElement, element_of_passed, passed_value}
+use Rattle.mt_convert.specs.inner.Turns.{PassedElement, element_of_passed}
 
 -- After a left boundary (`enclosed`) middles and a right boundary, which stands last; without one neither. A left one
 -- nowhere, and none of these in the lists of a choice.
@@ -23,9 +22,6 @@ RestOfList enclosed (More _ s) = RestOfList enclosed s
 abbrev pub LeavesBy : {P : Type 0} → (P → PassedElement) → Bool → Option P → Sequence → Type 0
 LeavesBy meaning enclosed None rest = RestOfList enclosed rest
 LeavesBy meaning enclosed (Some p) rest = RestOfList enclosed (More (element_of_passed (meaning p)) rest)
-
-abbrev pub TurnLeaves : Bool → Option CodePassed → Sequence → Type 0
-TurnLeaves = LeavesBy passed_value
 
 -- no boundary, and middles only after a left one
 abbrev pub NoBoundaries : Bool → List HalfValue → Type 0

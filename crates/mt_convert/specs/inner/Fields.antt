@@ -5,11 +5,11 @@ use Rattle.mt_rules.specs.declared.kind.Kind.{Kind}
 use Rattle.mt_rules.specs.declared.kind.Limits.{Limits}
 use Rattle.mt_rules.specs.declared.symbol.Delim.{Delim}
 use Rattle.mt_rules.specs.Sequence.{Sequence, Part, sequence_size}
-use Rattle.mt_rules.specs.declared.list.Atom.{Atom}
-use Rattle.mt_rules.specs.declared.list.Fraction.{Fraction}
-use Rattle.mt_rules.specs.declared.list.Field.{Field}
 use Rattle.mt_rules.specs.declared.style.Style.{Style}
-use Rattle.mt_rules.specs.View.{part_of_field}
+use Rattle.mt_arena.specs.declared.thing.Cell.{Cell}
+use Rattle.mt_arena.specs.declared.thing.Noad.{Noad}
+use Rattle.mt_arena.specs.declared.thing.FractionNoad.{FractionNoad}
+use Rattle.mt_arena.specs.Arena.{Held, cell_part, sequence_in}
 use Rattle.mt_rules.specs.Setting.{Setting}
 use Rattle.mt_box.specs.Rows.{PieceValue}
 use Rattle.mt_rules.specs.Nuclei.{RowByStyle, Content, SymbolRole}
@@ -38,15 +38,16 @@ fraction_content fonts thickness left right num den = record {
   den = list_content fonts den;
 }
 
--- ---- of the code's types
+-- ---- in an arena
 
-abbrev pub field_content : SetValue → Field → Content
-field_content fonts field = content_of fonts (part_of_field field)
+abbrev pub field_content : SetValue → List Held → Cell → Content
+field_content fonts es field = content_of fonts (cell_part es field)
 
-abbrev pub atom_row_of : SetValue → Style → SymbolRole → Atom → Setting (List PieceValue)
-atom_row_of fonts style role a =
+abbrev pub atom_row_of : SetValue → List Held → Style → SymbolRole → Noad → Setting (List PieceValue)
+atom_row_of fonts es style role a =
     atom_row fonts style role (atom_content fonts a.kind a.limits
-    (part_of_field a.nucleus) (part_of_field a.sup) (part_of_field a.sub))
+    (cell_part es a.nucleus) (cell_part es a.sup) (cell_part es a.sub))
 
-abbrev pub fraction_row_of : SetValue → Style → Fraction → Setting (List PieceValue)
-fraction_row_of fonts style f = fraction_row fonts style (fraction_content fonts f.thickness f.left f.right f.num f.den)
+abbrev pub fraction_row_of : SetValue → List Held → Style → FractionNoad → Setting (List PieceValue)
+fraction_row_of fonts es style f =
+    fraction_row fonts style (fraction_content fonts f.thickness f.left f.right (sequence_in es f.num) (sequence_in es f.den))

@@ -1,4 +1,4 @@
--- What the calls leave that put rows and boxes behind the pieces that are there (`SetsRowOn`, `SetsAtomOn`, `SetsBoxOn`, `SetsNucleusOn`,
+-- What the calls leave that put rows and boxes behind the pieces that are there (`SetsAtomOn`, `SetsBoxOn`, `SetsNucleusOn`,
 -- `SetsOperatorOn`, `SetsScriptOn`, `SetsBoxesOn`): what is made, or the first fault. Want of memory may come in its place.
 use Rattle.std.specs.Prelude.{◌≡◌, ◌≤◌, ◌≤ℤ◌, ◌^◌, ℕ, ℤ, pos, is_some, length, map, Bool, List, [], ◌∷◌, ◌++◌, Option, Result, Ok, Err}
 use Rattle.mt_scaled.specs.Number.{Within, max_dimen}
@@ -19,16 +19,7 @@ use Rattle.mt_convert.specs.Halves.{HalfValue, half_height, half_depth}
 use Rattle.mt_convert.specs.inner.AtomSteps.{BoxWithItalic}
 use Rattle.mt_convert.specs.inner.Placed.{PlacedFits, placed_length, placed_value}
 
--- ---- rows
-
-pub record RowOn (old new : List PieceValue) (setting : Setting (List PieceValue)) : Type 0 where
-  pub row : List PieceValue
-  pub is : setting ≡ Ok row
-  pub stays : new ≡ old ++ row
-
-abbrev pub SetsRowOn : {U : Type 0} → Result U SetFault → List PieceValue → List PieceValue → Setting (List PieceValue) → Type 0
-SetsRowOn (Ok u) old new setting = RowOn old new setting
-SetsRowOn (Err fault) old new setting = SetFails fault setting
+-- ---- the row of an atom
 
 -- the row of an atom, which was tested
 pub record AtomOn (old new : List PieceValue) (setting : Setting (List PieceValue)) : Type 0 where

@@ -14,18 +14,13 @@ use Rattle.mt_rules.specs.declared.style.Style.{Style}
 use Rattle.mt_rules.specs.declared.symbol.Symbol.{Symbol}
 use Rattle.mt_rules.specs.declared.symbol.Delim.{Delim}
 use Rattle.mt_rules.specs.declared.symbol.Glue.{Glue}
-use Rattle.mt_rules.specs.declared.list.Atom.{Atom as AtomFields}
-use Rattle.mt_rules.specs.declared.list.Fraction.{Fraction as FractionFields}
 use Rattle.mt_rules.specs.Styles.{size_of, is_display_or_text}
 use Rattle.mt_rules.specs.Classes.{kind_class, forward_of}
 use Rattle.mt_rules.specs.Nuclei.{SymbolRole, OrdinarySymbol, TextSymbol, SmartPair}
 use Rattle.mt_rules.specs.Sequence.{Sequence, Element, Part, End, More, AtomElement, FractionElement, LeftElement, MiddleElement, RightElement, StyleElement, ChoiceElement, MuSpaceElement, SpaceElement, MuKernElement, KernElement, NonscriptElement, EmptyPart, SymbolPart}
-use Rattle.mt_rules.specs.View.{part_of_field}
 use Rattle.mt_arena.specs.Rest.{append_list}
 use Rattle.mt_convert.specs.declared.flat.current.Current.{Current}
 use Rattle.mt_convert.specs.declared.flat.joining.SymbolPair.{SymbolPair}
-use Rattle.mt_convert.specs.declared.flat.passed.Passed.{Passed as CodePassed}
-use Rattle.mt_convert.specs.declared.flat.passed.Passed.TheVariants as passed
 use Rattle.mt_convert.specs.declared.flat.passed.JoiningRole.{JoiningRole}
 use Rattle.mt_convert.specs.declared.flat.passed.JoiningRole.TheVariants as role
 use Rattle.mt_convert.specs.Joining.{is_ord_by_now, is_any_but_inner, symbol_pair, pair_of_fonts}
@@ -63,31 +58,11 @@ element_of_passed (PassedSpace glue) = SpaceElement glue
 element_of_passed (PassedMuKern amount) = MuKernElement amount
 element_of_passed (PassedKern amount) = KernElement amount
 
--- ---- what passes, as the code has it
-
+-- what joining makes of a symbol, as the code has it
 abbrev pub role_value : JoiningRole → SymbolRole
 role_value role.Ordinary = OrdinarySymbol
 role_value role.Text = TextSymbol
 role_value (role.Smart first second) = SmartPair first second
-
-abbrev pub atom_passed : AtomFields → JoiningRole → Option ℤ → PassedElement
-atom_passed a r kern =
-    PassedAtom a.kind a.limits (part_of_field a.nucleus) (part_of_field a.sup) (part_of_field a.sub) (role_value r) kern
-
-abbrev pub fraction_passed : FractionFields → PassedElement
-fraction_passed f = PassedFraction f.thickness f.left f.right f.num f.den
-
-abbrev pub passed_value : CodePassed → PassedElement
-passed_value (passed.Atom r kern atom) = atom_passed atom.value r kern
-passed_value (passed.Fraction fraction) = fraction_passed fraction.value
-passed_value (passed.Left delim) = PassedLeft delim
-passed_value (passed.Middle delim) = PassedMiddle delim
-passed_value (passed.Right delim) = PassedRight delim
-passed_value (passed.Style style) = PassedStyle style
-passed_value (passed.MuSpace glue) = PassedMuSpace glue
-passed_value (passed.Space glue) = PassedSpace glue
-passed_value (passed.MuKern amount) = PassedMuKern amount
-passed_value (passed.Kern amount) = PassedKern amount
 
 -- ---- what passes, in the flat list
 
@@ -155,11 +130,6 @@ is_empty_part _ = false
 abbrev pub symbol_before : Option Class → Kind → Part → Part → Part → Option Symbol
 symbol_before last kind nucleus sup sub =
     if is_ord_by_now last kind && (is_empty_part sup && is_empty_part sub) then part_symbol nucleus else None
-
--- of an atom of the code
-abbrev pub atom_symbol_before : Option Class → AtomFields → Option Symbol
-atom_symbol_before last a =
-    symbol_before last a.kind (part_of_field a.nucleus) (part_of_field a.sup) (part_of_field a.sub)
 
 abbrev pub symbol_after : Kind → Part → Option Symbol
 symbol_after kind nucleus = if is_any_but_inner kind then part_symbol nucleus else None
@@ -234,9 +204,6 @@ turn_of fonts current NonscriptElement s = PassesOne (PassedSpace no_glue) (list
 abbrev pub turned_by : {P : Type 0} → (P → PassedElement) → Option P → Sequence → ListTurn
 turned_by meaning None rest = RewritesTo rest
 turned_by meaning (Some p) rest = PassesOne (meaning p) rest
-
-abbrev pub turned : Option CodePassed → Sequence → ListTurn
-turned = turned_by passed_value
 
 -- the same turn in the definition
 abbrev pub turn_meaning : SetValue → ListTurn → flat.FrontTurn

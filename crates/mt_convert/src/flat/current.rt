@@ -1,9 +1,11 @@
 //! Where a list has come to.
-ghost use Rattle.std.specs.Prelude.{◌≡◌};
+ghost use Rattle.std.specs.Prelude.{◌≡◌, List};
 ghost use Rattle.mt_rules.specs.Classes.{kind_class};
+ghost use Rattle.mt_arena.specs.Arena.{Held};
 ghost use Rattle.mt_convert.specs.Current.{opening as opening_of};
+ghost use Rattle.mt_convert.specs.inner.Spans.{passed_in};
 ghost use Rattle.mt_convert.specs.inner.Turns.{class_after_passed, current_after_passed};
-ghost use Rattle.mt_convert.specs.inner.Turns.{passed_value, style_after_passed};
+ghost use Rattle.mt_convert.specs.inner.Turns.{style_after_passed};
 
 use crate::flat::passed::Passed;
 use mt_rules::{Class, Kind, Style};
@@ -36,7 +38,7 @@ impl Current {
 
     // Where the list has come to after this item.
     pub(crate) fn after_passed(self, passed: &Passed) -> Current
-        ensures { result ≡ current_after_passed self (passed_value passed.now) }
+        ensures { (es : List Held) → result ≡ current_after_passed self (passed_in es passed.now) }
     {
         Current {
             initial: self.initial,
@@ -47,7 +49,7 @@ impl Current {
 }
 
 fn style_after_passed(initial: Style, style: Style, passed: &Passed) -> Style
-    ensures { result ≡ style_after_passed initial style (passed_value passed.now) }
+    ensures { (es : List Held) → result ≡ style_after_passed initial style (passed_in es passed.now) }
 {
     match passed {
         Passed::Style(next) => *next,
@@ -57,10 +59,10 @@ fn style_after_passed(initial: Style, style: Style, passed: &Passed) -> Style
 }
 
 fn class_after_passed(last: Option<Class>, passed: &Passed) -> Option<Class>
-    ensures { result ≡ class_after_passed last (passed_value passed.now) }
+    ensures { (es : List Held) → result ≡ class_after_passed last (passed_in es passed.now) }
 {
     match passed {
-        Passed::Atom { atom, .. } => Some(forward(last, kind_class(atom.kind))),
+        Passed::Atom { noad, .. } => Some(forward(last, kind_class(noad.kind))),
         Passed::Fraction(_) => Some(Class::Inner),
         Passed::Left(_) | Passed::Middle(_) => Some(Class::Open),
         Passed::Right(_) => Some(Class::Close),

@@ -1,14 +1,16 @@
 //! Symbols side by side that are joined (The TeXbook, Appendix G, rule 14; tex.web, section 752).
-ghost use Rattle.std.specs.Prelude.{◌≡◌, Some};
+ghost use Rattle.std.specs.Prelude.{◌≡◌, List, Some};
 ghost use Rattle.mt_rules.specs.Styles.{size_of};
-ghost use Rattle.mt_rules.specs.View.{part_of_field};
+ghost use Rattle.mt_arena.specs.Arena.{Held, cell_part, value_in};
+ghost use Rattle.mt_arena.specs.Rest.{KeptItem};
 ghost use Rattle.mt_convert.specs.Joining.{is_any_but_inner, is_ord_by_now, pair_in_font};
 ghost use Rattle.mt_convert.specs.Joining.{pair_of_fonts, symbol_pair};
-ghost use Rattle.mt_convert.specs.inner.Turns.{atom_symbol_before, is_empty_part, part_symbol};
-ghost use Rattle.mt_convert.specs.inner.Turns.{symbol_after};
+ghost use Rattle.mt_convert.specs.inner.Spans.{held_as, held_symbol, noad_symbol_before};
+ghost use Rattle.mt_convert.specs.inner.Turns.{is_empty_part, part_symbol, symbol_after};
 
+use mt_arena::{Cell, Noad, Thing};
 use mt_family::FontSet;
-use mt_rules::{Atom, Class, Field, Kind, Style, Symbol};
+use mt_rules::{Class, Kind, Style, Symbol};
 use mt_spacing::forward;
 use mt_tfm::{Font, Pair};
 
@@ -23,19 +25,19 @@ pub struct SymbolPair {
     pub second: u8,
 }
 
-fn symbol_of_field(field: &Field) -> Option<Symbol>
-    ensures { result ≡ part_symbol (part_of_field field.now) }
+fn symbol_of_cell(cell: Cell) -> Option<Symbol>
+    ensures { (es : List Held) → result ≡ part_symbol (cell_part es cell) }
 {
-    match field {
-        Field::Sym(symbol) => Some(*symbol),
+    match cell {
+        Cell::Sym(symbol) => Some(symbol),
         _ => None,
     }
 }
 
-pub(crate) fn is_empty(field: &Field) -> bool
-    ensures { result ≡ is_empty_part (part_of_field field.now) }
+pub(crate) fn is_empty(cell: Cell) -> bool
+    ensures { (es : List Held) → result ≡ is_empty_part (cell_part es cell) }
 {
-    matches!(field, Field::Empty)
+    matches!(cell, Cell::Empty)
 }
 
 // An atom of the plain kind that is ordinary by now, after the atom before it.
@@ -59,24 +61,40 @@ pub(crate) fn is_any_but_inner(kind: Kind) -> bool
 }
 
 // The symbol of an atom that may be joined with the next one: it has no scripts.
-pub(crate) fn first_symbol(last: Option<Class>, atom: &Atom) -> Option<Symbol>
-    ensures { result ≡ atom_symbol_before last atom.now }
+pub(crate) fn first_symbol(last: Option<Class>, noad: Noad) -> Option<Symbol>
+    ensures { (es : List Held) → result ≡ noad_symbol_before es last noad }
 {
-    if is_ord_by_now(last, atom.kind) && is_empty(&atom.sup) && is_empty(&atom.sub) {
-        symbol_of_field(&atom.nucleus)
+    if is_ord_by_now(last, noad.kind) && is_empty(noad.sup) && is_empty(noad.sub) {
+        symbol_of_cell(noad.nucleus)
     } else {
         None
     }
 }
 
-// The symbol of an atom that may be joined with the one before it.
-pub(crate) fn second_symbol(atom: &Atom) -> Option<Symbol>
-    ensures { result ≡ symbol_after atom.now.kind (part_of_field atom.now.nucleus) }
+// The symbol of an item, if it is an atom that may be joined with the one before it.
+pub(crate) fn second_symbol(thing: Thing) -> Option<Symbol>
+    ensures { (es : List Held) → result ≡ held_symbol (value_in es thing) }
 {
-    if is_any_but_inner(atom.kind) {
-        symbol_of_field(&atom.nucleus)
-    } else {
-        None
+    match thing {
+        Thing::Atom(noad) if is_any_but_inner(noad.kind) => symbol_of_cell(noad.nucleus),
+        _ => None,
+    }
+}
+
+// An atom becomes an ordinary one of this symbol.
+pub(crate) fn as_symbol(thing: Thing, symbol: Symbol) -> Thing
+    ensures is { (es : List Held) → value_in es result ≡ held_as symbol (value_in es thing) }
+    ensures kept { (es : List Held) → KeptItem es thing → KeptItem es result }
+{
+    match thing {
+        Thing::Atom(noad) => Thing::Atom(Noad {
+            kind: Kind::Plain(Class::Ord),
+            limits: noad.limits,
+            nucleus: Cell::Sym(symbol),
+            sup: noad.sup,
+            sub: noad.sub,
+        }),
+        _ => thing,
     }
 }
 

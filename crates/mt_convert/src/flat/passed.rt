@@ -1,8 +1,11 @@
-//! The items that a list passes on to be set.
-ghost use Rattle.std.specs.Prelude.{◌≡◌};
-ghost use Rattle.mt_convert.specs.inner.Turns.{kern_of, passed_value};
+//! The items that a list in an arena passes on to be set.
+ghost use Rattle.std.specs.Prelude.{◌≡◌, List};
+ghost use Rattle.mt_arena.specs.Arena.{Held};
+ghost use Rattle.mt_convert.specs.inner.Spans.{passed_in};
+ghost use Rattle.mt_convert.specs.inner.Turns.{kern_of};
 
-use mt_rules::{Atom, Delim, Fraction, Glue, Style};
+use mt_arena::{FractionNoad, Noad, ShortGlue};
+use mt_rules::{Delim, Style};
 
 /// What the list round an atom makes of its symbol.
 #[derive(Clone, Copy)]
@@ -21,7 +24,7 @@ pub(crate) enum JoiningRole {
 }
 
 /// An item that is to be set. There are no choices and no conditional spaces among them.
-#[derive(Drop)]
+#[derive(Clone, Copy)]
 pub(crate) enum Passed {
     /// An atom.
     Atom {
@@ -30,10 +33,10 @@ pub(crate) enum Passed {
         /// The kern between it and the next atom.
         kern: Option<i64>,
         /// The atom.
-        atom: Box<Atom>,
+        noad: Noad,
     },
     /// A fraction.
-    Fraction(Box<Fraction>),
+    Fraction(FractionNoad),
     /// A left boundary.
     Left(Delim),
     /// A middle.
@@ -43,19 +46,19 @@ pub(crate) enum Passed {
     /// The style of what follows.
     Style(Style),
     /// A space in mu.
-    MuSpace(Glue),
+    MuSpace(ShortGlue),
     /// A space.
-    Space(Glue),
+    Space(ShortGlue),
     /// A kern in mu.
-    MuKern(i64),
+    MuKern(i32),
     /// A kern.
-    Kern(i64),
+    Kern(i32),
 }
 
 impl Passed {
     // The kern that joining leaves after it.
     pub(crate) fn kern(&self) -> Option<i64>
-        ensures { result ≡ kern_of (passed_value self.now) }
+        ensures { (es : List Held) → result ≡ kern_of (passed_in es self.now) }
     {
         match self {
             Passed::Atom { kern, .. } => *kern,

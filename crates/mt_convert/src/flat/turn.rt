@@ -1,58 +1,69 @@
-//! One turn at the front of a list (The TeXbook, Appendix G, rules 2 to 4 and 14).
-ghost use Rattle.std.specs.Prelude.{◌≡◌, Bool, IfOk, Some};
-ghost use Rattle.mt_rules.specs.Sequence.{More};
-ghost use Rattle.mt_rules.specs.View.{atom_element, element_of};
-ghost use Rattle.mt_convert.specs.Flat.{list_for};
+//! One turn at the front of a list in an arena (The TeXbook, Appendix G, rules 2 to 4 and 14).
+ghost use Rattle.std.specs.Prelude.{◌≡◌, Bool, IfOk, IfSome, List, OnOk};
+ghost use Rattle.mt_arena.specs.Arena.{value_in};
+ghost use Rattle.mt_arena.specs.Rest.{more_of, rest_in, IsFree, KeptItem, KeptRest};
+ghost use Rattle.mt_arena.specs.declared.thing.Thing.TheVariants.{Atom as AtomThing};
 ghost use Rattle.mt_convert.specs.declared.flat.passed.Passed.TheVariants as code_passed;
-ghost use Rattle.mt_convert.specs.inner.Boundaries.{RestOfList, TurnLeaves};
-ghost use Rattle.mt_convert.specs.inner.Turns.{turn_of, turned};
+ghost use Rattle.mt_convert.specs.inner.Boundaries.{LeavesBy, RestOfList};
+ghost use Rattle.mt_convert.specs.inner.Spans.{passed_in, turn_of_held, KeptPassed};
+ghost use Rattle.mt_convert.specs.inner.Turns.{turned_by};
 
 use crate::flat::current::Current;
+use crate::flat::front::{begins_with_space, choose, join, next_symbol};
 use crate::flat::joining::{first_symbol, pair_of_fonts, symbol_pair};
 use crate::flat::passed::{JoiningRole, Passed};
-use crate::flat::worklist::Worklist;
+use mt_arena::{Arena, Noad, Rest, ShortGlue, Thing};
 use mt_family::{FontSet, Size};
-use mt_rules::{Atom, Choice, Glue, Item, MathList, Style, Symbol};
+use mt_rules::Symbol;
 use mt_tfm::Pair;
 use std::alloc::AllocError;
 
-// Passes the front on to be set, or rewrites the list there, which is then looked at again.
+// Passes the front, which was just taken off the rest, on to be set, or rewrites the rest, which is then looked at
+// again.
 pub(crate) fn turn(
     fonts: &FontSet,
+    arena: &Arena,
     current: Current,
-    front: Item,
-    rest: &mut Worklist,
+    front: Thing,
+    rest: &mut Rest,
 ) -> Result<Option<Passed>, AllocError>
-    ensures turns { IfOk result (λ passed. turned passed rest.new
-        ≡ turn_of fonts.now current (element_of front) rest.old) }
+    requires front { KeptItem arena.now.closed front }
+    requires kept { KeptRest arena.now.closed rest.old }
+    requires free { IsFree rest.old }
+    ensures turns { IfOk result (λ passed. turned_by (passed_in arena.now.closed) passed (rest_in arena.now.closed rest.new)
+        ≡ turn_of_held fonts.now current (value_in arena.now.closed front) (rest_in arena.now.closed rest.old)) }
     ensures boundaries { IfOk result (λ passed. (enclosed : Bool) →
-        RestOfList enclosed (More (element_of front) rest.old) → TurnLeaves enclosed passed rest.new) }
+        RestOfList enclosed (more_of (value_in arena.now.closed front) (rest_in arena.now.closed rest.old))
+        → LeavesBy (passed_in arena.now.closed) enclosed passed (rest_in arena.now.closed rest.new)) }
+    ensures passes { IfOk result (λ passed. IfSome passed (KeptPassed arena.now.closed)) }
+    ensures kept { OnOk result (KeptRest arena.now.closed rest.new) }
 {
     let passed = match front {
-        Item::Atom(atom) => return turn_atom(fonts, current, atom, rest),
-        Item::Choice(choice) => {
-            rest.push_list(chosen_list(Box::into_inner(choice), current.style))?;
-            rest.push(Item::Style(current.style))?;
+        Thing::Atom(noad) => return Ok(turn_atom(fonts, arena, current, noad, rest)),
+        Thing::Choice(spans) => {
+            choose(rest, current.style, spans)?;
             return Ok(None);
         }
-        Item::Nonscript => {
-            if current.style.size() != Size::Text && rest.begins_with_space() {
-                rest.pop();
+        Thing::Nonscript => {
+            if current.style.size() != Size::Text && begins_with_space(arena, rest) {
+                rest.pop(arena);
             }
-            Passed::Space(Glue {
+            Passed::Space(ShortGlue {
                 width: 0,
                 shrink: 0,
             })
         }
-        Item::Fraction(fraction) => Passed::Fraction(fraction),
-        Item::Left(delim) => Passed::Left(delim),
-        Item::Middle(delim) => Passed::Middle(delim),
-        Item::Right(delim) => Passed::Right(delim),
-        Item::Style(style) => Passed::Style(style),
-        Item::MuSpace(glue) => Passed::MuSpace(glue),
-        Item::Space(glue) => Passed::Space(glue),
-        Item::MuKern(amount) => Passed::MuKern(amount),
-        Item::Kern(amount) => Passed::Kern(amount),
+        Thing::Fraction(fraction) => Passed::Fraction(fraction),
+        Thing::Left(delim) => Passed::Left(delim),
+        Thing::Middle(delim) => Passed::Middle(delim),
+        Thing::Right(delim) => Passed::Right(delim),
+        Thing::Style(style) => Passed::Style(style),
+        Thing::MuSpace(glue) => Passed::MuSpace(glue),
+        Thing::Space(glue) => Passed::Space(glue),
+        Thing::MuKern(amount) => Passed::MuKern(amount),
+        Thing::Kern(amount) => Passed::Kern(amount),
+        // These are no items.
+        Thing::Row(_) | Thing::Cells(_) | Thing::Root(_) => return Ok(None),
     };
     Ok(Some(passed))
 }
@@ -60,60 +71,50 @@ pub(crate) fn turn(
 // An atom passes, or a ligature makes it and the next one a single atom.
 fn turn_atom(
     fonts: &FontSet,
+    arena: &Arena,
     current: Current,
-    atom: Box<Atom>,
-    rest: &mut Worklist,
-) -> Result<Option<Passed>, AllocError>
-    ensures turns { IfOk result (λ passed. turned passed rest.new
-        ≡ turn_of fonts.now current (atom_element atom.value) rest.old) }
-    ensures boundaries { IfOk result (λ passed. (enclosed : Bool) →
-        RestOfList enclosed rest.old → TurnLeaves enclosed passed rest.new) }
+    noad: Noad,
+    rest: &mut Rest,
+) -> Option<Passed>
+    requires front { KeptItem arena.now.closed (AtomThing noad) }
+    requires kept { KeptRest arena.now.closed rest.old }
+    ensures turns { turned_by (passed_in arena.now.closed) result (rest_in arena.now.closed rest.new)
+        ≡ turn_of_held fonts.now current (value_in arena.now.closed (AtomThing noad)) (rest_in arena.now.closed rest.old) }
+    ensures boundaries { (enclosed : Bool) → RestOfList enclosed (rest_in arena.now.closed rest.old)
+        → LeavesBy (passed_in arena.now.closed) enclosed result (rest_in arena.now.closed rest.new) }
+    ensures passes { IfSome result (KeptPassed arena.now.closed) }
+    ensures kept { KeptRest arena.now.closed rest.new }
 {
-    let first = first_symbol(current.last, &atom);
-    let Some(pair) = symbol_pair(first, rest.next_symbol()) else {
-        return Ok(Some(passed_atom(JoiningRole::Ordinary, None, atom)));
+    let Some(first) = first_symbol(current.last, noad) else {
+        return Some(passed_atom(JoiningRole::Ordinary, None, noad));
+    };
+    let Some(pair) = symbol_pair(Some(first), next_symbol(arena, rest)) else {
+        return Some(passed_atom(JoiningRole::Ordinary, None, noad));
     };
     match pair_of_fonts(fonts, current.style, pair) {
-        None => Ok(Some(passed_atom(JoiningRole::Ordinary, None, atom))),
-        Some(Pair::None) => Ok(Some(passed_atom(JoiningRole::Text, None, atom))),
-        Some(Pair::Kern(amount)) => Ok(Some(passed_atom(JoiningRole::Text, Some(amount), atom))),
+        None => Some(passed_atom(JoiningRole::Ordinary, None, noad)),
+        Some(Pair::None) => Some(passed_atom(JoiningRole::Text, None, noad)),
+        Some(Pair::Kern(amount)) => Some(passed_atom(JoiningRole::Text, Some(amount), noad)),
         Some(Pair::Smart) => {
             let role = JoiningRole::Smart {
                 first: pair.first,
                 second: pair.second,
             };
-            Ok(Some(passed_atom(role, None, atom)))
+            Some(passed_atom(role, None, noad))
         }
         Some(Pair::Join(code)) => {
-            rest.join(Symbol {
+            let symbol = Symbol {
                 fam: pair.fam,
                 code,
-            })?;
-            Ok(None)
+            };
+            join(arena, rest, symbol);
+            None
         }
     }
 }
 
-fn passed_atom(role: JoiningRole, kern: Option<i64>, atom: Box<Atom>) -> Passed
-    ensures { result ≡ code_passed.Atom role kern atom }
+fn passed_atom(role: JoiningRole, kern: Option<i64>, noad: Noad) -> Passed
+    ensures { result ≡ code_passed.Atom role kern noad }
 {
-    Passed::Atom { role, kern, atom }
-}
-
-// The list of a choice for a style.
-fn chosen_list(choice: Choice, style: Style) -> MathList
-    ensures { result ≡ list_for style choice.display choice.text choice.script choice.small }
-{
-    let Choice {
-        display,
-        text,
-        script,
-        small,
-    } = choice;
-    match style {
-        Style::D | Style::Dc => display,
-        Style::T | Style::Tc => text,
-        Style::S | Style::Sc => script,
-        Style::Ss | Style::Ssc => small,
-    }
+    Passed::Atom { role, kern, noad }
 }

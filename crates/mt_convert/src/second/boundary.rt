@@ -5,7 +5,7 @@ ghost use Rattle.mt_rules.specs.Styles.{size_of};
 ghost use Rattle.mt_rules.specs.Delimiters.{boundary_size};
 ghost use Rattle.mt_convert.specs.Halfway.{MayMeet};
 ghost use Rattle.mt_convert.specs.SecondPass.{boundary_pieces};
-ghost use Rattle.mt_convert.specs.inner.OnPieces.{SetsRowOn};
+ghost use Rattle.mt_convert.specs.Calls.{SetsRowOn};
 
 use crate::SetFault;
 use crate::flat::current::Current;

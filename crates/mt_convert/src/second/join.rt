@@ -7,7 +7,7 @@ ghost use Rattle.mt_convert.specs.Halfway.{AllMeet};
 ghost use Rattle.mt_convert.specs.SecondPass.{all_pieces, current_after_half, row_of_halves};
 ghost use Rattle.mt_convert.specs.SecondPass.{second_pass_of, style_after_half};
 ghost use Rattle.mt_convert.specs.inner.LoneAtoms.{is_lone_atom};
-ghost use Rattle.mt_convert.specs.inner.OnPieces.{SetsRowOn};
+ghost use Rattle.mt_convert.specs.Calls.{SetsRowOn};
 ghost use Rattle.mt_convert.specs.inner.Placed.{IsPlaced, PlacesIn, placed_halves, placed_value, placed_values};
 
 use crate::SetFault;

@@ -6,7 +6,7 @@ ghost use Rattle.mt_pieces.specs.Runs.{IsAt};
 ghost use Rattle.mt_convert.specs.SecondPass.{half_pieces, space_before};
 ghost use Rattle.mt_convert.specs.Halfway.{MayMeet};
 ghost use Rattle.mt_convert.specs.inner.LoneAtoms.{is_set_atom};
-ghost use Rattle.mt_convert.specs.inner.OnPieces.{SetsRowOn};
+ghost use Rattle.mt_convert.specs.Calls.{SetsRowOn};
 ghost use Rattle.mt_convert.specs.inner.Placed.{PlacedFits, placed_left, placed_length, placed_value};
 
 use crate::SetFault;

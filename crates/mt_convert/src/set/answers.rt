@@ -4,7 +4,8 @@ ghost use Rattle.mt_box.specs.Layout.{Layout};
 ghost use Rattle.mt_box.specs.Rows.{PieceValue};
 ghost use Rattle.mt_rules.specs.Setting.{Setting};
 ghost use Rattle.mt_pieces.specs.Putting.{PacksPieces, SetsPieces, boxed_on, row_on};
-ghost use Rattle.mt_convert.specs.inner.OnPieces.{SetsBoxOn, SetsRowOn};
+ghost use Rattle.mt_convert.specs.Calls.{SetsRowOn};
+ghost use Rattle.mt_convert.specs.inner.OnPieces.{SetsBoxOn};
 
 use crate::SetFault;
 use mt_box::PackError;

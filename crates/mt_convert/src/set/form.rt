@@ -1,9 +1,9 @@
 //! How an atom is built: the form that its kind and its fields give it (The TeXbook, Appendix G,
 //! rules 12, 13 and 17).
-ghost use Rattle.std.specs.Prelude.{◌≡◌};
+ghost use Rattle.std.specs.Prelude.{◌≡◌, List};
 ghost use Rattle.mt_rules.specs.Nuclei.{SymbolContent};
 ghost use Rattle.mt_rules.specs.Operators.{uses_limits};
-ghost use Rattle.mt_rules.specs.View.{part_of_field};
+ghost use Rattle.mt_arena.specs.Arena.{Held, cell_part};
 ghost use Rattle.mt_convert.specs.inner.Forms.{accent_form, form_of, radical_form};
 ghost use Rattle.mt_convert.specs.inner.AtomSteps.{class_nucleus};
 ghost use Rattle.mt_convert.specs.inner.OnPieces.{SetsNucleusOn};
@@ -13,9 +13,10 @@ use crate::SetFault;
 use crate::flat::joining::is_empty;
 use crate::flat::passed::JoiningRole;
 use crate::set::nucleus::{operator_nucleus, symbol_nucleus};
+use mt_arena::{Cell, Noad};
 use mt_family::FontSet;
 use mt_pieces::Pieces;
-use mt_rules::{Atom, Class, Delim, Field, Kind, Limits, Style, Symbol};
+use mt_rules::{Class, Delim, Kind, Limits, Style, Symbol};
 use mt_scaled::Length;
 
 /// How an atom is built.
@@ -51,37 +52,36 @@ fn uses_limits(limits: Limits, style: Style) -> bool
 }
 
 // The form of an atom in a style.
-pub(crate) fn form_of(style: Style, atom: &Atom) -> AtomForm
-    ensures { result ≡ form_of style atom.now.kind atom.now.limits
-        (part_of_field atom.now.nucleus) (part_of_field atom.now.sup) (part_of_field atom.now.sub) }
+pub(crate) fn form_of(style: Style, atom: &Noad) -> AtomForm
+    ensures { (es : List Held) → result ≡ form_of style atom.now.kind atom.now.limits
+        (cell_part es atom.now.nucleus) (cell_part es atom.now.sup) (cell_part es atom.now.sub) }
 {
     match atom.kind {
         Kind::Plain(Class::Op) if uses_limits(atom.limits, style) => AtomForm::Limits,
-        Kind::Accent(accent) => accent_form(accent, &atom.nucleus, &atom.sup, &atom.sub),
-        Kind::Radical(sign) => radical_form(sign, &atom.nucleus),
+        Kind::Accent(accent) => accent_form(accent, atom.nucleus, atom.sup, atom.sub),
+        Kind::Radical(sign) => radical_form(sign, atom.nucleus),
         _ => AtomForm::Beside,
     }
 }
 
 // The form of an accent: the scripts of a symbol belong under it.
-fn accent_form(accent: Symbol, nucleus: &Field, sup: &Field, sub: &Field) -> AtomForm
-    ensures { result ≡ accent_form accent (part_of_field nucleus.now) (part_of_field sup.now) (part_of_field sub.now) }
+fn accent_form(accent: Symbol, nucleus: Cell, sup: Cell, sub: Cell) -> AtomForm
+    ensures { (es : List Held) → result ≡ accent_form accent (cell_part es nucleus) (cell_part es sup) (cell_part es sub) }
 {
     match nucleus {
-        Field::Sym(symbol) if !(is_empty(sup) && is_empty(sub)) => AtomForm::AccentInside {
-            accent,
-            symbol: *symbol,
-        },
+        Cell::Sym(symbol) if !(is_empty(sup) && is_empty(sub)) => {
+            AtomForm::AccentInside { accent, symbol }
+        }
         _ => AtomForm::Beside,
     }
 }
 
 // The form of a radical: a degree stands beside it.
-fn radical_form(sign: Delim, nucleus: &Field) -> AtomForm
-    ensures { result ≡ radical_form sign (part_of_field nucleus.now) }
+fn radical_form(sign: Delim, nucleus: Cell) -> AtomForm
+    ensures { (es : List Held) → result ≡ radical_form sign (cell_part es nucleus) }
 {
     match nucleus {
-        Field::Root(_) => AtomForm::Root { sign },
+        Cell::Root(_) => AtomForm::Root { sign },
         _ => AtomForm::Beside,
     }
 }

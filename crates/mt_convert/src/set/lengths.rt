@@ -1,5 +1,6 @@
 //! Spaces and kerns of a list, and the kern after an atom that is joined with the next one.
 ghost use Rattle.std.specs.Prelude.{◌≡◌, ◌++◌, ◌∷◌, [], IfOk, OnOk};
+ghost use Rattle.mt_arena.specs.Arena.{glue_of};
 ghost use Rattle.mt_rules.specs.Modest.{GlueAmounts};
 ghost use Rattle.mt_convert.specs.declared.placed.PlacedHalf.TheVariants as placed;
 ghost use Rattle.mt_convert.specs.FirstPass.{glue_in_points, make_kern, make_space};
@@ -9,6 +10,7 @@ ghost use Rattle.mt_convert.specs.inner.Placed.{PlacedFits};
 
 use crate::SetFault;
 use crate::placed::PlacedHalf;
+use mt_arena::ShortGlue;
 use mt_family::FontSet;
 use mt_rules::{Glue, Style, in_points};
 use mt_scaled::{Length, in_range};
@@ -39,6 +41,25 @@ pub(crate) fn make_kern(amount: Length) -> Result<PlacedHalf, SetFault>
         return Err(SetFault::Overflow(amount.sp));
     }
     Ok(PlacedHalf::Kern(amount.sp))
+}
+
+// A space of an arena, in 64 bits.
+pub(crate) fn long_glue(glue: ShortGlue) -> Glue
+    ensures { result ≡ glue_of glue }
+{
+    Glue {
+        width: i64::from(glue.width),
+        shrink: i64::from(glue.shrink),
+    }
+}
+
+// An amount of an arena, in 64 bits.
+pub(crate) fn long_length(amount: i32) -> Length
+    ensures { result.sp ≡ amount }
+{
+    Length {
+        sp: i64::from(amount),
+    }
 }
 
 // A space in math units, in scaled points.

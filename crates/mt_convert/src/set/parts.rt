@@ -12,24 +12,30 @@ ghost use Rattle.mt_rules.specs.Lines;
 ghost use Rattle.mt_rules.specs.Modest.{ThicknessAmount};
 ghost use Rattle.mt_rules.specs.Parameters;
 ghost use Rattle.mt_rules.specs.Radicals;
+ghost use Rattle.mt_rules.specs.Sequence.{EmptyPart, End, RootPart};
 ghost use Rattle.mt_rules.specs.Styles.{size_of};
 ghost use Rattle.mt_rules.specs.Symbols.{find_symbol};
 ghost use Rattle.mt_rules.specs.Vcenter;
 ghost use Rattle.mt_rules.specs.Veils.{veil_layout};
+ghost use Rattle.mt_arena.specs.Arena.{Held, as_root, cell_end, cell_part};
+ghost use Rattle.mt_arena.specs.Arena.{sequence_in, thing_end, value_in};
 ghost use Rattle.mt_family.specs.SetValue.{number_in};
 ghost use Rattle.mt_pieces.specs.Putting.{unraised_boxes};
 ghost use Rattle.mt_convert.specs.inner.AtomSteps.{lone_box, row_of_root};
 ghost use Rattle.mt_convert.specs.inner.Fields.{field_content};
+ghost use Rattle.mt_convert.specs.inner.Forms.{HasDegree};
 ghost use Rattle.mt_convert.specs.inner.OnPieces.{EndsInTwoBoxes, SetsAtomOn, SetsBoxOn};
 
 use crate::SetFault;
 use crate::set::answers::part_set;
+use crate::set::lengths::long_length;
 use crate::set::row::{look_at_last, test_row};
+use mt_arena::{Arena, Cell, RootParts, Span, Thing};
 use mt_box::Extents;
 use mt_family::{FontSet, Size};
 use mt_pieces::Pieces;
 use mt_rules::parameters::default_rule_thickness;
-use mt_rules::{Delim, Field, Style, Symbol};
+use mt_rules::{Delim, Style, Symbol};
 use mt_scaled::Length;
 use std::alloc::Global;
 
@@ -44,6 +50,45 @@ pub(crate) fn radical(
         → SetsBoxOn result rest pieces.new (Radicals.radical fonts.now style sign l) }
 {
     part_set(pieces.radical(fonts, style, sign))
+}
+
+// The degree and the body of a field that is a root.
+pub(crate) fn root_of(arena: &Arena, field: Cell) -> RootParts
+    requires within { cell_end field ≤ length arena.now.closed }
+    ensures is { HasDegree (cell_part arena.now.closed field)
+        → cell_part arena.now.closed field
+        ≡ RootPart (sequence_in arena.now.closed result.degree) (cell_part arena.now.closed result.body) }
+    ensures degree { result.degree.end ≤ length arena.now.closed }
+    ensures body { cell_end result.body ≤ length arena.now.closed }
+{
+    match field {
+        Cell::Root(at) => parts_of(arena.thing(at as usize)),
+        _ => root_of_nothing(),
+    }
+}
+
+fn parts_of(thing: &Thing) -> RootParts
+    ensures is { (es : List Held) → as_root (value_in es thing.now ∷ [])
+        ≡ RootPart (sequence_in es result.degree) (cell_part es result.body) }
+    ensures degree { result.degree.end ≤ thing_end thing.now }
+    ensures body { cell_end result.body ≤ thing_end thing.now }
+{
+    match thing {
+        Thing::Root(parts) => *parts,
+        _ => root_of_nothing(),
+    }
+}
+
+fn root_of_nothing() -> RootParts
+    ensures degree { (es : List Held) → sequence_in es result.degree ≡ End }
+    ensures body { (es : List Held) → cell_part es result.body ≡ EmptyPart }
+    ensures degree_end { result.degree.end ≡ 0 }
+    ensures body_end { cell_end result.body ≡ 0 }
+{
+    RootParts {
+        degree: Span { start: 0, end: 0 },
+        body: Cell::Empty,
+    }
 }
 
 // The row of a degree and its radical, which are the last pieces, tested. The degree is number `first`.
@@ -143,12 +188,12 @@ pub(crate) fn skew_of(fonts: &FontSet, size: Size, symbol: Symbol) -> Length
 }
 
 // The skew of what is a symbol, else 0.
-pub(crate) fn field_skew(fonts: &FontSet, size: Size, field: &Field) -> Length
-    ensures is { result.sp ≡ content_skew fonts.now size (field_content fonts.now field.now) }
+pub(crate) fn field_skew(fonts: &FontSet, size: Size, field: Cell) -> Length
+    ensures is { (es : List Held) → result.sp ≡ content_skew fonts.now size (field_content fonts.now es field) }
     ensures small { Within (2 ^ 31) result.sp }
 {
     match field {
-        Field::Sym(symbol) => skew_of(fonts, size, *symbol),
+        Cell::Sym(symbol) => skew_of(fonts, size, symbol),
         _ => Length { sp: 0 },
     }
 }
@@ -160,7 +205,7 @@ pub(crate) fn fraction(
     pieces: &mut Pieces,
     fonts: &FontSet,
     style: Style,
-    thickness: Option<i64>,
+    thickness: Option<i32>,
     left: Delim,
     right: Delim,
 ) -> Result<(), SetFault>
@@ -176,13 +221,13 @@ pub(crate) fn fraction(
     Ok(())
 }
 
-fn thickness_of(fonts: &FontSet, style: Style, thickness: Option<i64>) -> Length
+fn thickness_of(fonts: &FontSet, style: Style, thickness: Option<i32>) -> Length
     requires { ThicknessAmount thickness }
     ensures is { result.sp ≡ unwrap_or thickness (Parameters.default_rule_thickness fonts.now (size_of style)) }
     ensures small { Within (2 ^ 31) result.sp }
 {
     match thickness {
-        Some(amount) => Length { sp: amount },
+        Some(amount) => long_length(amount),
         None => default_rule_thickness(fonts, style.size()),
     }
 }

@@ -7,12 +7,11 @@ ghost use Rattle.mt_box.specs.Extents.{ExtentsInRange};
 ghost use Rattle.mt_rules.specs.AtomRow;
 ghost use Rattle.mt_rules.specs.Tables;
 ghost use Rattle.mt_rules.specs.Tables.{Cells};
-ghost use Rattle.mt_rules.specs.declared.list.Look.TheVariants.{Equations};
 ghost use Rattle.mt_box.specs.Rows.{PieceValue};
 ghost use Rattle.mt_pieces.specs.Celled.{cell_pieces};
 ghost use Rattle.mt_convert.specs.inner.Answers.{SetsExtents};
 ghost use Rattle.mt_convert.specs.inner.OnPieces.{SetsBoxOn};
-ghost use Rattle.mt_convert.specs.inner.Tables.{rows_in_columns, tested_glyph};
+ghost use Rattle.mt_convert.specs.inner.Tables.{has_column, tested_glyph};
 
 use crate::SetFault;
 use crate::set::answers::row_packed;
@@ -20,7 +19,7 @@ use crate::set::clean::find_symbol;
 use mt_box::{Extents, first_out};
 use mt_family::{FontSet, Size};
 use mt_pieces::Pieces;
-use mt_rules::{Look, Symbol, TableRow, extents_without_italic};
+use mt_rules::{Look, Symbol, extents_without_italic};
 use mt_tfm::Font;
 use std::alloc::{AllocError, Global};
 
@@ -51,23 +50,14 @@ fn tested_glyph(font: &Font, code: u8) -> Result<Extents, SetFault>
     Ok(extents)
 }
 
-// The cells of a row that have a column: equations have two.
-pub(crate) fn in_columns(look: Look, row: TableRow) -> TableRow
-    ensures { result ≡ rows_in_columns look row }
+// Whether the cells of a row have a column of this number, counted from 0: equations have two.
+pub(crate) fn has_column(look: Look, number: usize) -> bool
+    ensures { result ≡ has_column look number }
 {
     match look {
-        Look::Matrix => row,
-        Look::Equations => both_sides(row),
+        Look::Matrix => true,
+        Look::Equations => number < 2,
     }
-}
-
-// The first two cells of a row, or all where there are fewer.
-fn both_sides(row: TableRow) -> TableRow
-    ensures { result ≡ rows_in_columns Equations row }
-{
-    let mut cells = row.into_vec();
-    cells.truncate(2);
-    TableRow::from_vec(cells)
 }
 
 // The count of one more row.

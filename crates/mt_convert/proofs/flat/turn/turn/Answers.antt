@@ -1,17 +1,20 @@
-use Rattle.std.proofs.Common.{ap, subst, ◌∙◌}
-use Rattle.mt_rules.specs.Sequence.{More, StyleElement}
-use Rattle.mt_rules.specs.View.{element_of}
-use Rattle.mt_rules.specs.declared.list.Choice.{Choice}
-use Rattle.mt_convert.specs.Flat.{list_for}
+use Rattle.std.proofs.Common.{refl, subst}
+use Rattle.mt_arena.specs.Arena.{sequence_in, value_in}
+use Rattle.mt_arena.specs.Rest.{more_of, rest_in, KeptItem}
 use Rattle.mt_convert.specs.inner.Boundaries.{RestOfList}
-use Rattle.mt_convert.proofs.Remaining.{choice_rest}
+use Rattle.mt_convert.proofs.Remaining.{choice_rest, chosen_list}
 use Rattle.mt_convert.proofs.flat.turn.turn.Goals as goal
+
+pub returns-in-Atom-clause-boundaries : goal.returns-in-Atom-clause-boundaries
+returns-in-Atom-clause-boundaries c = λ enclosed h.
+    let es = c.args.arena.now.closed in
+    c.turn_atom.ensures.boundaries enclosed (subst (λ t. RestOfList enclosed (more_of (value_in es t) (rest_in es c.args.rest.now))) c.in-Atom.is h)
 
 pub returns-in-Choice-clause-boundaries : goal.returns-in-Choice-clause-boundaries
 returns-in-Choice-clause-boundaries c = λ enclosed h.
-    let v = c.in-Choice.choice.value in
-    choice_rest enclosed c.args.current.style v.display v.text v.script v.small c.chosen_list.result c.args.rest.now c.push.new.self
-    (c.chosen_list.ensures ∙ ap (λ (w : Choice). list_for c.args.current.style w.display w.text w.script w.small) c.into_inner.ensures)
-    c.push_list.ensures.facts
-    (c.in_ok-push-in-Choice.ensures ∙ ap (More (StyleElement c.args.current.style)) c.in_ok-push_list-in-Choice.ensures.is)
-    (subst (λ i. RestOfList enclosed (More (element_of i) c.args.rest.now)) c.in-Choice.is h)
+    let es = c.args.arena.now.closed in
+    let v = c.in-Choice.spans in
+    let k = subst (KeptItem es) c.in-Choice.is c.requires.front in
+    choice_rest enclosed c.args.current.style (sequence_in es v.display) (sequence_in es v.text) (sequence_in es v.script) (sequence_in es v.small) _ (rest_in es c.args.rest.now) (rest_in es c.choose.new.rest)
+    refl (chosen_list c.args.current.style _ _ _ _ k.1.1) (c.in_ok-choose-in-Choice.ensures.is es)
+    (subst (λ t. RestOfList enclosed (more_of (value_in es t) (rest_in es c.args.rest.now))) c.in-Choice.is h)

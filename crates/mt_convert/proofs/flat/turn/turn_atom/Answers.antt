@@ -2,7 +2,7 @@ use Rattle.std.proofs.Common.{sym, subst}
 use Rattle.mt_arena.specs.Rest.{rest_in}
 use Rattle.mt_convert.specs.inner.Boundaries.{RestOfList}
 use Rattle.mt_convert.proofs.Remaining.{joined_rest}
-use Rattle.mt_convert.proofs.spans.turn.turn_atom.Goals as goal
+use Rattle.mt_convert.proofs.flat.turn.turn_atom.Goals as goal
 
 pub returns-in-Some-Join-clause-boundaries : goal.returns-in-Some-Join-clause-boundaries
 returns-in-Some-Join-clause-boundaries c = λ enclosed h.

@@ -9,7 +9,7 @@ ghost use Rattle.mt_convert.specs.Flat.{list_for};
 ghost use Rattle.mt_convert.specs.inner.Spans.{held_space};
 ghost use Rattle.mt_convert.specs.inner.Turns.{begins_with_space, first_element_as, next_symbol_of};
 
-use crate::spans::joining::{as_symbol, second_symbol};
+use crate::flat::joining::{as_symbol, second_symbol};
 use mt_arena::{Arena, ChoiceSpans, Rest, Span, Thing};
 use mt_rules::{Style, Symbol};
 use std::alloc::AllocError;
