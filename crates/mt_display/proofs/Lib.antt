@@ -10,12 +10,14 @@ pub mod RowPieces
 pub mod PackedRows
 -- the widths of both sides of equations
 pub mod EquationSides
+-- lines and pieces on one stack
+pub mod LineStacks
+-- lines put on it and taken off
+pub mod TakenLines
 -- lines put on a page, one after another
 pub mod Stacking
 -- what the places of rows have, those of their lines and of a page have too
 pub mod PagePlaces
--- and those of displays of several lines
-pub mod RowPlaces
 -- the definitions on worked lines
 mod Worked
 -- and on worked displays

@@ -12,13 +12,13 @@ use Rattle.mt_box.specs.declared.error.PlaceError.{PlaceError}
 use Rattle.mt_box.specs.Extents.{first_out}
 use Rattle.mt_box.specs.Layout.{Layout}
 use Rattle.mt_box.specs.Placing.{first_place_fault}
-use Rattle.mt_box.specs.Rows.{PieceValue, pack, row_width, row_shrink}
+use Rattle.mt_box.specs.Rows.{PieceValue, begins_with_space_piece, pack, row_width, row_shrink}
 use Rattle.mt_box.proofs.Room.{PlaceInRange, all_in_range, fits_room}
 use Rattle.mt_box.proofs.Still.{IsStill, PieceHas, lowered_have, pack_has, pack_to_has}
 use Rattle.mt_rules.specs.Setting.{Setting, ◌>>=◌, ◌>>◌, pass_unless}
 use Rattle.mt_display.specs.declared.error.StackError.{StackError}
 use Rattle.mt_display.specs.Lines.{LineValue, inline_lines}
-use Rattle.mt_display.specs.Displays.{NumberValue, beside, begins_with_space_piece, display_lines, fit, fitted, indent, line_of_both, number_room, number_width, numbered_lines, one_line, own_lines, placed_lines, room_between, row_shift}
+use Rattle.mt_display.specs.Displays.{NumberValue, beside, display_lines, fit, fitted, indent, line_of_both, number_room, number_width, numbered_lines, one_line, own_lines, placed_lines, room_between, row_shift}
 use Rattle.mt_display.specs.Stack.{AboveValue, first_stack_fault, line_places, next_above, or_fault_below, places_below, places_unless, reference_below, stacked_lines}
 
 abbrev pub LineHas : (Place → Type 0) → LineValue → Type 0

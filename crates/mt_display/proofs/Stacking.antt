@@ -1,6 +1,7 @@
 -- Lines put on a page, one after another.
-use Rattle.std.proofs.Common.{◌≡◌, ℕ, ◌<◌, ◌≤◌, ◌+◌, ◌-◌, ◌*◌, ◌^◌, ℤ, ◌+ℤ◌, List, [], ◌∷◌, ◌++◌, length, length-append, append_assoc, refl, sym, ◌∙◌, ap, subst, arith, w64, to_z, of_z}
+use Rattle.std.proofs.Common.{◌≡◌, ℕ, ◌<◌, ◌≤◌, ◌+◌, ◌-◌, ◌*◌, ◌^◌, min, ℤ, ◌+ℤ◌, List, [], ◌∷◌, ◌++◌, length, take, drop, length-append, length-drop, append_assoc, append-nil, refl, sym, ◌∙◌, ap, subst, arith, w64, to_z, of_z}
 use Rattle.std.proofs.lemmas.Int.{ints}
+use Rattle.std.proofs.lemmas.List.{map-append, length-map, length-take-le, drop-drop, drop_all, take-append-drop}
 use Rattle.std.proofs.lemmas.List.Elements.{All-head, All-tail}
 use Rattle.std.specs.Prelude.{flat_map, IfSome, All, Option, Some, None, Result, Ok, Err}
 use Rattle.mt_scaled.specs.Number.{Within, max_dimen}
@@ -8,14 +9,17 @@ use Rattle.mt_box.specs.declared.extents.Extents.{Extents}
 use Rattle.mt_box.specs.declared.place.Place.{Place}
 use Rattle.mt_box.specs.declared.error.PlaceError.{PlaceError}
 use Rattle.mt_box.specs.Placing.{first_place_fault, Puts}
-use Rattle.mt_box.proofs.Lists.{nil_right}
+use Rattle.mt_box.specs.Rows.{PieceValue}
+use Rattle.mt_pieces.specs.declared.runs.PieceAt.{PieceAt}
+use Rattle.mt_pieces.specs.Runs.{IsAt}
 use Rattle.mt_display.specs.declared.error.StackError.{StackError}
 use Rattle.mt_display.specs.declared.error.StackError.TheVariants.{OutOfRange, TooMany, OutOfMemory}
-use Rattle.mt_display.specs.declared.line.Line.{Line as LineFields}
+use Rattle.mt_display.specs.declared.line_stack.LineStack.{LineStack}
 use Rattle.mt_display.specs.declared.stack.NextLine.{NextLine}
 use Rattle.mt_display.specs.declared.stack.LineAbove.{LineAbove}
 use Rattle.mt_display.specs.inner.NextLines.{IsFaultOf, IsNear, IsNearAbove, AddsLine, above_value}
-use Rattle.mt_display.specs.Lines.{LineValue, line_value, line_values}
+use Rattle.mt_display.specs.LineStack.{IsStack, line_box, line_boxes, line_shifts}
+use Rattle.mt_display.specs.Lines.{LineValue}
 use Rattle.mt_display.specs.Stack.{AboveValue, StackAnswers, next_above, reference_below, or_fault_below, line_places, places_below, top_below, stacked_lines, stacked_after, places_unless}
 
 -- ---- the definition, a line at a time
@@ -50,67 +54,147 @@ stopped room here before now l ls whole OutOfMemory is h = tt
 
 -- ---- the loop
 
-pub record Stacking (room : ℕ) (lines rest : List LineFields) (page : List Place) (here : NextLine) : Type 0 where
-  pub whole : stacked_after [] 0 room None (line_values lines) ≡ stacked_after page here.line (room - length page) (above_value here.above) (line_values rest)
-  pub fits : length page ≤ room
-  pub near : IsNear here
-  pub count : here.line + length rest ≡ length lines
-  pub few : length lines ≤ 2 ^ 21
-  pub shifts : All (λ (l : LineFields). Within (2 ^ 40) l.shift) rest
+-- how far the walk is on a stack of these lines
+pub record Walked (room : ℕ) (lines : List LineValue) (shifts : List ℤ) (page : List Place) (at : PieceAt) (here : NextLine) : Type 0 where
+  pub piece : at.piece ≡ here.line
+  pub rest : shifts ≡ line_shifts (drop here.line lines)
+  pub whole : stacked_after [] 0 room None lines ≡ stacked_after page here.line (room - length page) (above_value here.above) (drop here.line lines)
 
-pub stacking_start : (room : ℕ) (lines rest : List LineFields) (page : List Place) → page ≡ [] → rest ≡ lines → length lines ≤ 2 ^ 21 → All (λ (l : LineFields). Within (2 ^ 40) l.shift) lines
-    → Stacking room lines rest page record { line = 0; above = None }
-stacking_start room lines rest page e f few shifts = rw (e, f) (record {
-  whole = same_after (line_values lines) {a = []} {b = []} {i = 0} {j = 0} {r = room} {s = room - 0} {x = None} {y = None} refl refl (omega arith) refl;
-  fits = omega arith;
+pub record Walking (room : ℕ) (s : LineStack) (rest : List ℤ) (page : List Place) (place : PieceAt) (here : NextLine) : Type 0 where
+  pub at : IsAt place s.pieces
+  pub near : IsNear here
+  pub fits : length page ≤ room
+  pub count : here.line + length rest ≡ length s.shifts.items
+  pub few : length s.shifts.items ≤ 2 ^ 21
+  pub shifts : All (λ (x : ℤ). Within (2 ^ 40) x) rest
+  pub walked : (lines : List LineValue) → IsStack lines [] s → Walked room lines rest page place here
+
+pub walking_start : (room : ℕ) (s : LineStack) (rest : List ℤ) (page : List Place) (at : PieceAt) → page ≡ [] → rest ≡ s.shifts.items → length s.shifts.items ≤ 2 ^ 21 → All (λ (x : ℤ). Within (2 ^ 40) x) s.shifts.items
+    → IsAt at s.pieces → at.piece ≡ min 0 (length s.pieces) → Walking room s rest page at record { line = 0; above = None }
+walking_start room s rest page at e f few shifts h n = rw (e, f) (record {
+  at = h;
   near = tt;
+  fits = omega arith;
   count = omega arith;
   few = few;
   shifts = shifts;
+  walked = λ lines k. record {
+    piece = omega (arith, n);
+    rest = k.shifts;
+    whole = same_after lines {a = []} {b = []} {i = 0} {j = 0} {r = room} {s = room - 0} {x = None} {y = None} refl refl (omega arith) refl;
+  };
 })
+
+-- the line of the next shift
+record NextIs (lines : List LineValue) (n : ℕ) (x : ℤ) (xs : List ℤ) : Type 0 where
+  pub l : LineValue
+  pub left : List LineValue
+  pub here : drop n lines ≡ l ∷ left
+  pub shift : x ≡ l.shift
+  pub rest : xs ≡ line_shifts left
+  pub next : drop (n + 1) lines ≡ left
+
+next_is : (lines ls : List LineValue) (n : ℕ) (shift : ℤ) (rest : List ℤ) → drop n lines ≡ ls → shift ∷ rest ≡ line_shifts ls → NextIs lines n shift rest
+next_is lines [] n shift rest e f = absurd (cc)
+next_is lines (l ∷ left) n shift rest e f = record {
+  l = l;
+  left = left;
+  here = e;
+  shift = cc;
+  rest = cc;
+  next = sym (drop-drop 1 n lines) ∙ ap (drop 1) e;
+}
+
+-- the pieces with the box of the next line
+next_box : (lines : List LineValue) (n : ℕ) (l : LineValue) (left : List LineValue) (s : LineStack) → IsStack lines [] s → drop n lines ≡ l ∷ left → s.pieces ≡ line_boxes (take n lines) ++ (line_box l ∷ line_boxes left)
+next_box lines n l left s h e =
+    h.pieces ∙ (append-nil (line_boxes lines)
+    ∙ (ap line_boxes (sym (take-append-drop n lines) ∙ ap (λ ls. take n lines ++ ls) e) ∙ map-append line_box (take n lines) (l ∷ left)))
+
+-- what the call that puts a line says of each line that may be there
+abbrev pub AddsBox : ℕ → LineStack → PieceAt → ℤ → NextLine → List Place → Result NextLine StackError → List Place → Type 0
+AddsBox room s at shift here page r page' =
+    (before rest : List PieceValue) (l : LineValue) → s.pieces ≡ before ++ (line_box l ∷ rest) → length before ≡ at.piece → shift ≡ l.shift → AddsLine room here page l r page'
+
+-- the next line, and what is put for it
+record AddedLine (room : ℕ) (lines : List LineValue) (shift : ℤ) (rest : List ℤ) (here : NextLine) (page : List Place) (r : Result NextLine StackError) (page' : List Place) : Type 0 where
+  pub next : NextIs lines here.line shift rest
+  pub adds : AddsLine room here page next.l r page'
+
+added_line : (room : ℕ) (s : LineStack) (rest rest' : List ℤ) (shift : ℤ) (page page' : List Place) (at : PieceAt) (here : NextLine) (r : Result NextLine StackError) (lines : List LineValue) → Walking room s rest page at here → rest ≡ shift ∷ rest'
+    → AddsBox room s at shift here page r page' → IsStack lines [] s → AddedLine room lines shift rest' here page r page'
+added_line room s rest rest' shift page page' at here r lines h e k is =
+    let w = h.walked lines is in
+    let next = next_is lines (drop here.line lines) here.line shift rest' refl (sym e ∙ w.rest) in
+    let many : here.line ≤ length lines = omega (arith, h.count, ap length is.shifts, length-map lines (λ (q : LineValue). q.shift)) in
+    let n : length (line_boxes (take here.line lines)) ≡ at.piece = length-map (take here.line lines) line_box ∙ (length-take-le here.line lines many ∙ sym w.piece) in
+    record {
+      next = next;
+      adds = k (line_boxes (take here.line lines)) (line_boxes next.left) next.l (next_box lines here.line next.l next.left s is next.here) n next.shift;
+    }
 
 left_room : (room a b c : ℕ) → c ≡ a + b → (room - a) - b ≡ room - c
 left_room room a b c e = omega (arith, e)
 
-pub stacking_step : (room : ℕ) (lines rest rest' : List LineFields) (q : LineFields) (page page' : List Place) (here here' : NextLine) → Stacking room lines rest page here → rest ≡ q ∷ rest'
-    → AddsLine room here page (line_value q) (Ok here') page' → Stacking room lines rest' page' here'
-stacking_step room lines rest rest' q page page' here here' h e k =
-    let h' : Stacking room lines (q ∷ rest') page here = subst (λ r. Stacking room lines r page here) e h in
-    let ps = line_places (reference_below (above_value here.above) (line_value q)) (line_value q) in
-    let n : length page' ≡ length page + length ps = ap (λ (x : List Place). length x) k.0 ∙ length-append page ps in
+walked_step : (room : ℕ) (s : LineStack) (lines : List LineValue) (rest rest' : List ℤ) (shift : ℤ) (page page' : List Place) (at at' : PieceAt) (here here' : NextLine) → Walked room lines rest page at here
+    → AddedLine room lines shift rest' here page (Ok here') page' → IsStack lines [] s → at'.piece ≡ min (at.piece + 1) (length s.pieces) → Walked room lines rest' page' at' here'
+walked_step room s lines rest rest' shift page page' at at' here here' w a is n =
+    let l = a.next.l in
+    let k = a.adds in
+    let ps = line_places (reference_below (above_value here.above) l) l in
+    let left : drop here'.line lines ≡ a.next.left = ap (λ i. drop i lines) k.3 ∙ a.next.next in
+    let more : length page' ≡ length page + length ps = ap (λ (x : List Place). length x) k.0 ∙ length-append page ps in
+    let many : length s.pieces ≡ length (take here.line lines) + (1 + length a.next.left) =
+    omega (arith, ap length (next_box lines here.line l a.next.left s is a.next.here), length-append (line_boxes (take here.line lines)) (line_boxes (l ∷ a.next.left)), length-map (take here.line lines) line_box, length-map a.next.left line_box) in
+    let front : length lines ≡ length (take here.line lines) + (1 + length a.next.left) =
+    omega (arith, ap length (sym (take-append-drop here.line lines) ∙ ap (λ ls. take here.line lines ++ ls) a.next.here), length-append (take here.line lines) (l ∷ a.next.left)) in
     record {
-      whole = h'.whole ∙ (one_more page here.line (room - length page) (above_value here.above) (line_value q) (line_values rest') k.2 ∙ same_after (line_values rest') (sym k.0) (sym k.3) (left_room room (length page) (length ps) (length page') n) (sym k.4));
-      fits = k.1;
-      near = k.5;
-      count = omega (arith, h'.count, k.3);
-      few = h'.few;
-      shifts = All-tail (λ (l : LineFields). Within (2 ^ 40) l.shift) q rest' h'.shifts;
+      piece = omega (arith, n, k.3, w.piece, many, front, length-drop here.line lines, ap length a.next.here);
+      rest = a.next.rest ∙ ap line_shifts (sym left);
+      whole =
+          w.whole
+          ∙ (ap (λ ls. stacked_after page here.line (room - length page) (above_value here.above) ls) a.next.here
+          ∙ (one_more page here.line (room - length page) (above_value here.above) l a.next.left k.2
+          ∙ (same_after a.next.left (sym k.0) (sym k.3) (left_room room (length page) (length ps) (length page') more) (sym k.4)
+          ∙ ap (λ ls. stacked_after page' here'.line (room - length page') (above_value here'.above) ls) (sym left))));
     }
 
-pub stacking_end : (room : ℕ) (lines rest : List LineFields) (page : List Place) (here : NextLine) → Stacking room lines rest page here → rest ≡ [] → StackAnswers (Ok page) (stacked_lines room (line_values lines))
-unfolding stacked_lines
-stacking_end room lines rest page here h e =
-    let h' : Stacking room lines [] page here = subst (λ r. Stacking room lines r page here) e h in
-    h'.whole ∙ ap (λ (x : List Place). (let r : Result (List Place) StackError = Ok x in r)) (nil_right page)
+pub walking_step : (room : ℕ) (s : LineStack) (rest rest' : List ℤ) (shift : ℤ) (page page' : List Place) (at at' : PieceAt) (here here' : NextLine) → Walking room s rest page at here → rest ≡ shift ∷ rest'
+    → AddsBox room s at shift here page (Ok here') page' → here'.line ≡ here.line + 1 → IsNear here' → length page' ≤ room → IsAt at' s.pieces → at'.piece ≡ min (at.piece + 1) (length s.pieces)
+    → Walking room s rest' page' at' here'
+walking_step room s rest rest' shift page page' at at' here here' h e k line near fits is n = record {
+  at = is;
+  near = near;
+  fits = fits;
+  count = omega (arith, h.count, line, ap length e);
+  few = h.few;
+  shifts = All-tail (λ (x : ℤ). Within (2 ^ 40) x) shift rest' (subst (All (λ (x : ℤ). Within (2 ^ 40) x)) e h.shifts);
+  walked = λ lines stack. walked_step room s lines rest rest' shift page page' at at' here here' (h.walked lines stack) (added_line room s rest rest' shift page page' at here (Ok here') lines h e k stack) stack n;
+}
 
-pub stacking_err : (room : ℕ) (lines rest rest' : List LineFields) (q : LineFields) (page now : List Place) (here : NextLine) (e : StackError) → Stacking room lines rest page here → rest ≡ q ∷ rest'
-    → AddsLine room here page (line_value q) (Err e) now → StackAnswers (Err e) (stacked_lines room (line_values lines))
+pub walking_end : (room : ℕ) (s : LineStack) (rest : List ℤ) (page : List Place) (at : PieceAt) (here : NextLine) (lines : List LineValue) → Walking room s rest page at here → rest ≡ [] → IsStack lines [] s → StackAnswers (Ok page) (stacked_lines room lines)
 unfolding stacked_lines
-stacking_err room lines rest rest' q page now here e h is k =
-    let h' : Stacking room lines (q ∷ rest') page here = subst (λ r. Stacking room lines r page here) is h in
-    stopped room here page now (line_value q) (line_values rest') (stacked_lines room (line_values lines)) e h'.whole k
+walking_end room s rest page at here lines h e is =
+    let w = h.walked lines is in
+    let none : drop here.line lines ≡ [] = drop_all here.line lines (omega (arith, h.count, ap length e, ap length is.shifts, length-map lines (λ (q : LineValue). q.shift))) in
+    w.whole
+    ∙ (ap (λ ls. stacked_after page here.line (room - length page) (above_value here.above) ls) none
+    ∙ ap (λ (x : List Place). (let r : Result (List Place) StackError = Ok x in r)) (append-nil page))
 
--- the next line's shift
-pub shift_here : (room : ℕ) (lines rest rest' : List LineFields) (q : LineFields) (page : List Place) (here : NextLine) → Stacking room lines rest page here → rest ≡ q ∷ rest' → Within (2 ^ 40) q.shift
-shift_here room lines rest rest' q page here h e =
-    let h' : Stacking room lines (q ∷ rest') page here = subst (λ r. Stacking room lines r page here) e h in
-    All-head (λ (l : LineFields). Within (2 ^ 40) l.shift) q rest' h'.shifts
+pub walking_err : (room : ℕ) (s : LineStack) (rest rest' : List ℤ) (shift : ℤ) (page page' : List Place) (at : PieceAt) (here : NextLine) (fault : StackError) (lines : List LineValue) → Walking room s rest page at here → rest ≡ shift ∷ rest'
+    → AddsBox room s at shift here page (Err fault) page' → IsStack lines [] s → StackAnswers (Err fault) (stacked_lines room lines)
+unfolding stacked_lines
+walking_err room s rest rest' shift page page' at here fault lines h e k is =
+    let a = added_line room s rest rest' shift page page' at here (Err fault) lines h e k is in
+    stopped room here page page' a.next.l a.next.left (stacked_lines room lines) fault ((h.walked lines is).whole ∙ ap (λ ls. stacked_after page here.line (room - length page) (above_value here.above) ls) a.next.here) a.adds
+
+-- the next shift
+pub shift_here : (room : ℕ) (s : LineStack) (rest rest' : List ℤ) (shift : ℤ) (page : List Place) (at : PieceAt) (here : NextLine) → Walking room s rest page at here → rest ≡ shift ∷ rest' → Within (2 ^ 40) shift
+shift_here room s rest rest' shift page at here h e = All-head (λ (x : ℤ). Within (2 ^ 40) x) shift rest' (subst (All (λ (x : ℤ). Within (2 ^ 40) x)) e h.shifts)
 
 -- there is a line more, so fewer than all are done
-pub fewer : (room : ℕ) (lines rest rest' : List LineFields) (q : LineFields) (page : List Place) (here : NextLine) → Stacking room lines rest page here → rest ≡ q ∷ rest' → here.line < 2 ^ 21
-fewer room lines rest rest' q page here h e =
-    let h' : Stacking room lines (q ∷ rest') page here = subst (λ r. Stacking room lines r page here) e h in
-    omega (arith, h'.count, h'.few)
+pub fewer : (room : ℕ) (s : LineStack) (rest rest' : List ℤ) (shift : ℤ) (page : List Place) (at : PieceAt) (here : NextLine) → Walking room s rest page at here → rest ≡ shift ∷ rest' → here.line < 2 ^ 21
+fewer room s rest rest' shift page at here h e = omega (arith, h.count, h.few, ap length e)
 
 -- ---- one line
 

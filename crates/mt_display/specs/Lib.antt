@@ -6,5 +6,7 @@ pub mod Displays
 pub mod DisplayLines
 -- lines one below another on a page
 pub mod Stack
+-- the lines of a page on a stack of pieces
+pub mod LineStack
 -- of the code: only inner contracts cite it
 pub mod inner

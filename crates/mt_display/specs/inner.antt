@@ -6,3 +6,5 @@ pub mod Fits
 pub mod OpenRows
 -- the widths and the pieces of equations
 pub mod EquationRows
+-- displays and numbers set on a stack of pieces
+pub mod OnStack

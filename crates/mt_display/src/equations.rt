@@ -37,7 +37,7 @@ pub type EquationRows = Items<EquationRow>;
 /// width in scaled points, or at its left end (plain TeX's `\eqalignno` and `\leqalignno`; The
 /// TeXbook, chapter 19).
 ///
-/// The left sides are as wide as the widest of them, and the right sides too. Both together stand in
+/// The left sides are as wide as the widest of them, and the right sides too. Both together are in
 /// the middle of the line, or at 0 where they are wider: each left side ends where the right sides
 /// begin. A number is beside its equation whether or not there is room for it. All rows are one line
 /// of the page, with shift 0 and of the given width. Its baseline is that of the last row. A row
@@ -263,7 +263,7 @@ fn kerns_of(extents: EquationExtents, place: EquationLine) -> EquationKerns
     }
 }
 
-// Where a number of this width stands.
+// Where a number of this width is.
 #[tactic(auto, using(std::proofs::lemmas::Int::ints))]
 fn number_place(number: Length, place: EquationLine) -> Length
     requires number { Within max_dimen number.sp }

@@ -1,4 +1,4 @@
-//! How wide a display is set, and whether its number stands beside it (tex.web §1201).
+//! How wide a display is set, and whether its number is beside it (tex.web §1201).
 ghost use Rattle.std.specs.Prelude.{◌≡◌, ◌≤ℤ◌, ◌^◌, ◌-ℤ◌, ℕ, IfSome};
 ghost use Rattle.mt_scaled.specs.Number.{Within};
 ghost use Rattle.mt_scaled.specs.declared.length.Length.{Length};
@@ -18,8 +18,20 @@ pub(crate) struct Widths {
     pub(crate) q: Length,
 }
 
+// e and q of a number, which are 0 without one.
+#[derive(Clone, Copy)]
+pub(crate) struct NumberWidths {
+    pub(crate) e: Length,
+    pub(crate) q: Length,
+}
+
+pub(crate) const NO_NUMBER: NumberWidths = NumberWidths {
+    e: Length { sp: 0 },
+    q: Length { sp: 0 },
+};
+
 // What a display is set to, where it does not keep its own width; and e, which is 0 where the
-// number does not stand beside it.
+// number is not beside it.
 #[derive(Clone, Copy)]
 pub(crate) struct Fit {
     pub(crate) target: Option<Length>,

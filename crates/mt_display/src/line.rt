@@ -3,12 +3,12 @@
 use mt_box::{Packed, Row};
 use mt_scaled::Items;
 
-/// A box on a line of its own. Its left end stands at `shift`, in scaled points.
+/// A box on a line of its own. Its left end is at `shift`, in scaled points.
 #[derive(Drop)]
 pub struct Line {
-    /// How far the box stands to the right of the page's origin.
+    /// How far the box is to the right of the page's origin.
     pub shift: i64,
-    /// What stands there.
+    /// What is there.
     pub body: Packed,
 }
 
@@ -20,6 +20,6 @@ pub type Lines = Items<Line>;
 pub struct Numbered {
     /// The row of the number, set in text style.
     pub row: Row,
-    /// Whether it stands at the left (`\leqno`), and not at the right (`\eqno`).
+    /// Whether it is at the left (`\leqno`), and not at the right (`\eqno`).
     pub left: bool,
 }

@@ -195,7 +195,7 @@ fn strut(alloc: Global, line: Length) -> Result<Packed, PackError>
     pack_in_range(alloc, row)
 }
 
-// The row packed, whose extents are in range: so it is refused for want of memory alone.
+// The row packed, whose extents are in range: so it is refused only where memory ran out.
 pub(crate) fn pack_in_range(alloc: Global, row: Row) -> Result<Packed, PackError>
     requires few { length row ≤ 2 ^ 21 }
     requires modest { AllModest row }

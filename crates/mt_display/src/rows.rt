@@ -1,4 +1,4 @@
-//! Displays of several lines, each of which stands in the middle (plain TeX's \displaylines).
+//! Displays of several lines, each of which is in the middle (plain TeX's \displaylines).
 ghost use Rattle.std.specs.Prelude.{◌≡◌, ◌≤◌, ◌≤ℤ◌, ◌^◌, ◌+◌, ◌-◌, ◌-ℤ◌, ◌++◌, ◌∷◌, [], map, pos, length, IfOk, IfErr, OnOk};
 ghost use Rattle.mt_scaled.specs.Number.{Within, max_dimen};
 ghost use Rattle.mt_box.specs.declared.error.PackError.TheVariants.{OutOfMemory as PackMemory};
@@ -19,7 +19,7 @@ use std::alloc::{AllocError, Global};
 /// The line of a display of several lines, each in the middle of a line of this width in scaled
 /// points (plain TeX's `\displaylines`; The TeXbook, chapter 19).
 ///
-/// A row stands at half of what it leaves of the line, and at 0 where it is wider. All rows are one
+/// A row is at half of what it leaves of the line, and at 0 where it is wider. All rows are one
 /// line of the page, with shift 0 and of the given width. Its baseline is that of the last row. A
 /// row counts with a height and a depth of at least 0. Baselines are 15pt apart; where the gap
 /// between two rows would be less than 3pt, it is 4pt. So the line reaches up to the top of the
@@ -115,7 +115,7 @@ fn margin_beside(row: Extents, line: Length) -> Length
     margin(line.minus(Length { sp: row.width }))
 }
 
-// What a row that stands so far from the left end leaves behind it.
+// What a row that is so far from the left end leaves behind it.
 #[tactic(auto, using(std::proofs::lemmas::Int::ints))]
 fn rest_behind(row: Extents, line: Length, before: Length) -> Length
     requires row { ExtentsInRange row }

@@ -1,4 +1,4 @@
-//! Where a display stands in its line, and what that leaves (tex.web §1202 to §1204).
+//! Where a display is in its line, and what that leaves (tex.web §1202 to §1204).
 ghost use Rattle.std.specs.Prelude.{◌≡◌, ◌^◌, ◌+◌, ◌-ℤ◌, ℕ};
 ghost use Rattle.mt_scaled.specs.Number.{Within};
 ghost use Rattle.mt_display.specs.Displays.{indent as indent_of, room_between as room_of};
@@ -7,22 +7,23 @@ ghost use Rattle.mt_display.specs.inner.Fits.{IsSmallSlot};
 use mt_box::Packed;
 use mt_scaled::Length;
 
-// The line's width z, the width e of the number beside the display or 0, and whether the display
-// begins with a space.
+// The line's width z, the display's width w as it is set, the width e of the number beside it or 0,
+// and whether the display begins with a space.
 #[derive(Clone, Copy)]
 pub(crate) struct Slot {
     pub(crate) z: Length,
+    pub(crate) w: Length,
     pub(crate) e: Length,
     pub(crate) flush: bool,
 }
 
-// How far from the left end of the line a display stands.
-pub(crate) fn indent(slot: Slot, display: &Packed) -> Length
+// How far from the left end of the line the display is.
+pub(crate) fn indent(slot: Slot) -> Length
     requires { IsSmallSlot slot }
-    ensures is { result.sp ≡ indent_of slot.flush slot.z.sp display.now.extents.width slot.e.sp }
+    ensures is { result.sp ≡ indent_of slot.flush slot.z.sp slot.w.sp slot.e.sp }
     ensures small { Within (2 ^ 33) result.sp }
 {
-    let free = gap(slot.z, width_of(display));
+    let free = gap(slot.z, slot.w);
     let middle = free.half();
     if slot.e.is_positive() && middle.is_less(slot.e.twice()) {
         if slot.flush {
@@ -36,22 +37,24 @@ pub(crate) fn indent(slot: Slot, display: &Packed) -> Length
 }
 
 // What is left of the line between display and number.
-pub(crate) fn room_between(slot: Slot, display: &Packed, d: Length) -> Length
+pub(crate) fn room_between(slot: Slot, d: Length) -> Length
     requires slot { IsSmallSlot slot }
     requires d { Within (2 ^ 33) d.sp }
-    ensures is { result.sp ≡ room_of slot.z.sp display.now.extents.width slot.e.sp d.sp }
+    ensures is { result.sp ≡ room_of slot.z.sp slot.w.sp slot.e.sp d.sp }
     ensures small { Within (2 ^ 40) result.sp }
 {
-    gap(gap(gap(slot.z, width_of(display)), slot.e), d)
+    gap(gap(gap(slot.z, slot.w), slot.e), d)
 }
 
-// Where the left end of a number stands that is below a display, against the right end of the line.
-pub(crate) fn right_end(z: Length, number: &Packed) -> Length
-    requires { Within (2 ^ 30) z.sp }
-    ensures is { result.sp ≡ z.sp -ℤ number.now.extents.width }
+// Where the left end of a number of this width is that is below a display, against the right end of
+// the line.
+pub(crate) fn right_end(z: Length, number: Length) -> Length
+    requires z { Within (2 ^ 30) z.sp }
+    requires number { Within (2 ^ 30) number.sp }
+    ensures is { result.sp ≡ z.sp -ℤ number.sp }
     ensures small { Within (2 ^ 40) result.sp }
 {
-    gap(z, width_of(number))
+    gap(z, number)
 }
 
 pub(crate) fn width_of(body: &Packed) -> Length

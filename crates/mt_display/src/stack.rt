@@ -1,33 +1,42 @@
 //! Lines one below another on a page.
-ghost use Rattle.std.specs.Prelude.{◌≡◌, ◌≤◌, ◌<◌, ◌+ℤ◌, ◌*◌, ◌^◌, length, ℕ, All, IfSome, OnOk, Some, ◌-◌, ◌+◌, ◌++◌};
+ghost use Rattle.std.specs.Prelude.{◌≡◌, ◌≤◌, ◌<◌, ◌+ℤ◌, ◌*◌, ◌^◌, ◌++◌, ◌∷◌, length, ℕ, All, List, IfOk, IfSome, OnOk, Some, ◌+◌, ◌-◌};
 ghost use Rattle.mt_scaled.specs.Number.{Within, max_dimen};
 ghost use Rattle.mt_box.specs.Extents.{ExtentsInRange};
-ghost use Rattle.mt_box.specs.Placing.{Puts};
-ghost use Rattle.mt_display.specs.Lines.{line_value, line_values};
-ghost use Rattle.mt_display.specs.Stack.{fault_in_line as fault_of_line, line_places};
+ghost use Rattle.mt_box.specs.Rows.{PieceValue};
+ghost use Rattle.mt_pieces.specs.Runs.{IsAt};
+ghost use Rattle.mt_display.specs.LineStack.{line_box};
+ghost use Rattle.mt_display.specs.Lines.{LineValue, line_values};
+ghost use Rattle.mt_display.specs.Stack.{fault_in_line as fault_of_line};
 ghost use Rattle.mt_display.specs.Stack.{top_below as top_of_line, stacked_lines, StackAnswers};
 ghost use Rattle.mt_display.specs.inner.NextLines.{above_value, IsNear, AddsLine};
 ghost use Rattle.mt_display.specs.declared.line.Line.{Line as LineFields};
 
-use crate::{Line, Lines, StackError};
-use mt_box::{Extents, Place, PlaceError, PlaceList, put_places};
+use crate::{LineStack, Lines, StackError};
+use mt_box::{Extents, Place, PlaceError, PlaceList};
+use mt_pieces::{PieceAt, Pieces};
 use mt_rules::line_gap;
-use mt_scaled::{Items, Length};
+use mt_scaled::Length;
 use std::alloc::Global;
 
 // The line above another: where its bottom is, and how deep it is.
 #[derive(Clone, Copy)]
-struct LineAbove {
+pub(crate) struct LineAbove {
     bottom: Length,
     depth: Length,
 }
 
 // What the lines so far leave for the next one: its number, and the line above it, if any.
 #[derive(Clone, Copy)]
-struct NextLine {
+pub(crate) struct NextLine {
     line: u32,
     above: Option<LineAbove>,
 }
+
+// No line is above the first one.
+pub(crate) const FIRST_LINE: NextLine = NextLine {
+    line: 0,
+    above: None,
+};
 
 /// The places of lines one below another, from the top of a page on, in order; `room` is the
 /// greatest number of them. The top of the first line is at v = 0. Baselines are 12pt apart; where
@@ -44,55 +53,39 @@ pub fn stack_lines(alloc: Global, lines: &Lines, room: u64) -> Result<PlaceList,
     requires shifts { All (λ (l : LineFields). Within (2 ^ 40) l.shift) lines.now }
     ensures { StackAnswers result (stacked_lines room (line_values lines.now)) }
 {
-    let mut page = Vec::with_capacity(alloc, most_places(lines, room))?;
-    let mut next = NextLine {
-        line: 0,
-        above: None,
-    };
+    let mut stack = LineStack::new(alloc);
     for line in lines.as_slice() {
-        next = add_line(&mut page, line, next, room)?;
+        stack.put_line(line)?;
     }
-    Ok(Items::from_vec(page))
+    stack.places(alloc, room)
 }
 
-// Puts the places of the next line after the others.
-fn add_line(
+// Puts the places of the next line after the others. Its box is the piece at this place.
+pub(crate) fn add_line(
     page: &mut Vec<Place>,
-    line: &Line,
+    pieces: &Pieces,
+    at: PieceAt,
+    shift: i64,
     here: NextLine,
     room: u64,
 ) -> Result<NextLine, StackError>
+    requires at { IsAt at pieces.now }
     requires near { IsNear here }
     requires few { here.line < 2 ^ 21 }
-    requires shift { Within (2 ^ 40) line.now.shift }
+    requires shift { Within (2 ^ 40) shift }
     requires room { length page.old.items ≤ room }
-    ensures { AddsLine room here page.old.items (line_value line.now) result page.new.items }
+    ensures is { (before rest : List PieceValue) (l : LineValue) → pieces.now ≡ before ++ (line_box l ∷ rest)
+        → length before ≡ at.piece → shift ≡ l.shift → AddsLine room here page.old.items l result page.new.items }
+    ensures line { IfOk result (λ next. next.line ≡ here.line + 1) }
+    ensures near { IfOk result IsNear }
+    ensures room { OnOk result (length page.new.items ≤ room) }
 {
-    let extents = line.body.extents();
+    let extents = pieces.extents_at(at);
     let v = reference_below(here, extents);
-    match put_line(page, line, v, room) {
+    match pieces.put_places(at, page, shift, v.sp, room) {
         Ok(()) => Ok(line_after(here, v, extents)),
         Err(error) => Err(fault_in_line(here.line, error)),
     }
-}
-
-// Puts the places of a line whose reference point is at v after the others.
-fn put_line(page: &mut Vec<Place>, line: &Line, v: Length, room: u64) -> Result<(), PlaceError>
-    requires shift { Within (2 ^ 40) line.now.shift }
-    requires v { Within (2 ^ 56) v.sp }
-    requires room { length page.old.items ≤ room }
-    ensures { Puts room page.old.items (line_places v.sp (line_value line.now)) result page.new.items }
-{
-    put_places(page, &line.body, line.shift, v.sp, room)
-}
-
-// At most how many places are put, where no node has several.
-fn most_places(lines: &Lines, room: u64) -> usize {
-    let mut count = 0usize;
-    for line in lines.as_slice() {
-        count = count.saturating_add(line.body.nodes().len());
-    }
-    count.min(room as usize)
 }
 
 fn fault_in_line(line: u32, error: PlaceError) -> StackError
@@ -105,7 +98,7 @@ fn fault_in_line(line: u32, error: PlaceError) -> StackError
     }
 }
 
-// Where the reference point of the next line stands.
+// Where the reference point of the next line is.
 fn reference_below(here: NextLine, extents: Extents) -> Length
     requires near { IsNear here }
     requires few { here.line < 2 ^ 21 }
@@ -117,7 +110,7 @@ fn reference_below(here: NextLine, extents: Extents) -> Length
     top_below(here.above, height).plus(height)
 }
 
-// Where the top of a line of this height stands.
+// Where the top of a line of this height is.
 fn top_below(above: Option<LineAbove>, height: Length) -> Length
     requires bottom { IfSome above (λ a. Within (2 ^ 55) a.bottom.sp) }
     requires depth { IfSome above (λ a. Within max_dimen a.depth.sp) }

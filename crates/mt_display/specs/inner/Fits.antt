@@ -21,7 +21,8 @@ pub record AreWidths (m : Widths) : Type 0 where
   pub e : Within (2 ^ 61) m.e.sp
   pub q : Within (2 ^ 61 + 2 ^ 31) m.q.sp
 
--- both are in range
+-- all are in range
 pub record IsSmallSlot (slot : Slot) : Type 0 where
   pub z : Within (2 ^ 30) slot.z.sp
+  pub w : Within (2 ^ 30) slot.w.sp
   pub e : Within (2 ^ 30) slot.e.sp
