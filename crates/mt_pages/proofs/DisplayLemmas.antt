@@ -1,31 +1,39 @@
 -- The rows of a display of several lines, one after another, and the places of their line.
-use Rattle.std.proofs.Common.{◌≡◌, ℕ, ℤ, pos, ◌-ℤ◌, ◌+◌, ◌-◌, ◌≤◌, ◌^◌, max, Bool, List, [], ◌∷◌, ◌++◌, length, length-append, map, refl, sym, ◌∙◌, ap, subst, arith, All}
+use Rattle.std.proofs.Common.{◌≡◌, ℕ, ℤ, pos, ◌-ℤ◌, ◌+◌, ◌-◌, ◌≤◌, ◌^◌, Bool, List, [], ◌∷◌, ◌++◌, length, length-append, map, take, drop, refl, sym, ◌∙◌, ap, subst, arith, All}
 use Rattle.std.proofs.lemmas.List.Elements.{All-append, All-cons, All-head, All-nil, All-tail}
-use Rattle.std.specs.Prelude.{None, Result, Ok, Err}
+use Rattle.std.specs.Prelude.{Option, Some, None, Result, Ok, Err}
 use Rattle.mt_box.specs.Extents.{first_out}
 use Rattle.mt_box.specs.Layout.{Layout, all_moved}
-use Rattle.mt_box.specs.Rows.{PieceValue, pack}
+use Rattle.mt_box.specs.Rows.{PieceValue, PieceBox, pack}
 use Rattle.mt_box.specs.declared.place.Place.{Place}
-use Rattle.mt_box.proofs.Still.{IsStill, moved_have, pack_has}
+use Rattle.mt_box.proofs.Still.{moved_have, pack_has}
+use Rattle.mt_scaled.specs.Number.{Within}
 use Rattle.mt_scaled.specs.Results.{◌>>=◌}
 use Rattle.mt_family.specs.SetValue.{SetValue}
+use Rattle.mt_rules.specs.declared.document.Equation.{Equation}
 use Rattle.mt_rules.specs.DisplayRows.{EquationLayout, centred_row, equation_row, equation_rows, equations_axis, equations_line, margin, number_place, rows_line, stacked_rows}
-use Rattle.mt_rules.specs.Setting.{make_box, pack_row}
+use Rattle.mt_rules.specs.Setting.{◌>>◌, make_box, pack_row, pass_unless}
 use Rattle.mt_rules.specs.declared.style.Style.{Style}
 use Rattle.mt_rules.specs.Rows.{rows_of}
 use Rattle.mt_rules.specs.Sequence.{Sequence, Rows, NoRows, MoreRows, rows_length}
 use Rattle.mt_rules.specs.Tables.{open_gap, open_places, rows_places}
-use Rattle.mt_convert.specs.Holding.{PlaceHolds, RowHolds}
+use Rattle.mt_convert.specs.Holding.{PlaceHolds}
+use Rattle.mt_convert.proofs.Behind.{rest_before, row_behind}
 use Rattle.mt_display.specs.DisplayLines.{at_left_end, equation_lines, greatest_level, row_lines}
 use Rattle.mt_display.specs.Displays.{one_line}
-use Rattle.mt_display.specs.Lines.{LineValue}
-use Rattle.mt_display.proofs.PagePlaces.{LineHas, are, made_then, one_has}
-use Rattle.mt_pages.specs.FormulaLines.{each_set, formula_box, formula_row, lists_of, set_by}
-use Rattle.mt_pages.specs.inner.Lines.{BoxHolds, EquationHolds, LinesHold}
+use Rattle.mt_pieces.specs.Putting.{boxed_on}
+use Rattle.mt_display.specs.LineStack.{IsStack}
+use Rattle.mt_display.specs.Lines.{LineValue, line_values}
+use Rattle.mt_display.specs.declared.line.Line.{Line as LineFields}
+use Rattle.mt_display.specs.declared.line_stack.LineStack.{LineStack}
+use Rattle.mt_display.proofs.PagePlaces.{are, made_then, one_has}
+use Rattle.mt_pages.specs.FormulaLines.{each_set, equations_lines, equations_set, formula_box, formula_row, lists_of, rows_lines, rows_set, set_by}
+use Rattle.mt_pages.specs.inner.Lines.{BoxHolds, EquationHolds, LinesHold, LinesPut, RowPut}
+use Rattle.mt_pages.proofs.LineLemmas.{line_put}
 use Rattle.mt_pages.proofs.PageLemmas.{places_still, row_has}
 use Rattle.mt_status.specs.Origins.{IsPure}
 use Rattle.mt_status.specs.declared.status.Status.{Status}
-use Rattle.mt_status.proofs.PureLemmas.{pure_err, pure_then}
+use Rattle.mt_status.proofs.PureLemmas.{pure_err}
 
 -- ---- rows that are set one after another
 
@@ -82,20 +90,38 @@ lists_few (MoreRows list rows) = omega (arith, lists_few rows)
 
 -- ---- the places of their line
 
-box_made : (n : ℕ) (row : List PieceValue) (l : Layout) → l ≡ pack row → first_out (pack row).extents ≡ None → set_by n (pack_row row) ≡ Ok l
-box_made n row l e none = rw none (ap (λ (x : Layout). (let r : Result Layout Status = Ok x in r)) (sym e))
+-- the box of a list, whose row was packed behind the pieces that were there
+pub record BoxMade (set : SetValue) (n : ℕ) (style : Style) (list : Sequence) (old new : List PieceValue) : Type 0 where
+  pub box : Layout
+  pub is : formula_box set n style list ≡ Ok box
+  pub stays : new ≡ old ++ PieceBox (pos 0) box ∷ []
+  pub holds : BoxHolds set box
 
-module _ (set : SetValue) (n : ℕ) (style : Style) (list : Sequence) (row : List PieceValue) where
-  -- the box of a list, whose row is set
-  pub formula_boxed : (l : Layout) → formula_row set n style list ≡ Ok row → l ≡ pack row → first_out (pack row).extents ≡ None → formula_box set n style list ≡ Ok l
-  formula_boxed l is e none = ap (λ (r : Result (List PieceValue) Status). r >>= (λ row. set_by n (pack_row row))) is ∙ box_made n row l e none
+packed_on : (o : Option ℤ) (l : Layout) (rest new : List PieceValue) → boxed_on rest (pass_unless o >> Ok l) ≡ Ok new → ((pass_unless o >> Ok l) ≡ Ok l) × (new ≡ rest ++ PieceBox (pos 0) l ∷ [])
+packed_on None l rest new is = (refl, cc)
+packed_on (Some value) l rest new is = absurd (cc)
 
-  pub formula_not_boxed : (status : Status) → formula_row set n style list ≡ Ok row → IsPure (set_by n (pack_row row)) (Err status) → IsPure (formula_box set n style list) (Err status)
-  formula_not_boxed status is fails = pure_then (formula_row set n style list) row (λ row. set_by n (pack_row row)) (Err status) is fails
+module _ (set : SetValue) (n : ℕ) (style : Style) (list : Sequence) (first : ℕ) (old mid : List PieceValue) where
+  box_of : (row : List PieceValue) → formula_row set n style list ≡ Ok row → formula_box set n style list ≡ set_by n (pack_row row)
+  box_of row is = ap (λ (r : Result (List PieceValue) Status). r >>= (λ row. set_by n (pack_row row))) is
 
--- a box of a row whose pieces hold
-pub box_holds : (set : SetValue) (row : List PieceValue) (l : Layout) → RowHolds set row → l ≡ pack row → BoxHolds set l
-box_holds set row l holds is = subst (BoxHolds set) (sym is) (pack_has (PlaceHolds set) (places_still set) row (row_has set row holds))
+  at_row : (put : RowPut set old mid (formula_row set n style list)) → first ≡ length old → boxed_on (take first mid) (pack_row (drop first mid)) ≡ boxed_on old (pack_row put.row)
+  at_row put at = ap (λ (ps : List PieceValue). boxed_on ps (pack_row (drop first mid))) (rest_before first old put.row mid at put.stays) ∙ ap (λ (ps : List PieceValue). boxed_on old (pack_row ps)) (row_behind first old put.row mid at put.stays)
+
+  pub formula_boxed : (new : List PieceValue) → RowPut set old mid (formula_row set n style list) → first ≡ length old → boxed_on (take first mid) (pack_row (drop first mid)) ≡ Ok new → BoxMade set n style list old new
+  formula_boxed new put at is =
+      let found = packed_on (first_out (pack put.row).extents) (pack put.row) old new (sym (at_row put at) ∙ is) in
+      record {
+        box = pack put.row;
+        is = box_of put.row put.is ∙ ap (set_by n) found.0;
+        stays = found.1;
+        holds = pack_has (PlaceHolds set) (places_still set) put.row (row_has set put.row put.holds);
+      }
+
+  pub formula_not_boxed : (status : Status) → RowPut set old mid (formula_row set n style list) → first ≡ length old → IsPure (set_by n (pack_row (drop first mid))) (Err status) → IsPure (formula_box set n style list) (Err status)
+  formula_not_boxed status put at fails =
+      subst (λ (r : Result Layout Status). IsPure r (Err status)) (sym (box_of put.row put.is))
+      (subst (λ (ps : List PieceValue). IsPure (set_by n (pack_row ps)) (Err status)) (row_behind first old put.row mid at put.stays) fails)
 
 module _ (set : SetValue) where
   moved_hold : (x y : ℤ) (ps : List Place) → All (PlaceHolds set) ps → All (PlaceHolds set) (all_moved x y ps)
@@ -159,3 +185,26 @@ module _ (set : SetValue) where
   equations_hold width left es lines h is =
       line_holds (stacked_rows width (equation_rows width left es)) lines
       (stacked_hold width (equation_rows width left es) (each_equation width (equations_axis width es) left es h)) is
+
+-- ---- their line on the stack
+
+module _ (set : SetValue) (n : ℕ) (w width : ℤ) (lines : List LineValue) (ls : List LineFields) (old mid new : LineStack) where
+  -- the line was put after those that were there, and the boxes before it left them as they were
+  line_on : (answer : ℤ → Result (List LineValue) Status) → answer w ≡ Ok (line_values ls) → w ≡ width → length ls ≡ 1 → All (λ (l : LineFields). Within (2 ^ 40) l.shift) ls → LinesHold set (line_values ls)
+      → IsStack lines [] old → mid.pieces ≡ old.pieces → mid.shifts ≡ old.shifts → (IsStack lines [] mid → IsStack (lines ++ line_values ls) [] new) → LinesPut set 1 lines new (answer width)
+  line_on answer is same one small hold on stay kept put =
+      line_put set lines ls new (answer width) (subst (λ (x : ℤ). answer x ≡ Ok (line_values ls)) same is) one small hold (put (record { pieces = stay ∙ on.pieces; shifts = ap (λ s. s.items) kept ∙ on.shifts }))
+
+  pub equations_put : (left : Bool) (es : List Equation) (rows : List EquationLayout) → equations_set set n es ≡ Ok rows → equation_lines rows left w ≡ Ok (line_values ls) → All (EquationHolds set) rows
+      → w ≡ width → length ls ≡ 1 → All (λ (l : LineFields). Within (2 ^ 40) l.shift) ls
+      → IsStack lines [] old → mid.pieces ≡ old.pieces → mid.shifts ≡ old.shifts → (IsStack lines [] mid → IsStack (lines ++ line_values ls) [] new) → LinesPut set 1 lines new (equations_lines set width n left es)
+  equations_put left es rows is lined holds same one small =
+      line_on (λ x. equations_lines set x n left es) (ap (λ (r : Result (List EquationLayout) Status). r >>= (λ boxes. set_by n (equation_lines boxes left w))) is ∙ ap (set_by n) lined)
+      same one small (equations_hold set w left rows (line_values ls) holds lined)
+
+  pub rows_put : (lists : Rows) (rows : List Layout) → rows_set set n lists ≡ Ok rows → row_lines rows w ≡ Ok (line_values ls) → All (BoxHolds set) rows
+      → w ≡ width → length ls ≡ 1 → All (λ (l : LineFields). Within (2 ^ 40) l.shift) ls
+      → IsStack lines [] old → mid.pieces ≡ old.pieces → mid.shifts ≡ old.shifts → (IsStack lines [] mid → IsStack (lines ++ line_values ls) [] new) → LinesPut set 1 lines new (rows_lines set width n lists)
+  rows_put lists rows is lined holds same one small =
+      line_on (λ x. rows_lines set x n lists) (ap (λ (r : Result (List Layout) Status). r >>= (λ boxes. set_by n (row_lines boxes w))) is ∙ ap (set_by n) lined)
+      same one small (rows_hold set w rows (line_values ls) holds lined)

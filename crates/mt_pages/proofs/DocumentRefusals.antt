@@ -1,4 +1,4 @@
--- Reading a source is never refused for want of memory (`document_avoids`).
+-- Reading a source is never refused for lack of memory (`document_avoids`).
 use Rattle.std.proofs.Common.{◌≡◌, ◌+◌, ◌-◌, ℕ, zero, suc, length, map, Bool, true, false, List, [], ◌∷◌, refl, cond}
 use Rattle.std.specs.Prelude.{Option, Some, None, Result, Ok, Err, nat_lt, drop, ⊤}
 use Rattle.mt_scaled.specs.declared.unit.Units.{Units}
@@ -135,7 +135,7 @@ between_matched table rest taken h = between_by table rest taken (begins_display
 
 -- ---- turns
 
--- a turn that is not refused for want of memory
+-- a turn that is not refused for lack of memory
 abbrev TurnAvoids : DocumentTurn → Type 0
 TurnAvoids (Goes state rest) = ⊤
 TurnAvoids (Ends state) = ⊤

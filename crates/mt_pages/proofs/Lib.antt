@@ -16,9 +16,9 @@ pub mod ListingLemmas
 mod ListingWorked
 -- each brace of a formula has its partner
 pub mod Balanced
--- a document is never refused for want of memory
+-- a document is never refused for lack of memory
 pub mod DocumentRefusals
--- pages are never refused for want of memory
+-- pages are never refused for lack of memory
 pub mod PageRefusals
 -- a source that is refused at a formula is refused for a cause with a number
 mod Causes

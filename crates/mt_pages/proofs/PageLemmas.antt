@@ -19,7 +19,7 @@ use Rattle.mt_display.proofs.PagePlaces.{LineHas, page_has}
 use Rattle.mt_convert.specs.Holding.{PlaceHolds, PieceHolds, RowHolds}
 use Rattle.mt_convert.proofs.holds.Boxes.{all_places_hold}
 
--- that a glyph exists and that a rule marks something does not depend on where it stands
+-- that a glyph exists and that a rule marks something does not depend on where it is
 pub places_still : (set : SetValue) → IsStill (PlaceHolds set)
 places_still set = record { glyph = λ font code h v x y holds. holds; rule = λ h v x y height width holds. holds }
 

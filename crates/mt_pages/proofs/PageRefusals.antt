@@ -1,5 +1,5 @@
 -- What no formula that is set and no place that is found is refused by, setting a source is not refused by (`source_avoids`):
--- it is never refused for want of memory (`typeset_avoids`).
+-- it is never refused for lack of memory (`typeset_avoids`).
 use Rattle.std.proofs.Common.{◌≡◌, ◌+◌, ◌-◌, ◌++◌, ℕ, length, false, List, [], ◌∷◌, refl, ap}
 use Rattle.std.specs.Prelude.{ℤ, Option, Some, None, Result, Ok, Err, nat_lt}
 use Rattle.mt_scaled.specs.Results.{◌>>=◌}
@@ -162,7 +162,7 @@ module _ (bad : Status) (fault_other : (n : ℕ) (fault : SettingFault) → faul
   source_avoids set width bytes read =
       avoids_then bad (document_of set bytes) (λ document. document_pages set width document) read (λ document is. document_pages_avoid set width document)
 
--- ---- want of memory
+-- ---- lack of memory
 
 fault_avoids : (n : ℕ) (fault : SettingFault) → fault_refusal n fault ≡ OutOfMemory → ⊥
 fault_avoids n (MissingFamily fam size) same = cc

@@ -16,7 +16,7 @@ pub record IsFileOfPages (fonts : SetValue) (answer : Result (List (List Place))
   pub written : Written fonts bytes pages
   pub lean : Lean fonts bytes
 
--- or the refusal is the answer, or memory was wanting
+-- or the refusal is the answer, or memory ran out
 abbrev pub IsFileOfSource : SetValue → Result (List (List Place)) Status → Result (List ℕ) Status → Type 0
 IsFileOfSource fonts answer (Ok bytes) = IsFileOfPages fonts answer bytes
 IsFileOfSource fonts answer (Err status) = IsPure answer (Err status)

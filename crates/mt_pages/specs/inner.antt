@@ -1,4 +1,4 @@
--- rows and lines that the code makes
+-- rows, boxes and lines that are set on the stack of a page
 pub mod Lines
 -- pages of places, up to the first fault of a place
 pub mod Placed

@@ -92,7 +92,7 @@ pub fn document_refusal(error: DocError) -> Status
 ///
 /// # Errors
 ///
-/// `BadSource` at the first byte that is not ASCII (cause 1) or cannot stand where it stands (cause 2). `OutOfMemory`
+/// `BadSource` at the first byte that is not ASCII (cause 1) or is not allowed where it is (cause 2). `OutOfMemory`
 /// where memory ran out.
 pub fn tokens_of(alloc: Global, source: &[u8]) -> Result<TokenList, Status>
     ensures is { (fonts : SetValue) → AreTokensOf fonts source.now result }

@@ -1,24 +1,28 @@
 //! The lines of a formula.
-ghost use Rattle.std.specs.Prelude.{◌≡◌, ◌≤◌, Err, IfOk, IfSome, List};
+ghost use Rattle.std.specs.Prelude.{◌≡◌, ◌≤◌, ◌^◌, [], Err, IfSome, List, OnOk, drop, length, ⊤};
 ghost use Rattle.mt_box.specs.Layout.{Layout};
-ghost use Rattle.mt_box.specs.Packs.{Packs};
 ghost use Rattle.mt_box.specs.Rows.{PieceValue};
 ghost use Rattle.mt_convert.specs.Calls.{SetFails};
+ghost use Rattle.mt_display.specs.LineStack.{IsStack, PutsLines, is_left};
 ghost use Rattle.mt_display.specs.Lines.{LineValue, LinesAnswer};
+ghost use Rattle.mt_display.specs.declared.line_stack.LineStack.{LineStack as LineStackFields};
+ghost use Rattle.mt_pieces.specs.Putting.{PacksPieces, boxed_on};
 ghost use Rattle.mt_reader.specs.Weights.{HasModestLists, formula_weight};
 ghost use Rattle.mt_rules.specs.Modest.{IsModestList};
-ghost use Rattle.mt_rules.specs.Setting.{Setting, make_box};
-ghost use Rattle.mt_pages.specs.FormulaLines.{displayed_lines, formula_lines, formula_row, number_row, set_by};
-ghost use Rattle.mt_pages.specs.FormulaLines.{text_lines};
+ghost use Rattle.mt_rules.specs.Setting.{Setting};
+ghost use Rattle.mt_pages.specs.FormulaLines.{displayed_lines, formula_lines, formula_row, set_by, text_lines};
 ghost use Rattle.mt_pages.specs.LineWidth.{IsLineWidth};
-ghost use Rattle.mt_pages.specs.inner.Lines.{AreLaid, IsLines, IsNumber, IsRow, NumberStands, RowStands};
+ghost use Rattle.mt_pages.specs.inner.Lines.{PutsFor, PutsRow, SetsLines};
 ghost use Rattle.mt_status.specs.Origins.{IsPure};
 
 use crate::display_rows::{equations_lines, rows_lines};
-use mt_box::{PackError, Row};
-use mt_convert::{SetFault, set_list};
-use mt_display::{Lines, Numbered, place_display, place_inline};
+use crate::workspace::Workspace;
+use mt_arena::Arena;
+use mt_box::PackError;
+use mt_convert::{SetFault, set_list_on};
+use mt_display::NumberSide;
 use mt_family::FontSet;
+use mt_pieces::Pieces;
 use mt_rules::{Body, Formula, MathList, Style, Tag};
 use mt_status::Status;
 use std::alloc::Global;
@@ -52,10 +56,14 @@ fn set_refusal(n: u32, fault: SetFault) -> Status
     }
 }
 
-// A box on a line of formula n is too wide, too high or too deep.
+// A box of formula n, or one on its lines, is too wide, too high or too deep.
 pub(crate) fn pack_refusal(n: u32, error: PackError) -> Status
-    ensures { (setting : Setting (List LineValue)) → LinesAnswer (Err error) setting
+    ensures boxed { (rest pieces : List PieceValue) (setting : Setting Layout)
+        → PacksPieces {U = ⊤} (Err error) pieces (boxed_on rest setting) → IsPure (set_by n setting) (Err result) }
+    ensures made { (setting : Setting (List LineValue)) → LinesAnswer (Err error) setting
         → IsPure (set_by n setting) (Err result) }
+    ensures put { (lines : List LineValue) (stack : LineStackFields) (setting : Setting (List LineValue))
+        → PutsLines {U = ⊤} (Err error) lines stack setting → IsPure (set_by n setting) (Err result) }
 {
     match error {
         PackError::Overflow(value) => Status::Overflow {
@@ -66,96 +74,103 @@ pub(crate) fn pack_refusal(n: u32, error: PackError) -> Status
     }
 }
 
-// A box of formula n is too wide, too high or too deep.
-pub(crate) fn box_refusal(n: u32, error: PackError) -> Status
-    ensures { (l : Layout) → Packs l (Err error) → IsPure (set_by n (make_box l)) (Err result) }
+// What formula n answers where its lines were put so.
+fn put_for(n: u32, put: Result<(), PackError>) -> Result<(), Status>
+    ensures { (lines : List LineValue) (stack : LineStackFields) (setting : Setting (List LineValue))
+        → PutsLines put lines stack setting → PutsFor n result lines stack setting }
 {
-    match error {
-        PackError::Overflow(value) => Status::Overflow {
-            n,
-            value: i128::from(value),
-        },
-        PackError::OutOfMemory => Status::OutOfMemory,
+    match put {
+        Ok(()) => Ok(()),
+        Err(error) => Err(pack_refusal(n, error)),
     }
 }
 
-// The row of a list of formula n.
-pub(crate) fn formula_row(
+// Puts the row of a list of formula n behind the pieces that are there: at most 2^21 pieces.
+pub(crate) fn put_row(
+    pieces: &mut Pieces,
+    arena: &mut Arena,
     alloc: Global,
     fonts: &FontSet,
     n: u32,
     style: Style,
     list: MathList,
-) -> Result<Row, Status>
+) -> Result<(), Status>
     requires modest { IsModestList list }
-    ensures is { IsRow (formula_row fonts.now n style list) result }
-    ensures stands { IfOk result (RowStands fonts.now) }
+    ensures is { PutsRow fonts.now result pieces.old pieces.new (formula_row fonts.now n style list) }
+    ensures few { OnOk result (length (drop (length pieces.old) pieces.new) ≤ 2 ^ 21) }
 {
-    match set_list(alloc, fonts, list, style) {
-        Ok(row) => Ok(row),
+    match set_list_on(pieces, arena, alloc, fonts, list, style) {
+        Ok(()) => Ok(()),
         Err(fault) => Err(set_refusal(n, fault)),
     }
 }
 
-// The number beside a displayed formula.
-fn number_row(
+// The line of a list in the text.
+fn text_lines(
+    space: &mut Workspace,
     alloc: Global,
     fonts: &FontSet,
     n: u32,
-    tag: Option<Tag>,
-) -> Result<Option<Numbered>, Status>
-    requires modest { IfSome tag (λ t. IsModestList t.body) }
-    ensures is { IsNumber (number_row fonts.now n tag) result }
-    ensures stands { IfOk result (NumberStands fonts.now) }
+    list: MathList,
+) -> Result<(), Status>
+    requires modest { IsModestList list }
+    ensures { (lines : List LineValue) → IsStack lines [] space.old.lines
+        → SetsLines fonts.now 1 result lines space.new.lines (text_lines fonts.now n list) }
 {
-    let Some(tag) = tag else {
-        return Ok(None);
-    };
-    let row = formula_row(alloc, fonts, n, Style::T, tag.body)?;
-    Ok(Some(Numbered {
-        row,
-        left: tag.left,
-    }))
+    let Workspace { lines, arena } = space;
+    let first = lines.pieces.len();
+    put_row(&mut lines.pieces, arena, alloc, fonts, n, Style::T, list)?;
+    put_for(n, lines.put_inline(first))
 }
 
-// The line of a list in the text.
-fn text_lines(alloc: Global, fonts: &FontSet, n: u32, list: MathList) -> Result<Lines, Status>
-    requires modest { IsModestList list }
-    ensures is { IsLines (text_lines fonts.now n list) result }
-    ensures laid { IfOk result (AreLaid fonts.now 1) }
+fn side_of(left: bool) -> NumberSide
+    ensures { is_left result ≡ left }
 {
-    let row = formula_row(alloc, fonts, n, Style::T, list)?;
-    match place_inline(alloc, row) {
-        Ok(lines) => Ok(lines),
-        Err(error) => Err(pack_refusal(n, error)),
+    if left {
+        NumberSide::Left
+    } else {
+        NumberSide::Right
     }
 }
 
 // The lines of a displayed list and its number.
 fn displayed_lines(
+    space: &mut Workspace,
     alloc: Global,
     fonts: &FontSet,
     width: i64,
     n: u32,
     list: MathList,
     tag: Option<Tag>,
-) -> Result<Lines, Status>
+) -> Result<(), Status>
     requires modest { IsModestList list }
     requires tag { IfSome tag (λ t. IsModestList t.body) }
     requires width { IsLineWidth width }
-    ensures is { IsLines (displayed_lines fonts.now width n list tag) result }
-    ensures laid { IfOk result (AreLaid fonts.now 2) }
+    ensures { (lines : List LineValue) → IsStack lines [] space.old.lines
+        → SetsLines fonts.now 2 result lines space.new.lines (displayed_lines fonts.now width n list tag) }
 {
-    let row = formula_row(alloc, fonts, n, Style::D, list)?;
-    let number = number_row(alloc, fonts, n, tag)?;
-    match place_display(alloc, fonts, row, number, width) {
-        Ok(lines) => Ok(lines),
-        Err(error) => Err(pack_refusal(n, error)),
-    }
+    let Workspace { lines, arena } = space;
+    let first = lines.pieces.len();
+    put_row(&mut lines.pieces, arena, alloc, fonts, n, Style::D, list)?;
+    let Some(tag) = tag else {
+        return put_for(n, lines.put_display(fonts, first, width));
+    };
+    let end = lines.pieces.len();
+    let side = side_of(tag.left);
+    put_row(
+        &mut lines.pieces,
+        arena,
+        alloc,
+        fonts,
+        n,
+        Style::T,
+        tag.body,
+    )?;
+    put_for(n, lines.put_numbered(fonts, first, end, side, width))
 }
 
-/// The lines of a formula: one in the text, and one or two where it is displayed. A displayed
-/// formula stands in a line that is `width` scaled points wide. Its body is set in text or display
+/// Puts the lines of a formula after the others: one in the text, and one or two where it is
+/// displayed. A displayed formula is in a line that is `width` scaled points wide. Its body is set in text or display
 /// style (The TeXbook, Appendix G), and its number in text style. A display of several lines is one
 /// line of the page, whatever the number of its rows.
 ///
@@ -166,18 +181,20 @@ fn displayed_lines(
 /// no font at a size, `MissingChar` where its font has no such character, `SmartLigature` where two
 /// characters form a ligature that is not set, `Overflow` of an extent out of range, `TooTall` where
 /// a delimiter needs more than 2,000 repeats. Then `Overflow` of an extent of a box on the lines.
-/// `OutOfMemory` where memory ran out.
+/// `OutOfMemory` where memory ran out. What lines there are after an error is not said.
 #[tactic(auto, unfolding(crate::specs::FormulaLines::formula_lines))]
 pub fn formula_lines(
+    space: &mut Workspace,
     alloc: Global,
     fonts: &FontSet,
     width: i64,
     formula: Formula,
-) -> Result<Lines, Status>
+) -> Result<(), Status>
     requires modest { HasModestLists formula }
     requires width { IsLineWidth width }
-    ensures is { IsLines (formula_lines fonts.now width formula) result }
-    ensures laid { IfOk result (AreLaid fonts.now (formula_weight formula)) }
+    ensures { (lines : List LineValue) → IsStack lines [] space.old.lines
+        → SetsLines fonts.now (formula_weight formula) result lines space.new.lines
+        (formula_lines fonts.now width formula) }
 {
     let Formula {
         number: n,
@@ -188,12 +205,14 @@ pub fn formula_lines(
     match body {
         Body::List(list) => {
             if display {
-                displayed_lines(alloc, fonts, width, n, list, tag)
+                displayed_lines(space, alloc, fonts, width, n, list, tag)
             } else {
-                text_lines(alloc, fonts, n, list)
+                text_lines(space, alloc, fonts, n, list)
             }
         }
-        Body::Equations { left, rows } => equations_lines(alloc, fonts, width, n, left, rows),
-        Body::Lines(rows) => rows_lines(alloc, fonts, width, n, rows),
+        Body::Equations { left, rows } => equations_lines(
+            space, alloc, fonts, width, n, left, rows,
+        ),
+        Body::Lines(rows) => rows_lines(space, alloc, fonts, width, n, rows),
     }
 }

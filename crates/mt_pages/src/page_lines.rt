@@ -1,13 +1,14 @@
 //! The lines of a page.
-ghost use Rattle.std.specs.Prelude.{◌≡◌, ◌++◌, [], All, IfOk, OnOk};
-ghost use Rattle.mt_display.specs.Lines.{line_values};
+ghost use Rattle.std.specs.Prelude.{◌≡◌, ◌++◌, [], All, IfOk, List, OnOk, length};
+ghost use Rattle.mt_display.specs.LineStack.{IsStack};
+ghost use Rattle.mt_display.specs.Lines.{LineValue};
 ghost use Rattle.mt_reader.specs.Weights.{HasModestLists, page_weight};
-ghost use Rattle.mt_pages.specs.Pages.{no_lines, page_lines, with_formula_lines};
+ghost use Rattle.mt_pages.specs.Pages.{PageLinesValue, no_lines, page_lines, with_formula_lines};
 ghost use Rattle.mt_pages.specs.LineWidth.{IsLineWidth};
-ghost use Rattle.mt_pages.specs.inner.Lines.{AreLaid, IsPageLines, page_value};
+ghost use Rattle.mt_pages.specs.inner.Lines.{IsPage, SetsPageLines};
 
 use crate::formula_lines::formula_lines;
-use mt_display::{Line, Lines};
+use crate::workspace::Workspace;
 use mt_family::FontSet;
 use mt_rules::Page;
 use mt_status::Status;
@@ -16,56 +17,66 @@ use std::alloc::{AllocError, Global};
 /// The lines of a page, and of each the number of its formula.
 #[derive(Drop)]
 pub struct PageLines {
-    /// The lines, from the top downward.
-    pub lines: Vec<Line>,
+    /// Where the lines are.
+    pub workspace: Workspace,
     /// The number of the formula of each line.
     pub formulas: Vec<u32>,
 }
 
 impl PageLines {
-    fn new(alloc: Global) -> PageLines
-        ensures is { page_value result ≡ no_lines }
-        ensures lines { result.lines.items ≡ [] }
+    /// Without lines.
+    pub fn new(alloc: Global) -> Result<PageLines, AllocError>
+        ensures { IfOk result (λ lines. IsPage no_lines lines) }
     {
-        PageLines {
-            lines: Vec::new(alloc),
+        Ok(PageLines {
+            workspace: Workspace::new(alloc)?,
             formulas: Vec::new(alloc),
-        }
+        })
     }
 
-    // Puts the lines of formula n after the others.
-    fn append(&mut self, n: u32, lines: Lines) -> Result<(), AllocError>
-        ensures lines { OnOk result (self.new.lines.items ≡ self.old.lines.items ++ lines) }
-        ensures is { OnOk result (page_value self.new
-            ≡ with_formula_lines (page_value self.old) n (line_values lines)) }
+    // Without lines. What memory they had stays.
+    fn clear(&mut self)
+        ensures { IsPage no_lines self.new }
     {
-        self.formulas.resize(self.formulas.len() + lines.len(), n)?;
-        self.lines.append(&mut lines.into_vec())?;
+        self.workspace.lines.clear();
+        self.formulas.clear();
+    }
+
+    // The lines that have no number yet are of formula n.
+    fn number_lines(&mut self, n: u32) -> Result<(), AllocError>
+        ensures { (page : PageLinesValue) (added : List LineValue)
+            → IsStack (page.lines ++ added) [] self.old.workspace.lines
+            → self.old.formulas.items ≡ page.formulas → length page.formulas ≡ length page.lines
+            → OnOk result (IsPage (with_formula_lines page n added) self.new) }
+    {
+        self.formulas.resize(self.workspace.lines.shifts.len(), n)?;
         Ok(())
     }
 }
 
-/// The lines of a page's formulas, in order. A displayed formula stands in a line that is `width` scaled points wide.
+/// The lines of a page's formulas, in order, in place of those that are there. A displayed formula is in a line that is
+/// `width` scaled points wide.
 ///
 /// # Errors
 ///
-/// The first refusal of a formula, in order.
+/// The first refusal of a formula, in order. What lines there are after it is not said.
 pub fn page_lines(
+    lines: &mut PageLines,
     alloc: Global,
     fonts: &FontSet,
     width: i64,
     page: Page,
-) -> Result<PageLines, Status>
+) -> Result<(), Status>
     requires width { IsLineWidth width }
     requires modest { All HasModestLists page }
-    ensures is { IsPageLines (page_lines fonts.now width no_lines page) result }
-    ensures laid { IfOk result (λ lines. AreLaid fonts.now (page_weight page) lines.lines.items) }
+    ensures { SetsPageLines fonts.now (page_weight page) result lines.new
+        (page_lines fonts.now width no_lines page) }
 {
-    let mut lines = PageLines::new(alloc);
+    lines.clear();
     for formula in page.into_vec() {
         let n = formula.number;
-        let added = formula_lines(alloc, fonts, width, formula)?;
-        lines.append(n, added)?;
+        formula_lines(&mut lines.workspace, alloc, fonts, width, formula)?;
+        lines.number_lines(n)?;
     }
-    Ok(lines)
+    Ok(())
 }

@@ -2,7 +2,6 @@
 ghost use Rattle.std.specs.Prelude.{◌≡◌, ◌≤◌, ◌^◌, [], All, IfOk, IfSome, List, Ok, Option, Result, length, ℕ, ℤ};
 ghost use Rattle.mt_family.specs.SetValue.{SetValue};
 ghost use Rattle.mt_box.specs.declared.place.Place.{Place as PlaceFields};
-ghost use Rattle.mt_display.specs.Lines.{line_values};
 ghost use Rattle.mt_dvi.specs.Writable.{IsWritable};
 ghost use Rattle.mt_family.specs.Sets.{units_of};
 ghost use Rattle.mt_token.specs.Tokens.{max_source};
@@ -10,9 +9,9 @@ ghost use Rattle.mt_token.specs.declared.token.Token.{Token as TokenFields};
 ghost use Rattle.mt_rules.specs.declared.document.Formula.{Formula};
 ghost use Rattle.mt_reader.specs.PageReading.{CanGoOn, GoesOn, IsReadOf};
 ghost use Rattle.mt_reader.specs.Weights.{HasModestLists, page_weight};
-ghost use Rattle.mt_pages.specs.Pages.{no_lines, page_lines, page_places, stack_refusal};
+ghost use Rattle.mt_pages.specs.Pages.{PageLinesValue, no_lines, page_lines, page_places, stack_refusal};
 ghost use Rattle.mt_pages.specs.LineWidth.{IsLineWidth};
-ghost use Rattle.mt_pages.specs.inner.Lines.{LinesHold, LinesStack, page_value};
+ghost use Rattle.mt_pages.specs.inner.Lines.{IsPage, IsStackable, LinesHold};
 ghost use Rattle.mt_pages.specs.inner.Placed.{IsToldAnswer};
 ghost use Rattle.mt_pages.specs.inner.SetPages.{AreFormulasOf, ArePagesOf, AreTokensOf, GoesOnAfter, IsNextOf};
 ghost use Rattle.mt_pages.specs.inner.SetPages.{SetsPage, KeepsPlaces, end_of, is_nothing, is_setting};
@@ -20,12 +19,11 @@ ghost use Rattle.mt_pages.specs.inner.SetPages.{SetsPage, KeepsPlaces, end_of, i
 use crate::document::document_refusal;
 use crate::page_lines::{PageLines, page_lines};
 use mt_box::PlaceList;
-use mt_display::{StackError, stack_lines};
+use mt_display::StackError;
 use mt_dvi::MAX_PLACES;
 use mt_family::FontSet;
 use mt_reader::PageReader;
 use mt_rules::Page;
-use mt_scaled::Items;
 use mt_status::{Much, Status};
 use mt_token::Token;
 use std::alloc::{AllocError, Global};
@@ -48,25 +46,24 @@ fn stack_refusal(formulas: &[u32], error: StackError) -> Status
     }
 }
 
-// The places of a page, where there is room for so many. Want of memory alone is an `Err` of the whole.
+// The places of a page, where there is room for so many. That memory ran out is alone an `Err` of the whole.
 fn page_places(
     alloc: Global,
-    page: PageLines,
+    page: &PageLines,
     room: u64,
 ) -> Result<Result<PlaceList, Status>, AllocError>
-    requires laid { LinesStack page.lines.items }
-    ensures is { IfOk result (λ (places : Result (List PlaceFields) Status).
-        places ≡ page_places room (page_value page)) }
+    requires { IsStackable page.now }
+    ensures is { (lines : PageLinesValue) → IsPage lines page.now
+        → IfOk result (λ (places : Result (List PlaceFields) Status). places ≡ page_places room lines) }
     ensures told { IfOk result IsToldAnswer }
     ensures few { IfOk result (λ places. IfOk places (λ page. length page ≤ room)) }
-    ensures writable { (fonts : SetValue) → LinesHold fonts (line_values page.lines.items)
+    ensures writable { (fonts : SetValue) → (lines : PageLinesValue) → IsPage lines page.now → LinesHold fonts lines.lines
         → IfOk result (λ places. IfOk places (λ page. All (IsWritable fonts) page)) }
 {
-    let PageLines { lines, formulas } = page;
-    match stack_lines(alloc, &Items::from_vec(lines), room) {
+    match page.workspace.lines.places(alloc, room) {
         Ok(places) => Ok(Ok(places)),
         Err(StackError::OutOfMemory) => Err(AllocError),
-        Err(error) => Ok(Err(stack_refusal(&formulas, error))),
+        Err(error) => Ok(Err(stack_refusal(&page.formulas, error))),
     }
 }
 
@@ -93,15 +90,17 @@ impl FirstFault {
     }
 }
 
-/// The pages of a source, one after another: they are read, set and placed as they are asked for. Each formula stands on
-/// a line of its own, or on two where its number does not stand beside it. Lines stand one below another from v = 0 on,
-/// 12pt from baseline to baseline, or 1pt apart. After an error it is of no more use.
+/// The pages of a source, one after another: they are read, set and placed as they are asked for. Each formula is on a
+/// line of its own, or on two where its number is not beside it. Lines are one below another from v = 0 on, 12pt from
+/// baseline to baseline, or 1pt apart. After an error it is of no more use.
 #[derive(Drop)]
 pub struct PageSetter<'a> {
     reader: PageReader<'a>,
     // how many places more there may be
     room: u64,
     held: FirstFault,
+    // of the page that was set last: its memory is used again for the next one
+    lines: PageLines,
 }
 
 impl<'a> PageSetter<'a> {
@@ -112,27 +111,29 @@ impl<'a> PageSetter<'a> {
             → AreTokensOf fonts source (Ok tokens.now) → ArePagesOf fonts width source [] setter) }
         ensures more { IfOk result (λ setter. CanGoOn setter.reader) }
     {
+        let reader = PageReader::new(alloc, tokens)?;
         Ok(PageSetter {
-            reader: PageReader::new(alloc, tokens)?,
+            reader,
             room: MAX_PLACES,
             held: FirstFault::Nothing,
+            lines: PageLines::new(alloc)?,
         })
     }
 
-    // Finds the places of a page that is set, unless a fault is held back.
-    fn place(&mut self, alloc: Global, page: PageLines) -> Result<Option<PlaceList>, AllocError>
-        requires laid { LinesStack page.lines.items }
+    // Finds the places of the page that is set, unless a fault is held back.
+    fn place(&mut self, alloc: Global) -> Result<Option<PlaceList>, AllocError>
+        requires { IsStackable self.old.lines }
         ensures reader { self.new.reader ≡ self.old.reader }
-        ensures is { (fonts : SetValue) → (width : ℤ) → (formulas : List Formula)
-            → page_lines fonts width no_lines formulas ≡ Ok (page_value page)
+        ensures is { (fonts : SetValue) → (width : ℤ) → (formulas : List Formula) → (page : PageLinesValue)
+            → IsPage page self.old.lines → page_lines fonts width no_lines formulas ≡ Ok page
             → IfOk result (λ places. SetsPage fonts width formulas self.old self.new places) }
-        ensures writable { (fonts : SetValue) → LinesHold fonts (line_values page.lines.items)
+        ensures writable { (fonts : SetValue) → (page : PageLinesValue) → IsPage page self.old.lines → LinesHold fonts page.lines
             → IfOk result (λ places. IfSome places (λ page. All (IsWritable fonts) page)) }
     {
         if !self.held.is_nothing() {
             return Ok(None);
         }
-        match page_places(alloc, page, self.room)? {
+        match page_places(alloc, &self.lines, self.room)? {
             Ok(places) => {
                 self.room -= places.len() as u64;
                 Ok(Some(places))
@@ -162,8 +163,8 @@ impl<'a> PageSetter<'a> {
         if self.held.is_setting() {
             return Ok(None);
         }
-        match page_lines(alloc, fonts, width, page) {
-            Ok(lines) => self.place(alloc, lines),
+        match page_lines(&mut self.lines, alloc, fonts, width, page) {
+            Ok(()) => self.place(alloc),
             Err(Status::OutOfMemory) => Err(AllocError),
             Err(status) => {
                 self.held = FirstFault::Setting(status);

@@ -1,56 +1,35 @@
--- Rows, boxes and lines that the code makes (`IsRow`, `AreBoxes`, `IsLines`), and what holds of them (`AreLaid`).
-use Rattle.std.specs.Prelude.{ℕ, ◌≤◌, ◌-◌, ◌^◌, List, length, map, All, IfSome, Option, Some, None, Result, Ok, Err, ⊤}
-use Rattle.std.specs.Option.{option_map}
+-- Rows, boxes and lines that are set on the stack of a page (`PutsRow`, `IsBox`, `SetsLines`, `SetsPageLines`), and what holds of them.
+use Rattle.std.specs.Prelude.{◌≡◌, ℕ, ◌≤◌, ◌-◌, ◌^◌, List, [], ◌++◌, length, map, All, Result, Ok, Err}
 use Rattle.mt_scaled.specs.Number.{Within}
 use Rattle.mt_family.specs.SetValue.{SetValue}
-use Rattle.mt_box.specs.declared.piece.Piece.{Piece}
 use Rattle.mt_box.specs.Layout.{BoxValue, Layout, layout_of}
-use Rattle.mt_box.specs.Rows.{AllModest, PieceValue, piece_values, row_level}
+use Rattle.mt_box.specs.Rows.{PieceValue}
 use Rattle.mt_convert.specs.Holding.{PlaceHolds, RowHolds}
-use Rattle.mt_display.specs.declared.line.Line.{Line as LineFields}
-use Rattle.mt_display.specs.declared.line.Numbered.{Numbered}
-use Rattle.mt_display.specs.Displays.{NumberFits, NumberValue, number_value}
-use Rattle.mt_display.specs.Lines.{LineValue, line_values}
 use Rattle.mt_display.specs.DisplayLines.{boxes_level, equation_layout, equation_level, equations_level}
+use Rattle.mt_display.specs.LineStack.{IsStack, MoreLines}
+use Rattle.mt_display.specs.Lines.{LineValue}
 use Rattle.mt_display.specs.declared.equations.EquationRow.{EquationRow}
+use Rattle.mt_display.specs.declared.line_stack.LineStack.{LineStack}
 use Rattle.mt_rules.specs.DisplayRows.{EquationLayout}
+use Rattle.mt_rules.specs.Setting.{Setting}
+use Rattle.mt_pages.specs.FormulaLines.{set_by}
 use Rattle.mt_pages.specs.Pages.{PageLinesValue}
-use Rattle.mt_status.specs.Origins.{IsPure}
 use Rattle.mt_pages.specs.declared.page_lines.PageLines.{PageLines}
+use Rattle.mt_status.specs.Origins.{IsPure}
 use Rattle.mt_status.specs.declared.status.Status.{Status}
 
-abbrev pub row_values : Result (List Piece) Status → Result (List PieceValue) Status
-row_values (Ok row) = Ok (piece_values row)
-row_values (Err status) = Err status
+-- ---- rows
 
--- its pieces are those of the step's answer
-abbrev pub IsRow : Result (List PieceValue) Status → Result (List Piece) Status → Type 0
-IsRow step result = IsPure step (row_values result)
+-- the row is behind the pieces that were there; its glyphs exist, and its rules mark something
+pub record RowPut (fonts : SetValue) (old new : List PieceValue) (answer : Result (List PieceValue) Status) : Type 0 where
+  pub row : List PieceValue
+  pub is : answer ≡ Ok row
+  pub stays : new ≡ old ++ row
+  pub holds : RowHolds fonts row
 
-abbrev pub number_answer : Result (Option Numbered) Status → Result (Option NumberValue) Status
-number_answer (Ok n) = Ok (option_map number_value n)
-number_answer (Err status) = Err status
-
--- its number is that of the step's answer
-abbrev pub IsNumber : Result (Option NumberValue) Status → Result (Option Numbered) Status → Type 0
-IsNumber step result = IsPure step (number_answer result)
-
--- a row that can stand on a line
-pub record RowStands (fonts : SetValue) (row : List Piece) : Type 0 where
-  pub few : length row ≤ 2 ^ 21
-  pub modest : AllModest row
-  pub level : row_level row ≤ 2 ^ 20 - 3
-  pub holds : RowHolds fonts (piece_values row)
-
--- the glyphs of the number exist, and its rules mark something
-abbrev pub NumberHolds : SetValue → Option NumberValue → Type 0
-NumberHolds fonts None = ⊤
-NumberHolds fonts (Some n) = RowHolds fonts n.row
-
--- and a number that can stand beside it
-pub record NumberStands (fonts : SetValue) (number : Option Numbered) : Type 0 where
-  pub fits : IfSome number NumberFits
-  pub holds : NumberHolds fonts (option_map number_value number)
+abbrev pub PutsRow : {U : Type 0} → SetValue → Result U Status → List PieceValue → List PieceValue → Result (List PieceValue) Status → Type 0
+PutsRow fonts (Ok u) old new answer = RowPut fonts old new answer
+PutsRow fonts (Err status) old new answer = IsPure answer (Err status)
 
 -- ---- the boxes of several lines
 
@@ -87,8 +66,8 @@ AreEquations step result = IsPure step (equations_by result)
 abbrev pub BoxHolds : SetValue → Layout → Type 0
 BoxHolds fonts l = All (PlaceHolds fonts) l.places
 
--- and a box that can stand in a row of a display
-pub record BoxStands (fonts : SetValue) (b : BoxValue) : Type 0 where
+-- and a box that can be in a row of a display
+pub record BoxFits (fonts : SetValue) (b : BoxValue) : Type 0 where
   pub level : b.level ≤ 2 ^ 20 - 3
   pub holds : BoxHolds fonts (layout_of b)
 
@@ -97,53 +76,71 @@ pub record EquationHolds (fonts : SetValue) (e : EquationLayout) : Type 0 where
   pub second : BoxHolds fonts e.second
   pub number : BoxHolds fonts e.number
 
-pub record EquationStands (fonts : SetValue) (row : EquationRow) : Type 0 where
+pub record EquationFits (fonts : SetValue) (row : EquationRow) : Type 0 where
   pub level : equation_level row ≤ 2 ^ 20 - 3
   pub holds : EquationHolds fonts (equation_layout row)
 
 -- the rows of a display
-pub record BoxesStand (fonts : SetValue) (boxes : List BoxValue) : Type 0 where
+pub record BoxesFit (fonts : SetValue) (boxes : List BoxValue) : Type 0 where
   pub few : length boxes ≤ 2 ^ 19
   pub level : boxes_level boxes ≤ 2 ^ 20 - 3
   pub holds : All (BoxHolds fonts) (map layout_of boxes)
 
-pub record EquationsStand (fonts : SetValue) (rows : List EquationRow) : Type 0 where
+pub record EquationsFit (fonts : SetValue) (rows : List EquationRow) : Type 0 where
   pub few : length rows ≤ 2 ^ 19
   pub level : equations_level rows ≤ 2 ^ 20 - 3
   pub holds : All (EquationHolds fonts) (map equation_layout rows)
 
--- ---- lines
-
-abbrev pub lines_by : Result (List LineFields) Status → Result (List LineValue) Status
-lines_by (Ok lines) = Ok (line_values lines)
-lines_by (Err status) = Err status
-
--- its lines are those of the step's answer
-abbrev pub IsLines : Result (List LineValue) Status → Result (List LineFields) Status → Type 0
-IsLines step result = IsPure step (lines_by result)
+-- ---- the lines of a formula
 
 -- the glyphs of lines exist, and their rules mark something
 abbrev pub LinesHold : SetValue → List LineValue → Type 0
 LinesHold fonts lines = All (λ (l : LineValue). All (PlaceHolds fonts) l.body.places) lines
 
--- lines that can stand one below another
-pub record LinesStack (lines : List LineFields) : Type 0 where
-  pub few : length lines ≤ 2 ^ 21
-  pub shifts : All (λ (l : LineFields). Within (2 ^ 40) l.shift) lines
-
 -- the lines of a formula or a page
-pub record AreLaid (fonts : SetValue) (most : ℕ) (lines : List LineFields) : Type 0 where
+pub record AreLaid (fonts : SetValue) (most : ℕ) (lines : List LineValue) : Type 0 where
   pub few : length lines ≤ most
-  pub shifts : All (λ (l : LineFields). Within (2 ^ 40) l.shift) lines
-  pub hold : LinesHold fonts (line_values lines)
+  pub shifts : All (λ (l : LineValue). Within (2 ^ 40) l.shift) lines
+  pub hold : LinesHold fonts lines
 
--- the lines of a page
-abbrev pub page_value : PageLines → PageLinesValue
-page_value page = record { lines = line_values page.lines.items; formulas = page.formulas.items }
+-- lines are put after the others, or why formula n has none
+abbrev pub PutsFor : {U : Type 0} → ℕ → Result U Status → List LineValue → LineStack → Setting (List LineValue) → Type 0
+PutsFor n (Ok u) lines s setting = MoreLines lines s setting
+PutsFor n (Err status) lines s setting = IsPure (set_by n setting) (Err status)
 
-abbrev pub page_by : Result PageLines Status → Result PageLinesValue Status
-page_by (Ok page) = Ok (page_value page)
-page_by (Err status) = Err status
+pub record LinesPut (fonts : SetValue) (most : ℕ) (lines : List LineValue) (s : LineStack) (answer : Result (List LineValue) Status) : Type 0 where
+  pub added : List LineValue
+  pub is : answer ≡ Ok added
+  pub stack : IsStack (lines ++ added) [] s
+  pub laid : AreLaid fonts most added
 
-abbrev pub IsPageLines : Result PageLinesValue Status → Result PageLines Status → Type 0
-IsPageLines step result = IsPure step (page_by result)
+-- the lines of the answer are put after the others
+abbrev pub SetsLines : {U : Type 0} → SetValue → ℕ → Result U Status → List LineValue → LineStack → Result (List LineValue) Status → Type 0
+SetsLines fonts most (Ok u) lines s answer = LinesPut fonts most lines s answer
+SetsLines fonts most (Err status) lines s answer = IsPure answer (Err status)
+
+-- ---- the lines of a page
+
+-- these lines are there, and the numbers of their formulas
+pub record IsPage (page : PageLinesValue) (lines : PageLines) : Type 0 where
+  pub stack : IsStack page.lines [] lines.workspace.lines
+  pub formulas : lines.formulas.items ≡ page.formulas
+  pub count : length page.formulas ≡ length page.lines
+
+pub record PageSet (fonts : SetValue) (most : ℕ) (lines : PageLines) (answer : Result PageLinesValue Status) : Type 0 where
+  pub page : PageLinesValue
+  pub is : answer ≡ Ok page
+  pub on : IsPage page lines
+  pub laid : AreLaid fonts most page.lines
+
+-- the lines of the answer are there
+abbrev pub SetsPageLines : {U : Type 0} → SetValue → ℕ → Result U Status → PageLines → Result PageLinesValue Status → Type 0
+SetsPageLines fonts most (Ok u) lines answer = PageSet fonts most lines answer
+SetsPageLines fonts most (Err status) lines answer = IsPure answer (Err status)
+
+-- a page whose lines can be put one below another
+pub record IsStackable (lines : PageLines) : Type 0 where
+  pub page : PageLinesValue
+  pub on : IsPage page lines
+  pub few : length page.lines ≤ 2 ^ 21
+  pub shifts : All (λ (l : LineValue). Within (2 ^ 40) l.shift) page.lines

@@ -33,7 +33,7 @@ place_rest placed pages = do
   p ← placed
   pages_places p.pages p.room pages
 
--- a place's refusal tells of the files, and is no want of memory
+-- a place's refusal tells of the files, and not that memory ran out
 abbrev pub IsToldAnswer : Result (List Place) Status → Type 0
 IsToldAnswer (Ok places) = ⊤
 IsToldAnswer (Err status) = refusal_origin status ≡ Told

@@ -88,12 +88,15 @@ abbrev pub count_places : Option (List Place) → ℕ
 count_places None = 0
 count_places (Some places) = length places
 
--- a page is set and placed, or a fault is held back
-pub record SetsPage (fonts : SetValue) (width : ℤ) (page : List Formula) (old new : PageSetter) (places : Option (List Place)) : Type 0 where
+-- a page is set and placed, or a fault is held back, where there were room and such a fault before
+pub record PlacesPage (fonts : SetValue) (width : ℤ) (page : List Formula) (old_room : ℕ) (old_held : FirstFault) (new_room : ℕ) (new_held : FirstFault) (places : Option (List Place)) : Type 0 where
   pub is : (pages : List (List Place)) (rest : List (List Formula))
-      → rest_after fonts width pages old.room old.held (page ∷ rest) ≡ rest_after fonts width (append_page pages places) new.room new.held rest
-  pub told : IsTold old.held → IsTold new.held
-  pub room : count_places places + new.room ≡ old.room
+      → rest_after fonts width pages old_room old_held (page ∷ rest) ≡ rest_after fonts width (append_page pages places) new_room new_held rest
+  pub told : IsTold old_held → IsTold new_held
+  pub room : count_places places + new_room ≡ old_room
+
+abbrev pub SetsPage : SetValue → ℤ → List Formula → PageSetter → PageSetter → Option (List Place) → Type 0
+SetsPage fonts width page old new places = PlacesPage fonts width page old.room old.held new.room new.held places
 
 abbrev pub IsNextOf : SetValue → ℤ → List ℕ → List (List Place) → PageSetter → Result (Option (List Place)) Status → Type 0
 IsNextOf fonts width source pages new (Ok (Some places)) = ArePagesOf fonts width source (pages ++ places ∷ []) new

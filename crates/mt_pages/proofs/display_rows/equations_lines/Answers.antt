@@ -1,14 +1,14 @@
-use Rattle.std.proofs.Common.{arith, map, to_z, of_z, w64}
+use Rattle.std.proofs.Common.{map, refl, to_z-of_z}
 use Rattle.mt_display.specs.DisplayLines.{equation_layout}
-use Rattle.mt_display.specs.Lines.{line_values}
-use Rattle.mt_pages.proofs.DisplayLemmas.{equations_hold}
+use Rattle.mt_display.specs.declared.line_stack.LineStack.{LineStack}
+use Rattle.mt_pages.proofs.DisplayLemmas.{equations_put}
 use Rattle.mt_pages.proofs.display_rows.equations_lines.Goals as goal
 
-pub returns-in-Ok-clause-laid : goal.returns-in-Ok-clause-laid
-returns-in-Ok-clause-laid c = record {
-  few = omega (arith, c.in-Ok.ensures.one);
-  shifts = c.in-Ok.ensures.fits.shifts;
-  hold =
-      equations_hold c.args.fonts.now (to_z w64 (of_z w64 c.args.width)) c.args.left (map equation_layout c.in_ok-rows.rows) (line_values c.in-Ok.lines)
-      c.in_ok-rows.ensures.stand.holds c.in-Ok.ensures.is;
-}
+pub returns-in_ok-put_only-in-Ok : goal.returns-in_ok-put_only-in-Ok
+returns-in_ok-put_only-in-Ok c =
+    let old = c.args.space.now.lines in
+    let mid : LineStack = record { pieces = c.set_equations.new.pieces; shifts = old.shifts } in
+    λ lines on.
+    equations_put c.args.fonts.now c.args.n _ c.args.width lines c.in-Ok.lines old mid c.put_only.new.stack c.args.left c.args.equations (map equation_layout c.in_ok-rows.rows)
+    c.in_ok-rows.ensures.is c.in-Ok.ensures.is c.in_ok-rows.ensures.fit.holds (to_z-of_z c.ranges.width) c.in-Ok.ensures.one c.in-Ok.ensures.fits.shifts on c.in_ok-rows.ensures.stay refl
+    (c.in_ok-put_only-in-Ok.ensures lines)

@@ -1,4 +1,4 @@
-use Rattle.std.proofs.Common.{List, length, subst, sym, arith, ◌+◌, ◌∙◌}
+use Rattle.std.proofs.Common.{refl, subst, sym, arith, ◌∙◌}
 use Rattle.std.proofs.lemmas.Result.{err_from_is_err_and}
 use Rattle.mt_box.proofs.Lists.{no_more}
 use Rattle.mt_formula.specs.Counts.{AreModestEquations}
@@ -15,6 +15,7 @@ loop-equation-init c =
       tt,
       rows_start (equation_boxes c.args.fonts.now c.args.n) equation_layout equation_level (EquationHolds c.args.fonts.now) c.args.equations _ _ all c.in_ok-rows.ensures.items,
       subst AreModestEquations (sym all) c.requires.modest,
+      refl,
     )
 
 pub set_equation-requires-clause-first : goal.set_equation-requires-clause-first
@@ -33,8 +34,9 @@ loop-equation-preserved c =
       tt,
       tt,
       rows_next (equation_boxes c.args.fonts.now c.args.n) equation_layout equation_level (EquationHolds c.args.fonts.now) c.args.equations _ _ c.in-Some.equation _ _ c.in_ok-row.row
-          c.loop-equation.invariant.2 steps row.is row.stands.level row.stands.holds c.in_ok-push_to.ensures,
+          c.loop-equation.invariant.2 steps row.is row.fits.level row.fits.holds c.in_ok-push_to.ensures,
       (subst AreModestEquations steps c.loop-equation.invariant.3).3,
+      row.stay ∙ c.loop-equation.invariant.4,
     )
 
 pub returns-in_err-row-clause-is : goal.returns-in_err-row-clause-is
@@ -49,8 +51,8 @@ returns-clause-is c =
     (rows_done (equation_boxes c.args.fonts.now c.args.n) equation_layout equation_level (EquationHolds c.args.fonts.now) c.args.equations _ _ c.loop-equation.invariant.2
     (no_more _ _ c.loop-equation.equation-iterator.rest.ok.0 c.in-None.ensures.steps.0))
 
-pub returns-clause-stand : goal.returns-clause-stand
-returns-clause-stand c =
+pub returns-clause-fit : goal.returns-clause-fit
+returns-clause-fit c =
     rw c.from_vec.ensures (record {
       few = omega (arith, c.loop-equation.invariant.2.count, c.requires.few);
       level = c.loop-equation.invariant.2.level_low;

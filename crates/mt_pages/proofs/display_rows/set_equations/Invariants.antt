@@ -1,3 +1,4 @@
+use Rattle.std.proofs.Common.{◌≡◌}
 use Rattle.std.specs.Vec.Iter.{into_iter_items}
 use Rattle.mt_formula.specs.Counts.{AreModestEquations}
 use Rattle.mt_display.specs.DisplayLines.{equation_layout, equation_level}
@@ -12,3 +13,4 @@ invariant-loop-equation l =
     × (goal.iterator-loop-equation).is_finite l.equation-iterator
     × RowsSet (equation_boxes l.fonts l.n) equation_layout equation_level (EquationHolds l.fonts) l.fn.equations (into_iter_items l.equation-iterator) l.rows.items
     × AreModestEquations (into_iter_items l.equation-iterator)
+    × (l.pieces ≡ l.fn.pieces)

@@ -1,10 +1,9 @@
-use Rattle.std.proofs.Common.{List, length, ap, subst, sym, arith, ◌+◌, ◌∙◌}
+use Rattle.std.proofs.Common.{ap, refl, subst, sym, arith, ◌∙◌}
 use Rattle.std.proofs.lemmas.Result.{err_from_is_err_and}
 use Rattle.mt_box.proofs.Lists.{no_more}
 use Rattle.mt_box.specs.Layout.{BoxValue, layout_of}
 use Rattle.mt_formula.specs.Counts.{AreModestRows}
 use Rattle.mt_rules.specs.Rows.{rows_of}
-use Rattle.mt_rules.specs.Sequence.{Sequence, Rows}
 use Rattle.mt_rules.specs.declared.style.Style.TheVariants.{D}
 use Rattle.mt_pages.specs.FormulaLines.{formula_box, lists_of}
 use Rattle.mt_pages.specs.inner.Lines.{BoxHolds}
@@ -19,6 +18,7 @@ loop-list-init c =
       rows_start (formula_box c.args.fonts.now c.args.n D) layout_of (λ (b : BoxValue). b.level) (BoxHolds c.args.fonts.now) (lists_of c.args.rows) _ _
           (sym (lists_back _) ∙ ap lists_of rows) c.in_ok-boxes.ensures.items,
       subst AreModestRows (sym rows) c.requires.modest,
+      refl,
     )
 
 pub loop-list-preserved : goal.loop-list-preserved
@@ -28,8 +28,9 @@ loop-list-preserved c =
       tt,
       tt,
       rows_next (formula_box c.args.fonts.now c.args.n D) layout_of (λ (b : BoxValue). b.level) (BoxHolds c.args.fonts.now) (lists_of c.args.rows) _ _ c.in-Some.list _ _ c.in_ok-row.row
-          c.loop-list.invariant.2 steps row.is row.stands.level row.stands.holds c.in_ok-push_to.ensures,
+          c.loop-list.invariant.2 steps row.is row.fits.level row.fits.holds c.in_ok-push_to.ensures,
       (subst AreModestRows (ap rows_of steps) c.loop-list.invariant.3).1,
+      row.stay ∙ c.loop-list.invariant.4,
     )
 
 pub returns-in_err-row-clause-is : goal.returns-in_err-row-clause-is
@@ -44,8 +45,8 @@ returns-clause-is c =
     (rows_done (formula_box c.args.fonts.now c.args.n D) layout_of (λ (b : BoxValue). b.level) (BoxHolds c.args.fonts.now) (lists_of c.args.rows) _ _ c.loop-list.invariant.2
     (no_more _ _ c.loop-list.list-iterator.rest.ok.0 c.in-None.ensures.steps.0))
 
-pub returns-clause-stand : goal.returns-clause-stand
-returns-clause-stand c =
+pub returns-clause-fit : goal.returns-clause-fit
+returns-clause-fit c =
     rw c.from_vec.ensures (record {
       few = omega (arith, c.loop-list.invariant.2.count, lists_few c.args.rows, c.requires.few);
       level = c.loop-list.invariant.2.level_low;

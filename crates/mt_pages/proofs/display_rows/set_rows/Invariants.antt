@@ -1,3 +1,4 @@
+use Rattle.std.proofs.Common.{◌≡◌}
 use Rattle.std.specs.Vec.Iter.{into_iter_items}
 use Rattle.mt_box.specs.Layout.{BoxValue, layout_of}
 use Rattle.mt_formula.specs.Counts.{AreModestRows}
@@ -14,3 +15,4 @@ invariant-loop-list l =
     × (goal.iterator-loop-list).is_finite l.list-iterator
     × RowsSet (formula_box l.fonts l.n D) layout_of (λ (b : BoxValue). b.level) (BoxHolds l.fonts) (lists_of l.fn.rows) (into_iter_items l.list-iterator) l.boxes.items
     × AreModestRows (rows_of (into_iter_items l.list-iterator))
+    × (l.pieces ≡ l.fn.pieces)

@@ -1,25 +1,32 @@
-use Rattle.std.proofs.Common.{to_z, of_z, w64}
-use Rattle.std.specs.Option.{option_map}
+use Rattle.std.proofs.Common.{refl, to_z-of_z, to_z, of_z, w64}
+use Rattle.std.specs.Prelude.{Some, None}
 use Rattle.mt_family.specs.Sets.{sy}
 use Rattle.mt_family.specs.declared.size.Size.TheVariants.{Text}
-use Rattle.mt_box.specs.Rows.{piece_values}
-use Rattle.mt_convert.specs.Holding.{PlaceHolds}
-use Rattle.mt_display.specs.Displays.{number_value}
-use Rattle.mt_display.specs.Lines.{line_values}
-use Rattle.mt_display.proofs.PagePlaces.{display_has}
-use Rattle.mt_pages.proofs.LineLemmas.{number_has}
-use Rattle.mt_pages.proofs.PageLemmas.{places_still, row_has}
+use Rattle.mt_display.specs.Displays.{display_lines}
+use Rattle.mt_display.specs.LineStack.{is_left}
+use Rattle.mt_display.specs.declared.line_stack.LineStack.{LineStack}
+use Rattle.mt_pages.proofs.LineLemmas.{alone_put, both_put}
 use Rattle.mt_pages.proofs.formula_lines.displayed_lines.Goals as goal
 
-pub returns-in-Ok-clause-laid : goal.returns-in-Ok-clause-laid
-returns-in-Ok-clause-laid c =
-    let set = c.args.fonts.now in
-    let row = piece_values c.in_ok-row.row in
-    let number = option_map number_value c.in_ok-number.number in
-    record {
-      few = c.in-Ok.ensures.fits.few;
-      shifts = c.in-Ok.ensures.fits.shifts;
-      hold =
-          display_has (PlaceHolds set) (places_still set) (sy set 6 Text) (to_z w64 (of_z w64 c.args.width)) row number (line_values c.in-Ok.lines)
-          (row_has set row c.in_ok-row.ensures.stands.holds) (number_has set number c.in_ok-number.ensures.stands.holds) c.in-Ok.ensures.is;
-    }
+pub returns-in_default : goal.returns-in_default
+returns-in_default c =
+    let old = c.args.space.now.lines in
+    let mid : LineStack = record { pieces = c.put_row.new.pieces; shifts = old.shifts } in
+    let new = c.put_display.new.self in
+    let w = to_z w64 (of_z w64 c.args.width) in
+    λ lines on.
+    alone_put c.put_for.result c.args.fonts.now c.args.n c.args.list lines old mid new c.len-first.result w c.args.width c.args.tag (to_z-of_z c.ranges.width) c.in_default.is on c.len-first.ensures
+    c.in_ok-put_row.ensures.is refl (λ ls row e s. c.put_for.ensures ls new (display_lines (sy c.args.fonts.now 6 Text) row None w) (c.put_display.ensures ls row e s))
+
+pub returns : goal.returns
+returns c =
+    let old = c.args.space.now.lines in
+    let mid : LineStack = record { pieces = c.put_row.new.pieces; shifts = old.shifts } in
+    let both : LineStack = record { pieces = c.put_row-2.new.pieces; shifts = old.shifts } in
+    let new = c.put_numbered.new.self in
+    let w = to_z w64 (of_z w64 c.args.width) in
+    let left = is_left c.side_of-side.result in
+    λ lines on.
+    both_put c.put_for-2.result c.args.fonts.now c.args.n c.args.list lines old mid new c.len-first.result w c.args.width c.args.tag c.in-Some.tag left both c.len-end.result (to_z-of_z c.ranges.width) c.in-Some.is
+    c.side_of-side.ensures on c.len-first.ensures c.in_ok-put_row.ensures.is refl c.len-end.ensures c.in_ok-put_row-2.ensures.is refl
+    (λ ls row number e f s. c.put_for-2.ensures ls new (display_lines (sy c.args.fonts.now 6 Text) row (Some (record { row = number; left = left })) w) (c.put_numbered.ensures ls row number e f s))

@@ -1,17 +1,14 @@
-use Rattle.std.proofs.Common.{arith}
-use Rattle.mt_box.specs.Rows.{piece_values}
-use Rattle.mt_convert.specs.Holding.{PlaceHolds}
-use Rattle.mt_display.specs.Lines.{line_values}
-use Rattle.mt_display.proofs.PagePlaces.{inline_has}
-use Rattle.mt_pages.proofs.PageLemmas.{places_still, row_has}
+use Rattle.std.proofs.Common.{refl}
+use Rattle.mt_display.specs.Lines.{inline_lines}
+use Rattle.mt_display.specs.declared.line_stack.LineStack.{LineStack}
+use Rattle.mt_pages.proofs.LineLemmas.{text_put}
 use Rattle.mt_pages.proofs.formula_lines.text_lines.Goals as goal
 
-pub returns-in-Ok-clause-laid : goal.returns-in-Ok-clause-laid
-returns-in-Ok-clause-laid c =
-    let set = c.args.fonts.now in
-    let row = piece_values c.in_ok-row.row in
-    record {
-      few = omega (arith, c.in-Ok.ensures.one);
-      shifts = c.in-Ok.ensures.shifts;
-      hold = inline_has (PlaceHolds set) (places_still set) row (line_values c.in-Ok.lines) (row_has set row c.in_ok-row.ensures.stands.holds) c.in-Ok.ensures.is;
-    }
+pub returns : goal.returns
+returns c =
+    let old = c.args.space.now.lines in
+    let mid : LineStack = record { pieces = c.put_row.new.pieces; shifts = old.shifts } in
+    let new = c.put_inline.new.self in
+    λ lines on.
+    text_put c.put_for.result c.args.fonts.now c.args.n c.args.list lines old mid new c.len-first.result on c.len-first.ensures c.in_ok-put_row.ensures.is refl
+    (λ ls row e s. c.put_for.ensures ls new (inline_lines row) (c.put_inline.ensures ls row e s))

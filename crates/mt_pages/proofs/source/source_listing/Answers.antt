@@ -1,15 +1,28 @@
-use Rattle.std.proofs.Common.{List, [], ◌∷◌, ◌++◌, ◌∙◌, ap, subst, sym, to_z-of_z}
+use Rattle.std.proofs.Common.{List, [], ◌∷◌, ◌++◌, ◌∙◌, ap, subst, sym, to_z-of_z, arith}
 use Rattle.std.specs.Prelude.{Result, Ok}
 use Rattle.std.proofs.lemmas.Result.{err_from_is_err_and}
 use Rattle.mt_scaled.specs.Results.{◌>>=◌}
+use Rattle.mt_token.specs.declared.token.Token.{Token}
 use Rattle.mt_box.specs.declared.place.Place.{Place}
 use Rattle.mt_pages.specs.Listing.{listing}
 use Rattle.mt_pages.specs.Pages.{source_pages}
 use Rattle.mt_pages.specs.inner.Texts.{IsListingOf}
+use Rattle.mt_pages.specs.inner.SetPages.{AreTokensOf}
 use Rattle.mt_pages.proofs.SetLemmas.{after_some, few_more, next_none, next_refused, next_some, source_err}
 use Rattle.mt_status.proofs.PureLemmas.{pure_err}
 use Rattle.mt_status.specs.declared.status.Status.{Status}
 use Rattle.mt_pages.proofs.source.source_listing.Goals as goal
+
+pub loop-text-init : goal.loop-text-init
+loop-text-init c = record {
+  so_far = record {
+    pages = [];
+    are = c.in_ok-setter.ensures.is c.args.fonts.now _ c.args.source.now (subst (λ (l : List Token). AreTokensOf c.args.fonts.now c.args.source.now (Ok l)) (sym c.as_slice.ensures) (c.in_ok-tokens.ensures.is c.args.fonts.now));
+    few = omega arith;
+    listing = c.new-text.ensures;
+  };
+  more = c.in_ok-setter.ensures.more;
+}
 
 pub returns-in_err-tokens : goal.returns-in_err-tokens
 returns-in_err-tokens c = record {

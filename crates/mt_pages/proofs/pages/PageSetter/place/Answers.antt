@@ -1,0 +1,11 @@
+use Rattle.std.proofs.Common.{List, subst}
+use Rattle.std.specs.Prelude.{All, IfOk, Result}
+use Rattle.mt_box.specs.declared.place.Place.{Place}
+use Rattle.mt_dvi.specs.Writable.{IsWritable}
+use Rattle.mt_status.specs.declared.status.Status.{Status}
+use Rattle.mt_pages.proofs.pages.PageSetter.place.Goals as goal
+
+pub returns-in-Ok-clause-writable : goal.returns-in-Ok-clause-writable
+returns-in-Ok-clause-writable c =
+    λ fonts page on hold.
+    subst (λ (r : Result (List Place) Status). IfOk r (λ page. All (IsWritable fonts) page)) c.in-Ok.is (c.in_ok-places.ensures.writable fonts page on hold)
