@@ -1,18 +1,17 @@
--- A search in a table whose names are in order.
-use Rattle.std.proofs.Common.{◌≡◌, ℕ, zero, suc, ◌<◌, Bool, true, false, not, ◌&&◌, ◌||◌, List, [], ◌∷◌, map, length, get_or, Option, Some, None, Ok, Err, refl, sym, ◌∙◌, ap, inl, inr, true≢false, Less, Equal, Greater, Ordering, nat_cmp, is_lt, is_eq, zero-le, add-one, arith}
-use Rattle.std.specs.List.{list_all}
-use Rattle.std.specs.List.Sorted.{IsBinarySearchResult, IsNonDecreasingBy}
-use Rattle.std.specs.Ordering.{ordering_index}
-use Rattle.std.specs.Str.{bytes_eq}
+-- A search by slots.
+use Rattle.std.proofs.Common.{◌≡◌, ℕ, zero, suc, ◌+◌, ◌-◌, ◌<◌, ◌≤◌, Bool, true, false, ◌&&◌, List, [], ◌∷◌, map, length, get_or, take, drop, Option, Some, None, refl, sym, ◌∙◌, ap, true≢false, arith}
+use Rattle.std.specs.List.{list_all, range_with_len, take-map, drop-map}
 use Rattle.std.specs.Map.{lookup}
-use Rattle.std.specs.Cmp.Lexicographic.{slice_cmp, nat_list_cmp_total, texts_ties}
-use Rattle.std.proofs.lemmas.Bool.{cases_lt, false_from_ne_true}
+use Rattle.std.specs.Option.{is_some}
+use Rattle.std.specs.Prelude.{nat_le, if◌then◌else◌}
+use Rattle.std.specs.Str.{bytes_eq}
+use Rattle.std.proofs.lemmas.Bool.{false_from_ne_true}
+use Rattle.std.proofs.lemmas.Bool.Decides.{nat_tests}
 use Rattle.std.proofs.lemmas.Map.Entries.{lookup_tail}
 use Rattle.std.proofs.lemmas.Slice.Eq.{bytes_eq-Decides}
-use Rattle.std.proofs.lemmas.List.Sorted.{searchable_from_sorted}
 use Rattle.mt_plain.specs.declared.meaning.Meaning.{Meaning}
-use Rattle.mt_plain.specs.declared.meaning.Meaning.TheVariants.{MathChar}
-use Rattle.mt_plain.specs.Names.{NameRow, row_name, in_order, is_in_order_after, has_name, Finds, IsIndex, control, meanings}
+use Rattle.mt_plain.specs.Names.{NameRow, row_name, control, meanings}
+use Rattle.mt_plain.specs.Buckets.{AreBuckets, in_rows, is_slot, rows_in, slot_of, start_of}
 
 pub first : (a b : Bool) → (a && b) ≡ true → a ≡ true
 first true b e = refl
@@ -22,73 +21,72 @@ pub second : (a b : Bool) → (a && b) ≡ true → b ≡ true
 second true b e = e
 second false b e = absurd (true≢false (sym e))
 
-not_true : (b : Bool) → not b ≡ true → b ≡ false
-not_true true e = absurd (true≢false (sym e))
-not_true false e = refl
-
-neither : (a b : Bool) → (a ≡ true → ⊥) → b ≡ false → (a || b) ≡ false
-neither true b wrong e = absurd (wrong refl)
-neither false b wrong e = e
-
 module _ {A : Type 0} where
-  -- the default does not matter within a list
-  same_at : (xs : List A) (i : ℕ) (d e : A) → i < length xs → get_or xs i d ≡ get_or xs i e
-  same_at [] i d e within = absurd (omega arith)
-  same_at (x ∷ xs) zero d e within = refl
-  same_at (x ∷ xs) (suc i) d e within = same_at xs i d e (omega arith)
-
   pub mapped_at : {B : Type 0} (f : A → B) (xs : List A) (i : ℕ) (d : A) (e : B) → i < length xs → get_or (map f xs) i e ≡ f (get_or xs i d)
   mapped_at f [] i d e within = absurd (omega arith)
   mapped_at f (x ∷ xs) zero d e within = refl
   mapped_at f (x ∷ xs) (suc i) d e within = mapped_at f xs i d e (omega arith)
 
-abbrev Adjacent : List NameRow → Type 0
-Adjacent rows = (k : ℕ) (d : NameRow) → suc k < length rows → is_lt (slice_cmp nat_cmp (row_name (get_or rows (suc k) d)) (row_name (get_or rows k d))) ≡ false
+-- each of these rows has the meaning of its name
+abbrev AreRight : List NameRow → Type 0
+AreRight rows = map (λ (row : NameRow). control (row_name row)) rows ≡ map (λ (row : NameRow). Some row.1) rows
 
-adjacent_after : (row : NameRow) (rows : List NameRow) → is_in_order_after (row_name row) (map row_name rows) ≡ true → Adjacent (row ∷ rows)
-adjacent_after row [] h k d within = absurd (omega arith)
-adjacent_after row (next ∷ rows) h zero d within = not_true _ (first _ _ h)
-adjacent_after row (next ∷ rows) h (suc k) d within = adjacent_after next rows (second _ _ h) k d (omega arith)
+some_apart : {A : Type 0} (a : A) → Some a ≡ None → ⊥
+some_apart a e = true≢false (ap is_some e)
 
-adjacent : (rows : List NameRow) → in_order (map row_name rows) ≡ true → Adjacent rows
-adjacent [] h k d within = absurd (omega arith)
-adjacent (row ∷ rows) h k d within = adjacent_after row rows h k d within
+heads : {A : Type 0} (x y : A) (xs ys : List A) → x ∷ xs ≡ y ∷ ys → x ≡ y
+heads x y xs ys e = ap (λ l. get_or l 0 x) e
 
-has_none : (name : List ℕ) (rows : List NameRow) → ((k : ℕ) (d : NameRow) → k < length rows → bytes_eq (row_name (get_or rows k d)) name ≡ true → ⊥) → has_name name rows ≡ false
-has_none name [] wrong = refl
-has_none name (row ∷ rows) wrong = neither _ _ (wrong 0 row (omega arith)) (has_none name rows (λ k d within. wrong (suc k) d (omega arith)))
+tails : {A : Type 0} (x y : A) (xs ys : List A) → x ∷ xs ≡ y ∷ ys → xs ≡ ys
+tails x y xs ys e = ap (λ l. drop 1 l) e
 
-module _ (table : List NameRow) (name : List ℕ) where
-  abbrev order : NameRow → Ordering
-  order row = slice_cmp nat_cmp (row_name row) name
-
-  rises : in_order (map row_name table) ≡ true → IsNonDecreasingBy (λ (row : NameRow). ordering_index (order row)) table
-  rises h = searchable_from_sorted nat_list_cmp_total row_name table name (λ k d low within. rw add-one (adjacent table h k d (omega arith)))
-
-  same_from_equal : (row : NameRow) → order row ≡ Equal → row_name row ≡ name
-  same_from_equal row h = (bytes_eq-Decides (row_name row) name).0 (texts_ties (row_name row) name ∙ ap is_eq h)
-
-  apart : (row : NameRow) (o : Ordering) → is_eq o ≡ false → order row ≡ o → bytes_eq (row_name row) name ≡ true → ⊥
-  apart row o unequal h same = true≢false (sym same ∙ texts_ties (row_name row) name ∙ ap is_eq h ∙ unequal)
-
-  pub found : (i : ℕ) → i < length table → IsBinarySearchResult order table (Ok i) → (d : NameRow) → Finds (Some (get_or table i d).1) table name
-  found i within at d = (i, within, λ e. (same_from_equal (get_or table i e) (at e), ap (λ (row : NameRow). row.1) (same_at table i e d within)))
-
-  pub missed : in_order (map row_name table) ≡ true → (i : ℕ) → IsBinarySearchResult order table (Err i) → Finds None table name
-  missed h i parted = has_none name table (λ k d inside same. elim (cases_lt k i) [
-    | inl below ↦ apart (get_or table k d) Less refl ((parted (rises h)).0 k d (zero-le) below) same
-    | inr above ↦ apart (get_or table k d) Greater refl ((parted (rises h)).1 k d above inside) same
-  ])
+-- what is found in right rows is what the name means
+found_means : (rows : List NameRow) (name : List ℕ) (m : Meaning) → AreRight rows → in_rows rows name ≡ Some m → control name ≡ Some m
+found_means [] name m right found = absurd (some_apart m (sym found))
+found_means (row ∷ rows) name m right found = by_test (found_means rows name m (tails _ _ _ _ right)) (bytes_eq (row_name row) name) refl found
+  where
+    by_test : (in_rows rows name ≡ Some m → control name ≡ Some m) → (same : Bool) → bytes_eq (row_name row) name ≡ same → (if same then Some row.1 else in_rows rows name) ≡ Some m → control name ≡ Some m
+    by_test later true same found = ap control (sym ((bytes_eq-Decides (row_name row) name).0 same)) ∙ heads _ _ _ _ right ∙ found
+    by_test later false same found = later found
 
 -- what an index has for a name is what the name means
-module _ (table : List NameRow) (name : List ℕ) where
-  none_means : has_name name table ≡ false → (ms : List (List ℕ × Meaning)) → list_all (λ (e : List ℕ × Meaning). has_name e.0 table) ms ≡ true → lookup (λ (n : List ℕ). bytes_eq name n) ms ≡ None
-  none_means none [] all = refl
-  none_means none (e ∷ ms) all = lookup_tail (λ (n : List ℕ). bytes_eq name n) e ms (false_from_ne_true _ (λ same. true≢false (sym (first _ _ all) ∙ ap (λ n. has_name n table) (sym ((bytes_eq-Decides name e.0).0 same)) ∙ none))) ∙ none_means none ms (second _ _ all)
+module _ (rows : List NameRow) (starts : List ℕ) (name : List ℕ) where
+  abbrev found_in : List ℕ → Option Meaning
+  found_in n = in_rows (rows_in rows starts (slot_of n)) n
 
-  pub means : IsIndex table → (r : Option Meaning) → Finds r table name → r ≡ control name
+  none_means : found_in name ≡ None → (ms : List (List ℕ × Meaning)) → list_all (λ (e : List ℕ × Meaning). is_some (found_in e.0)) ms ≡ true → lookup (λ (n : List ℕ). bytes_eq name n) ms ≡ None
+  none_means none [] all = refl
+  none_means none (e ∷ ms) all = lookup_tail (λ (n : List ℕ). bytes_eq name n) e ms (false_from_ne_true _ (λ same. true≢false (sym (first _ _ all) ∙ ap (λ n. is_some (found_in n)) (sym ((bytes_eq-Decides name e.0).0 same)) ∙ ap is_some none))) ∙ none_means none ms (second _ _ all)
+
+  part_right : (from count : ℕ) → AreRight rows → AreRight (take count (drop from rows))
+  part_right from count right =
+      sym (take-map (λ (row : NameRow). control (row_name row)) count (drop from rows))
+      ∙ ap (take count) (sym (drop-map (λ (row : NameRow). control (row_name row)) from rows) ∙ ap (drop from) right ∙ drop-map (λ (row : NameRow). Some row.1) from rows)
+      ∙ take-map (λ (row : NameRow). Some row.1) count (drop from rows)
+
+  means_by : AreBuckets rows starts → (found : Option Meaning) → found_in name ≡ found → found ≡ control name
   unfolding control
-  means index None none = sym (none_means none meanings index.whole)
-  means index (Some m) (k, within, at) =
-      let d : NameRow = ([], MathChar 0) in
-      sym (ap control (sym (at d).0) ∙ sym (mapped_at (λ (row : NameRow). control (row_name row)) table k d None within) ∙ ap (λ ms. get_or ms k None) index.right ∙ mapped_at (λ (row : NameRow). Some row.1) table k d None within ∙ ap (λ x. Some x) (at d).1)
+  means_by index None e = sym (none_means e meanings index.whole)
+  means_by index (Some m) e =
+      let from = start_of starts (slot_of name) in
+      sym (found_means (rows_in rows starts (slot_of name)) name m (part_right from (start_of starts (slot_of name + 1) - from) index.right) e)
+
+  pub means : AreBuckets rows starts → found_in name ≡ control name
+  means index = means_by index (found_in name) refl
+
+all_at : (p : ℕ → Bool) (n a i : ℕ) → list_all p (range_with_len a n) ≡ true → i < n → p (a + i) ≡ true
+all_at p zero a i h l = absurd (omega (arith, l))
+all_at p (suc n) a zero h l = let e : a + 0 ≡ a = omega arith in ap p e ∙ first _ _ h
+all_at p (suc n) a (suc i) h l = let e : a + suc i ≡ a + 1 + i = omega arith in ap p e ∙ all_at p n (a + 1) i (second _ _ h) (omega (arith, l))
+
+slot_fits : (rows : List NameRow) (starts : List ℕ) (slot : ℕ) → AreBuckets rows starts → slot < 512 → is_slot rows starts slot ≡ true
+slot_fits rows starts slot index l = let e : slot ≡ 0 + slot = omega arith in ap (is_slot rows starts) e ∙ all_at (is_slot rows starts) 512 0 slot index.slots l
+
+le_from : (a b : ℕ) → nat_le a b ≡ true → a ≤ b
+le_from a b h = grind (arith, nat_tests, h)
+
+pub slot_rises : (rows : List NameRow) (starts : List ℕ) (slot : ℕ) → AreBuckets rows starts → slot < 512 → start_of starts slot ≤ start_of starts (slot + 1)
+slot_rises rows starts slot index l = le_from _ _ (first _ _ (slot_fits rows starts slot index l))
+
+pub slot_within : (rows : List NameRow) (starts : List ℕ) (slot : ℕ) → AreBuckets rows starts → slot < 512 → start_of starts (slot + 1) ≤ length rows
+slot_within rows starts slot index l = le_from _ _ (second _ _ (slot_fits rows starts slot index l))

@@ -2,8 +2,10 @@
 pub mod MathNames
 -- the commands of formulas, by their names
 pub mod Commands
--- what names mean in a formula, and a table in which they are searched
+-- what names mean in a formula
 pub mod Names
+-- a table of names by slots
+pub mod Buckets
 -- the codes of characters
 pub mod Characters
 -- what a code may be

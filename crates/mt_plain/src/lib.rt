@@ -5,6 +5,7 @@
 mod characters;
 mod codes;
 mod error;
+mod lexicon;
 mod macro_texts;
 mod macros;
 mod meaning;

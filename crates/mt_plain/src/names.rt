@@ -1,60 +1,97 @@
 //! What names mean.
-ghost use Rattle.std.specs.Prelude.{◌≡◌, true, map, []};
-ghost use Rattle.std.specs.Ordering.{nat_cmp};
-ghost use Rattle.std.specs.Cmp.Lexicographic.{slice_cmp};
-ghost use Rattle.mt_plain.specs.Names.{control, row_name, in_order, Finds};
+ghost use Rattle.std.specs.Prelude.{◌≡◌, ◌<◌, ◌≤◌, ◌-◌, get_or, length, take, drop};
+ghost use Rattle.std.specs.Str.{bytes_eq};
+ghost use Rattle.mt_plain.specs.Names.{control, row_name};
+ghost use Rattle.mt_plain.specs.Buckets.{AreBuckets, in_rows, rows_in, slot_of, start_of};
 
 use crate::meaning::Meaning;
-use crate::meanings::{NameRow, meanings};
-use std::cmp::Ordering;
+use crate::meanings::{NameIndex, NameRow, name_index};
 
-// How nothing stands to the rest of a name.
-fn compare_nothing(rest: &[u8]) -> Ordering
-    ensures { result ≡ slice_cmp nat_cmp [] rest.now }
-{
-    match rest {
-        [] => Ordering::Equal,
-        _ => Ordering::Less,
-    }
-}
-
-// How the name of a row stands to a name. Most names part at the first bytes, so the row's is not
-// sought for its end before.
-fn compare_row(row: &NameRow, name: &[u8]) -> Ordering
-    ensures { result ≡ slice_cmp nat_cmp (row_name row.now) name.now }
+// Whether a row has this name.
+fn is_row(row: &NameRow, name: &[u8]) -> bool
+    ensures { result ≡ bytes_eq (row_name row.now) name.now }
 {
     let mut bytes: &[u8] = &row.0;
     let mut left = name;
     while let [byte, rest @ ..] = bytes {
         if *byte == b' ' {
-            return compare_nothing(left);
+            return left.is_empty();
         }
         match left {
             [first, after @ ..] if *first == *byte => {
                 bytes = rest;
                 left = after;
             }
-            [first, ..] => return byte.cmp(first),
-            [] => return Ordering::Greater,
+            _ => return false,
         }
     }
-    compare_nothing(left)
+    left.is_empty()
 }
 
-// What a table has for a name.
-fn meaning_in(table: &[NameRow], name: &[u8]) -> Option<Meaning>
-    requires { in_order (map row_name table.now) ≡ true }
-    ensures { Finds result table.now name.now }
+// What rows have for a name.
+fn in_rows(rows: &[NameRow], name: &[u8]) -> Option<Meaning>
+    ensures { result ≡ in_rows rows.now name.now }
 {
-    match table.binary_search_by(|row| compare_row(row, name)) {
-        Ok(at) => Some(table[at].1),
-        Err(_) => None,
+    for row in rows {
+        if is_row(row, name) {
+            return Some(row.1);
+        }
     }
+    None
+}
+
+// A byte of a name, 0 past its end.
+fn byte_at(name: &[u8], index: usize) -> usize
+    ensures is { result ≡ get_or name.now index 0 }
+    ensures small { result < 256 }
+{
+    match name.get(index) {
+        Some(byte) => usize::from(*byte),
+        None => 0,
+    }
+}
+
+// The slot of a name.
+fn slot_of(name: &[u8]) -> usize
+    ensures is { result ≡ slot_of name.now }
+    ensures small { result < 512 }
+{
+    (29 * byte_at(name, 0)
+        + 3 * byte_at(name, 1)
+        + 101 * byte_at(name, name.len().saturating_sub(1))
+        + 67 * name.len().min(31))
+        % 512
+}
+
+// How many rows there are before those of a slot.
+fn start_of(index: NameIndex, slot: usize) -> usize
+    requires index { AreBuckets index.rows.now index.starts.now }
+    requires slot { slot ≤ 512 }
+    ensures { result ≡ start_of index.starts.now slot }
+{
+    usize::from(index.starts[slot])
+}
+
+fn rows_between(rows: &'static [NameRow], from: usize, to: usize) -> &'static [NameRow]
+    requires order { from ≤ to }
+    requires within { to ≤ length rows.now }
+    ensures { result.now ≡ take (to - from) (drop from rows.now) }
+{
+    &rows[from..to]
+}
+
+// The rows of a slot.
+fn rows_in(index: NameIndex, slot: usize) -> &'static [NameRow]
+    requires index { AreBuckets index.rows.now index.starts.now }
+    requires slot { slot < 512 }
+    ensures { result.now ≡ rows_in index.rows.now index.starts.now slot }
+{
+    rows_between(index.rows, start_of(index, slot), start_of(index, slot + 1))
 }
 
 /// What a name means.
 pub fn meaning_of(name: &[u8]) -> Option<Meaning>
     ensures { result ≡ control name.now }
 {
-    meaning_in(meanings(), name)
+    in_rows(rows_in(name_index(), slot_of(name)), name)
 }
