@@ -25,11 +25,11 @@ abbrev pub definition_value : LentDefinition → MacroDefinition
 definition_value d = record { name = d.name.now; params = d.params; body = d.body.now }
 
 -- the result is what is read
-abbrev pub MeetsOutside : {A : Type 0} → Result (Scanned A) OutsideFault → ReadOr OutsideCause A → Type 0
+abbrev pub MeetsOutside : {A : Type 0} → Result (Scanned A Token) OutsideFault → ReadOr OutsideCause A → Type 0
 MeetsOutside (Ok part) read = read ≡ Got part.value part.rest.now
 MeetsOutside (Err fault) read = read ≡ Fault fault.cause fault.left
 
-abbrev pub MeetsDefinition : Result (Scanned LentDefinition) OutsideFault → ReadOr OutsideCause MacroDefinition
+abbrev pub MeetsDefinition : Result (Scanned LentDefinition Token) OutsideFault → ReadOr OutsideCause MacroDefinition
     → Type 0
 MeetsDefinition (Ok part) read = read ≡ Got (definition_value part.value) part.rest.now
 MeetsDefinition (Err fault) read = read ≡ Fault fault.cause fault.left

@@ -1,5 +1,5 @@
 -- What readers of parts answer.
-use Rattle.std.specs.Prelude.{◌≡◌, ℕ, min, List, [], ◌∷◌, Option, Some, None, Result, Ok, Err}
+use Rattle.std.specs.Prelude.{◌≡◌, ℕ, min, map, List, [], ◌∷◌, Option, Some, None, Result, Ok, Err}
 use Rattle.std.specs.Borrow.{Bor}
 use Rattle.mt_token.specs.declared.token.Token.{Token}
 use Rattle.mt_scan.specs.Limits.{size_cap}
@@ -9,9 +9,14 @@ use Rattle.mt_scan.specs.Parts.{Read, Got, Fault, NoTurn}
 use Rattle.mt_scan.specs.Numbers.{Whole, digit_of, at_digit}
 
 -- the result is what is read
-abbrev pub Meets : {A : Type 0} → Result (Scanned A) FaultFields → Read A → Type 0
+abbrev pub Meets : {A : Type 0} → Result (Scanned A Token) FaultFields → Read A → Type 0
 Meets (Ok part) read = read ≡ Got part.value part.rest.now
 Meets (Err fault) read = read ≡ Fault fault.cause fault.left
+
+-- the same where items are left, each of which stands for a token
+abbrev pub MeetsBy : {A T : Type 0} → (T → Token) → Result (Scanned A T) FaultFields → Read A → Type 0
+MeetsBy token (Ok part) read = read ≡ Got part.value (map token part.rest.now)
+MeetsBy token (Err fault) read = read ≡ Fault fault.cause fault.left
 
 -- the same, where all values above 2^31 - 1 count as 2^31
 abbrev pub capped : Read ℕ → Read ℕ
@@ -28,3 +33,8 @@ capped_digits base size (t ∷ rest) = at_digit (digit_of base t) base size (t �
 abbrev pub IsAfter : Option (Bor (List Token)) → Option (List Token) → Type 0
 IsAfter None after = after ≡ None
 IsAfter (Some rest) after = after ≡ Some rest.now
+
+-- the same of items that are lent, each of which stands for a token
+abbrev pub IsAfterBy : {T : Type 0} → (T → Token) → Option (Bor (List T)) → Option (List Token) → Type 0
+IsAfterBy token None after = after ≡ None
+IsAfterBy token (Some rest) after = after ≡ Some (map token rest.now)

@@ -1,34 +1,39 @@
 //! Delimiters.
-ghost use Rattle.std.specs.Prelude.{◌≡◌, ◌<◌, ◌≤◌, length, IfOk};
+ghost use Rattle.std.specs.Prelude.{◌≡◌, ◌+◌, ◌^◌, ◌<◌, ◌≤◌, length, IfOk, map};
 ghost use Rattle.mt_scan.specs.Delimiters.{character_delimiter, code_of_kind};
 ghost use Rattle.mt_scan.specs.Delimiters.{delimiter_by_code, delimiter_here, scan_delimiter};
-ghost use Rattle.mt_scan.specs.Meets.{Meets};
+ghost use Rattle.mt_scan.specs.Meets.{MeetsBy};
 
 use crate::fault::{Fault, ReadCause};
 use crate::numbers::number_to;
-use crate::role::{Role, role_of};
+use crate::role::Role;
+use crate::roles::Roles;
 use crate::scanned::Scanned;
 use crate::spaces::after_blanks;
 use crate::symbols::delim_of;
-use mt_plain::Codes;
 use mt_rules::Delim;
-use mt_token::{Token, TokenKind};
+use mt_token::{LentKind, Lexicon};
 
 /// The greatest number that `\delimiter` and `\radical` take.
 pub const MAX_DELIMITER: u32 = 134_217_727;
 
-fn code_of_kind(codes: &Codes, token: &Token) -> Option<u32>
-    ensures { result ≡ code_of_kind codes.now token.now.kind }
+fn code_of_kind<T, R: Roles<T>>(tables: &R, token: &T) -> Option<u32>
+    ensures { result ≡ code_of_kind (R.codes tables.now) (R.token tables.now token.now).kind }
 {
-    match &token.kind {
-        TokenKind::Control(_) => None,
-        TokenKind::Char(c) => codes.delcode(*c),
-        TokenKind::Space => None,
+    match tables.lent(token) {
+        LentKind::Control(_) => None,
+        LentKind::Char(c) => tables.delcode(c),
+        LentKind::Space => None,
     }
 }
 
-fn delimiter_by_code<'a>(code: Option<u32>, rest: &'a [Token]) -> Result<Scanned<'a, Delim>, Fault>
-    ensures is { Meets result (delimiter_by_code code rest.now) }
+fn delimiter_by_code<'a, T, R: Lexicon<T>>(
+    tables: &R,
+    code: Option<u32>,
+    rest: &'a [T],
+) -> Result<Scanned<'a, Delim, T>, Fault>
+    requires { length rest.now + 1 < 2 ^ 64 }
+    ensures is { MeetsBy (R.token tables.now) result (delimiter_by_code code (map (R.token tables.now) rest.now)) }
     ensures falls { IfOk result (λ part. length part.rest.now ≤ length rest.now) }
 {
     match code {
@@ -45,32 +50,36 @@ fn delimiter_by_code<'a>(code: Option<u32>, rest: &'a [Token]) -> Result<Scanned
 
 /// The delimiter of a character, as the token before these stands for it. The fault is at that token where the
 /// character has no delimiter code.
-pub fn character_delimiter<'a>(
-    codes: &Codes,
+pub fn character_delimiter<'a, T, R: Roles<T>>(
+    tables: &R,
     c: u8,
-    after: &'a [Token],
-) -> Result<Scanned<'a, Delim>, Fault>
-    requires { c < 128 }
-    ensures is { Meets result (character_delimiter codes.now c after.now) }
+    after: &'a [T],
+) -> Result<Scanned<'a, Delim, T>, Fault>
+    requires character { c < 128 }
+    requires after { length after.now + 1 < 2 ^ 64 }
+    ensures is { MeetsBy (R.token tables.now) result (character_delimiter (R.codes tables.now) c (map (R.token tables.now) after.now)) }
     ensures falls { IfOk result (λ part. length part.rest.now ≤ length after.now) }
 {
-    delimiter_by_code(codes.delcode(c), after)
+    delimiter_by_code(tables, tables.delcode(c), after)
 }
 
-fn delimiter_here<'a>(codes: &Codes, tokens: &'a [Token]) -> Result<Scanned<'a, Delim>, Fault>
-    ensures is { Meets result (delimiter_here codes.now tokens.now) }
+fn delimiter_here<'a, T, R: Roles<T>>(
+    tables: &R,
+    tokens: &'a [T],
+) -> Result<Scanned<'a, Delim, T>, Fault>
+    ensures is { MeetsBy (R.token tables.now) result (delimiter_here (R.codes tables.now) (map (R.token tables.now) tokens.now)) }
     ensures falls { IfOk result (λ part. length part.rest.now ≤ length tokens.now) }
 {
     match tokens {
-        [token, after @ ..] => match role_of(codes, token) {
+        [token, after @ ..] => match tables.role_of(token) {
             Role::DelimiterWord => {
-                let code = number_to(MAX_DELIMITER, after)?;
+                let code = number_to(tables, MAX_DELIMITER, after)?;
                 Ok(Scanned {
                     value: delim_of(code.value),
                     rest: code.rest,
                 })
             }
-            _ => delimiter_by_code(code_of_kind(codes, token), after),
+            _ => delimiter_by_code(tables, code_of_kind(tables, token), after),
         },
         [] => Err(Fault {
             cause: ReadCause::BadDelimiter,
@@ -80,9 +89,12 @@ fn delimiter_here<'a>(codes: &Codes, tokens: &'a [Token]) -> Result<Scanned<'a, 
 }
 
 /// Spaces and `\relax`, and then a character with a delimiter code, or `\delimiter` and a number.
-pub fn scan_delimiter<'a>(codes: &Codes, tokens: &'a [Token]) -> Result<Scanned<'a, Delim>, Fault>
-    ensures is { Meets result (scan_delimiter codes.now tokens.now) }
+pub fn scan_delimiter<'a, T, R: Roles<T>>(
+    tables: &R,
+    tokens: &'a [T],
+) -> Result<Scanned<'a, Delim, T>, Fault>
+    ensures is { MeetsBy (R.token tables.now) result (scan_delimiter (R.codes tables.now) (map (R.token tables.now) tokens.now)) }
     ensures falls { IfOk result (λ part. length part.rest.now ≤ length tokens.now) }
 {
-    delimiter_here(codes, after_blanks(codes, tokens))
+    delimiter_here(tables, after_blanks(tables, tokens))
 }

@@ -6,18 +6,24 @@ mod decimals;
 mod delimiters;
 mod dimensions;
 mod fault;
+pub mod items;
 mod numbers;
 mod role;
+mod roles;
 mod scanned;
 mod spaces;
 mod symbols;
+mod tokens;
 mod units;
 
-pub use delimiters::{MAX_DELIMITER, character_delimiter, scan_delimiter};
-pub use dimensions::{dimension, glue};
+pub use delimiters::MAX_DELIMITER;
 pub use fault::{Fault, ReadCause};
-pub use numbers::{MAX_MATH_CHAR, number_to, whole_number};
+pub use numbers::MAX_MATH_CHAR;
 pub use role::{Amount, Bar, FieldKind, Preamble, Role, Side, Simple, role_of};
+pub use roles::Roles;
 pub use scanned::Scanned;
-pub use spaces::{after_blanks, after_spaces};
 pub use symbols::{class_of, code_symbol, current_family, delim_of, null_delim};
+pub use tokens::{
+    after_blanks, after_spaces, character_delimiter, dimension, glue, number_to, scan_delimiter,
+    whole_number,
+};

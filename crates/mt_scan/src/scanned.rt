@@ -1,12 +1,11 @@
-//! What is scanned, and the tokens after it.
-
+//! What is scanned, and the items after it.
 use mt_token::Token;
 
-/// A part that was read, and the tokens after it.
+/// A part that was read, and the items after it. An item is a token, or stands for one.
 #[derive(Drop)]
-pub struct Scanned<'a, T> {
+pub struct Scanned<'a, V, T = Token> {
     /// The part.
-    pub value: T,
-    /// The tokens after it.
-    pub rest: &'a [Token],
+    pub value: V,
+    /// The items after it.
+    pub rest: &'a [T],
 }

@@ -1,19 +1,19 @@
 //! Spaces between tokens.
-ghost use Rattle.std.specs.Prelude.{◌≡◌, ◌≤◌, length};
+ghost use Rattle.std.specs.Prelude.{◌≡◌, ◌≤◌, length, map};
 ghost use Rattle.mt_scan.specs.Parts.{after_spaces, after_one_space, after_blanks};
 
-use crate::role::{Role, role_of};
-use mt_plain::Codes;
-use mt_token::{Token, is_space};
+use crate::role::Role;
+use crate::roles::Roles;
+use mt_token::Lexicon;
 
 /// The tokens after Spaces.
-pub fn after_spaces<'a>(tokens: &'a [Token]) -> &'a [Token]
-    ensures is { result.now ≡ after_spaces tokens.now }
+pub fn after_spaces<'a, T, R: Lexicon<T>>(tables: &R, tokens: &'a [T]) -> &'a [T]
+    ensures is { map (R.token tables.now) result.now ≡ after_spaces (map (R.token tables.now) tokens.now) }
     ensures falls { length result.now ≤ length tokens.now }
 {
     let mut rest = tokens;
     while let [token, after @ ..] = rest {
-        if !is_space(token) {
+        if !tables.is_blank(token) {
             return rest;
         }
         rest = after;
@@ -22,24 +22,24 @@ pub fn after_spaces<'a>(tokens: &'a [Token]) -> &'a [Token]
 }
 
 /// The tokens after one Space, where one stands.
-pub fn after_one_space<'a>(tokens: &'a [Token]) -> &'a [Token]
-    ensures is { result.now ≡ after_one_space tokens.now }
+pub fn after_one_space<'a, T, R: Lexicon<T>>(tables: &R, tokens: &'a [T]) -> &'a [T]
+    ensures is { map (R.token tables.now) result.now ≡ after_one_space (map (R.token tables.now) tokens.now) }
     ensures falls { length result.now ≤ length tokens.now }
 {
     match tokens {
-        [token, after @ ..] if is_space(token) => after,
+        [token, after @ ..] if tables.is_blank(token) => after,
         _ => tokens,
     }
 }
 
 /// The tokens after Spaces and `\relax`.
-pub fn after_blanks<'a>(codes: &Codes, tokens: &'a [Token]) -> &'a [Token]
-    ensures is { result.now ≡ after_blanks codes.now tokens.now }
+pub fn after_blanks<'a, T, R: Roles<T>>(tables: &R, tokens: &'a [T]) -> &'a [T]
+    ensures is { map (R.token tables.now) result.now ≡ after_blanks (R.codes tables.now) (map (R.token tables.now) tokens.now) }
     ensures falls { length result.now ≤ length tokens.now }
 {
     let mut rest = tokens;
     while let [token, after @ ..] = rest {
-        match role_of(codes, token) {
+        match tables.role_of(token) {
             Role::Blank => rest = after,
             _ => return rest,
         }

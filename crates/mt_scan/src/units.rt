@@ -1,17 +1,17 @@
 //! Units of length.
-ghost use Rattle.std.specs.Prelude.{◌≡◌, ◌≤◌, ◌<◌, ◌^◌, pos, ◌+ℤ◌, ◌*ℤ◌, ◌≤ℤ◌, length, IfOk};
+ghost use Rattle.std.specs.Prelude.{◌≡◌, ◌≤◌, ◌<◌, ◌^◌, pos, ◌+ℤ◌, ◌*ℤ◌, ◌≤ℤ◌, length, IfOk, map};
 ghost use Rattle.mt_scaled.specs.Number.{Within, max_dimen};
 ghost use Rattle.mt_scaled.specs.Units.{factor_of, unit_length, font_length};
 ghost use Rattle.mt_scan.specs.Dimensions.{small_letter, letter, measures, begins_measure, measure_of};
 ghost use Rattle.mt_scan.specs.Dimensions.{after_first_letter, measure, by_factor, length_of};
-ghost use Rattle.mt_scan.specs.Meets.{Meets};
+ghost use Rattle.mt_scan.specs.Meets.{MeetsBy};
 
 use crate::decimals::{Decimal, bad_dimension};
 use crate::fault::Fault;
 use crate::scanned::Scanned;
 use crate::spaces::after_one_space;
 use mt_scaled::{Unit, Units, unit_factor, xn_over_d};
-use mt_token::{Token, character_code};
+use mt_token::Lexicon;
 
 fn small_letter(c: u8) -> u8
     ensures { result ≡ small_letter c }
@@ -24,10 +24,10 @@ fn small_letter(c: u8) -> u8
 }
 
 /// The letter that a token is, as a small one; 0 where it is none.
-pub fn letter(token: &Token) -> u8
-    ensures { result ≡ letter token.now }
+pub fn letter<T, R: Lexicon<T>>(tables: &R, token: &T) -> u8
+    ensures { result ≡ letter (R.token tables.now token.now) }
 {
-    small_letter(character_code(token))
+    small_letter(tables.code(token))
 }
 
 fn begins_measure(mu: bool, a: u8) -> bool
@@ -65,15 +65,20 @@ fn measure_of(mu: bool, a: u8, b: u8) -> Option<Unit>
     }
 }
 
-fn after_first_letter<'a>(mu: bool, a: u8, tokens: &'a [Token]) -> Result<Scanned<'a, Unit>, Fault>
-    ensures is { Meets result (after_first_letter mu a tokens.now) }
+fn after_first_letter<'a, T, R: Lexicon<T>>(
+    tables: &R,
+    mu: bool,
+    a: u8,
+    tokens: &'a [T],
+) -> Result<Scanned<'a, Unit, T>, Fault>
+    ensures is { MeetsBy (R.token tables.now) result (after_first_letter mu a (map (R.token tables.now) tokens.now)) }
     ensures falls { IfOk result (λ part. length part.rest.now ≤ length tokens.now) }
 {
     match tokens {
-        [token, after @ ..] => match measure_of(mu, a, letter(token)) {
+        [token, after @ ..] => match measure_of(mu, a, letter(tables, token)) {
             Some(unit) => Ok(Scanned {
                 value: unit,
-                rest: after_one_space(after),
+                rest: after_one_space(tables, after),
             }),
             None => Err(bad_dimension(tokens.len())),
         },
@@ -82,15 +87,19 @@ fn after_first_letter<'a>(mu: bool, a: u8, tokens: &'a [Token]) -> Result<Scanne
 }
 
 /// A unit of two letters: `mu` where math units are asked for, and elsewhere another.
-pub fn measure<'a>(mu: bool, tokens: &'a [Token]) -> Result<Scanned<'a, Unit>, Fault>
-    ensures is { Meets result (measure mu tokens.now) }
+pub fn measure<'a, T, R: Lexicon<T>>(
+    tables: &R,
+    mu: bool,
+    tokens: &'a [T],
+) -> Result<Scanned<'a, Unit, T>, Fault>
+    ensures is { MeetsBy (R.token tables.now) result (measure mu (map (R.token tables.now) tokens.now)) }
     ensures falls { IfOk result (λ part. length part.rest.now ≤ length tokens.now) }
 {
     match tokens {
         [token, after @ ..] => {
-            let a = letter(token);
+            let a = letter(tables, token);
             if begins_measure(mu, a) {
-                after_first_letter(mu, a, after)
+                after_first_letter(tables, mu, a, after)
             } else {
                 Err(bad_dimension(tokens.len()))
             }

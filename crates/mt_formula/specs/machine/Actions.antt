@@ -26,7 +26,7 @@ spent Stop = 0
 spent _ = 1
 
 -- the result is what is read, or there is no item
-abbrev pub MeetsUnlessStop : Result (Option (Scanned Action)) FaultFields → Read Action → List Token → Type 0
+abbrev pub MeetsUnlessStop : Result (Option (Scanned Action Token)) FaultFields → Read Action → List Token → Type 0
 MeetsUnlessStop (Ok (Some part)) read tokens = read ≡ Got part.value part.rest.now
 MeetsUnlessStop (Ok None) read tokens = read ≡ Got Stop tokens
 MeetsUnlessStop (Err fault) read tokens = read ≡ Fault fault.cause fault.left
