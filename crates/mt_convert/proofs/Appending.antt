@@ -1,10 +1,7 @@
 -- Lists made part by part, and the first fault.
-use Rattle.std.proofs.Common.{◌≡◌, List, [], ◌∷◌, ◌++◌, ap, sym, ◌∙◌, refl, append_assoc}
-use Rattle.std.specs.Prelude.{Ok, Err}
-use Rattle.mt_rules.specs.Setting.{Setting, SettingFault, ◌>>=◌}
-use Rattle.mt_convert.specs.declared.fault.SetFault.{SetFault}
-use Rattle.mt_convert.specs.declared.fault.SetFault.TheVariants.{MissingFamily, MissingChar, SmartLigature, Overflow, TooTall, OutOfMemory}
-use Rattle.mt_convert.specs.Calls.{SetFails}
+use Rattle.std.proofs.Common.{◌≡◌, List, [], ◌∷◌, ◌++◌, ap, sym, ◌∙◌, refl, append_assoc, Ok, Err}
+use Rattle.mt_convert.proofs.Common.{Setting, SettingFault, ◌>>=◌, SetFault, SetFails}
+use Rattle.mt_convert.specs.declared.fault.SetFault.TheVariants.{OutOfMemory}
 use Rattle.mt_convert.specs.inner.Appending.{appended_to}
 
 pub nil_right : {A : Type 0} (xs : List A) → xs ++ [] ≡ xs
@@ -32,12 +29,8 @@ appended_err there s t f e = ap (λ r. appended_to there (r >>= (λ xs. t >>= (�
 
 -- a fault of a part is the fault of the whole
 pub fails_on : {A B : Type 0} (e : SetFault) (s : Setting A) (t : Setting B) → SetFails e s → ((f : SettingFault) → s ≡ Err f → t ≡ Err f) → SetFails e t
-fails_on (MissingFamily fam size) s t h k = k _ h
-fails_on (MissingChar fam size code) s t h k = k _ h
-fails_on (SmartLigature fam size first second) s t h k = k _ h
-fails_on (Overflow value) s t h k = k _ h
-fails_on (TooTall n) s t h k = k _ h
 fails_on OutOfMemory s t h k = tt
+fails_on _ s t h k = k _ h
 
 pub fails_then : {A B : Type 0} (e : SetFault) (s : Setting A) (next : A → Setting B) → SetFails e s → SetFails e (s >>= next)
 fails_then e s next h = fails_on e s (s >>= next) h (λ f k. ap (λ r. r >>= next) k)

@@ -1,11 +1,7 @@
 -- Rows and boxes behind the pieces that are there.
-use Rattle.std.proofs.Common.{◌≡◌, ℕ, ◌≤◌, List, [], ◌∷◌, ◌++◌, length, take, drop, ap, sym, ◌∙◌, refl, subst, arith, append_assoc, length-append, length-drop, Option, Some, None, ℤ, w32, to_z, of_z, FitsSigned}
-use Rattle.std.specs.Prelude.{pos}
-use Rattle.std.proofs.lemmas.Int.{ints}
-use Rattle.std.proofs.lemmas.List.{drop_at}
+use Rattle.std.proofs.Common.{◌≡◌, ℕ, ◌≤◌, List, [], ◌∷◌, ◌++◌, length, take, drop, ap, sym, ◌∙◌, refl, subst, arith, append_assoc, length-append, length-drop, Option, Some, None, ℤ, w32, to_z, of_z, FitsSigned, pos}
+use Rattle.mt_convert.proofs.Common.{ints, drop_at, Layout, PieceValue, PieceBox}
 use Rattle.std.proofs.Math.Seq.{take-append_seam}
-use Rattle.mt_box.specs.Layout.{Layout}
-use Rattle.mt_box.specs.Rows.{PieceValue, PieceBox}
 use Rattle.mt_pieces.specs.Attaching.{box_if, script_boxes}
 
 pub nil_right : {A : Type 0} (xs : List A) → xs ≡ xs ++ []

@@ -1,19 +1,10 @@
 -- Both passes over a list (`list_set`, `list_err`).
-use Rattle.std.proofs.Common.{◌≡◌, List, ap, sym, subst}
-use Rattle.std.specs.Prelude.{Result, Ok}
-use Rattle.mt_family.specs.SetValue.{SetValue}
-use Rattle.mt_box.specs.Rows.{PieceValue}
-use Rattle.mt_rules.specs.declared.style.Style.{Style}
-use Rattle.mt_rules.specs.Sequence.{Sequence}
-use Rattle.mt_rules.specs.Setting.{◌>>=◌}
-use Rattle.mt_convert.specs.declared.fault.SetFault.{SetFault}
-use Rattle.mt_convert.specs.declared.placed.PlacedHalves.{PlacedHalves}
-use Rattle.mt_convert.specs.Calls.{SetFails, SetsRowOn}
-use Rattle.mt_convert.specs.ListRow.{halves_of}
-use Rattle.mt_convert.specs.SecondPass.{second_pass_of}
+use Rattle.std.proofs.Common.{◌≡◌, List, ap, sym, subst, Result, Ok}
+use Rattle.mt_convert.proofs.Common.{SetValue, PieceValue, Style, Sequence, ◌>>=◌, SetFault, PlacedHalves, SetFails, SetsRowOn, second_pass_of}
 use Rattle.mt_convert.specs.inner.Fields.{list_content}
 use Rattle.mt_convert.specs.inner.Placed.{placed_halves}
 use Rattle.mt_convert.proofs.Appending.{fails_then}
+use Rattle.mt_convert.specs.ListRow.{halves_of}
 
 -- a fault of an item is the fault of the list
 pub list_err : (fonts : SetValue) (style : Style) (list : Sequence) (fault : SetFault) → SetFails fault (halves_of fonts style list) → SetFails fault (list_content fonts list style)

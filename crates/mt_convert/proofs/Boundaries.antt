@@ -1,14 +1,6 @@
 -- A boundary put behind the other pieces (`boundary_put`).
-use Rattle.std.proofs.Common.{◌≡◌, List, [], ◌∷◌, ◌++◌, ap, sym, ◌∙◌, refl, append_assoc}
-use Rattle.std.specs.Prelude.{Ok, Err}
-use Rattle.mt_family.specs.declared.size.Size.{Size}
-use Rattle.mt_family.specs.SetValue.{SetValue}
-use Rattle.mt_box.specs.Layout.{Layout}
-use Rattle.mt_box.specs.Rows.{PieceValue}
-use Rattle.mt_rules.specs.Setting.{Setting, ◌>>=◌}
-use Rattle.mt_rules.specs.Delimiters.{piece_on_axis}
-use Rattle.mt_pieces.specs.Putting.{boundary_on}
-use Rattle.mt_convert.specs.Calls.{RowOn}
+use Rattle.std.proofs.Common.{◌≡◌, List, [], ◌∷◌, ◌++◌, ap, sym, ◌∙◌, refl, append_assoc, Ok, Err}
+use Rattle.mt_convert.proofs.Common.{Size, SetValue, Layout, PieceValue, Setting, ◌>>=◌, piece_on_axis, boundary_on, RowOn}
 
 ok_is : (x y : List PieceValue) → ◌≡◌ {A = Setting (List PieceValue)} (Ok x) (Ok y) → x ≡ y
 ok_is x y e = cc

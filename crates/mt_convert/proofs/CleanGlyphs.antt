@@ -1,20 +1,9 @@
 -- The clean box of a character is the row of its glyph and of a kern of its italic correction, packed (`clean_glyph_is`).
-use Rattle.std.proofs.Common.{◌≡◌, ℕ, ℤ, pos, ◌+ℤ◌, List, [], ◌∷◌, Bool, true, false, refl, sym, ap, subst, ◌∙◌, arith}
-use Rattle.std.specs.Prelude.{None, Ok, Err, ⊤, if◌then◌else◌}
-use Rattle.std.specs.Ordering.{int_eq}
-use Rattle.std.proofs.lemmas.Int.{ints}
+use Rattle.std.proofs.Common.{◌≡◌, ℕ, ℤ, pos, ◌+ℤ◌, List, [], ◌∷◌, Bool, true, false, refl, sym, ap, subst, ◌∙◌, arith, None, Ok, Err, if◌then◌else◌}
+use Rattle.mt_convert.proofs.Common.{int_eq, ints, Metrics, italic_of, clean_row, ExtentsInRange, first_out, Layout, PieceValue, PieceGlyph, PieceKern, pack, Extents, Setting, ◌>>=◌, ◌>>◌, make_row, pack_row, test_extents, extents_without_italic, Nucleus, make_clean, nucleus_with_italic, first_out-none}
+use Rattle.std.specs.Prelude.{⊤}
 use Rattle.std.proofs.lemmas.Bool.Decides.{Decides-int_eq}
-use Rattle.mt_tfm.specs.Font.{Metrics, italic_of}
-use Rattle.mt_box.specs.Boxes.{clean_row}
-use Rattle.mt_box.specs.Extents.{ExtentsInRange, first_out}
-use Rattle.mt_box.specs.Layout.{Layout}
-use Rattle.mt_box.specs.Rows.{PieceValue, PieceGlyph, PieceKern, pack}
-use Rattle.mt_box.specs.declared.extents.Extents.{Extents}
 use Rattle.mt_box.proofs.Equalities.{extents_eq, layout_eq}
-use Rattle.mt_rules.specs.Setting.{Setting, ◌>>=◌, ◌>>◌, make_row, pack_row, test_extents}
-use Rattle.mt_rules.specs.Symbols.{extents_without_italic}
-use Rattle.mt_rules.specs.Nuclei.{Nucleus, make_clean, nucleus_with_italic}
-use Rattle.mt_rules.proofs.Answering.{first_out-none}
 use Rattle.mt_convert.specs.inner.Glyphs.{clean_glyph}
 
 -- the same test again

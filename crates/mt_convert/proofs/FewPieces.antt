@@ -1,19 +1,8 @@
 -- How many pieces the row of a list has at most (`all_few`).
-use Rattle.std.proofs.Common.{◌≡◌, ℕ, ◌≤◌, ◌+◌, ◌*◌, List, [], ◌∷◌, ◌++◌, length, take, drop, ap, refl, arith, ℤ, length-append, length-take}
-use Rattle.std.specs.Prelude.{Ok, Err, Option, Some, None}
-use Rattle.mt_family.specs.declared.size.Size.{Size}
-use Rattle.mt_family.specs.SetValue.{SetValue}
-use Rattle.mt_box.specs.Rows.{PieceValue}
-use Rattle.mt_rules.specs.declared.class.Class.{Class}
-use Rattle.mt_rules.specs.declared.class.Class.TheVariants.{Open, Close}
-use Rattle.mt_rules.specs.declared.style.Style.{Style}
-use Rattle.mt_rules.specs.MathUnits.{math_unit}
-use Rattle.mt_rules.specs.Setting.{Setting, ◌>>=◌}
-use Rattle.mt_rules.specs.Spaces.{Spacing, NoSpacing, ThinSpacing, MediumSpacing, ThickSpacing, spacing}
-use Rattle.mt_convert.specs.declared.flat.current.Current.{Current}
-use Rattle.mt_convert.specs.declared.placed.PlacedHalf.{PlacedHalf}
+use Rattle.std.proofs.Common.{◌≡◌, ℕ, ◌≤◌, ◌+◌, ◌*◌, List, [], ◌∷◌, ◌++◌, length, take, drop, ap, refl, arith, ℤ, length-append, length-take, Ok, Err, Option, Some, None}
+use Rattle.mt_convert.proofs.Common.{Size, SetValue, PieceValue, Class, Open, Close, Style, math_unit, Setting, ◌>>=◌, Current, PlacedHalf, all_pieces, boundary_piece, current_after_half, half_pieces, pieces_between, space_before, spacing_pieces}
+use Rattle.mt_rules.specs.Spaces.{Spacing, NoSpacing, spacing}
 use Rattle.mt_convert.specs.declared.placed.PlacedHalf.TheVariants as placed
-use Rattle.mt_convert.specs.SecondPass.{all_pieces, boundary_piece, current_after_half, half_pieces, pieces_between, space_before, spacing_pieces}
 use Rattle.mt_convert.specs.inner.Placed.{placed_value, placed_values, placed_length, placed_count}
 
 ok_is : (x y : List PieceValue) → ◌≡◌ {A = Setting (List PieceValue)} (Ok x) (Ok y) → x ≡ y
@@ -21,9 +10,7 @@ ok_is x y e = cc
 
 spacing_few : (s : Spacing) (unit : ℤ) → length (spacing_pieces s unit) ≤ 1
 spacing_few NoSpacing unit = omega arith
-spacing_few ThinSpacing unit = omega arith
-spacing_few MediumSpacing unit = omega arith
-spacing_few ThickSpacing unit = omega arith
+spacing_few _ unit = omega arith
 
 between_few : (fonts : SetValue) (style : Style) (left : Option Class) (right : Class) → length (pieces_between fonts style left right) ≤ 1
 between_few fonts style None right = omega arith
@@ -43,8 +30,7 @@ half_few fonts size wanted current (placed.Left d) row ps e = boundary_few (spac
 half_few fonts size wanted current (placed.Middle d) row ps e = boundary_few (space_before fonts current Close) (boundary_piece fonts size wanted d) ps (space_few fonts current Close) e
 half_few fonts size wanted current (placed.Right d) row ps e = boundary_few (space_before fonts current Close) (boundary_piece fonts size wanted d) ps (space_few fonts current Close) e
 half_few fonts size wanted current (placed.Style s) row ps e = omega (arith, ap length (ok_is [] ps e))
-half_few fonts size wanted current (placed.Kern k) row ps e = omega (arith, ap length (ok_is _ ps e))
-half_few fonts size wanted current (placed.Space g) row ps e = omega (arith, ap length (ok_is _ ps e))
+half_few fonts size wanted current _ row ps e = omega (arith, ap length (ok_is _ ps e))
 
 both_few : (a b : ℕ) (s t : Setting (List PieceValue)) (ps : List PieceValue) → ((xs : List PieceValue) → s ≡ Ok xs → length xs ≤ a) → ((ys : List PieceValue) → t ≡ Ok ys → length ys ≤ b) → (s >>= (λ xs. t >>= (λ ys. Ok (xs ++ ys)))) ≡ Ok ps → length ps ≤ a + b
 both_few a b (Ok xs) (Ok ys) ps f g e = omega (arith, f xs refl, g ys refl, length-append xs ys, ap length (ok_is (xs ++ ys) ps e))

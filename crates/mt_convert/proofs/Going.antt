@@ -1,34 +1,11 @@
 -- How far the first pass has set a list (`Going`).
-use Rattle.std.proofs.Common.{◌≡◌, ℕ, zero, suc, ◌<◌, ◌≤◌, ◌+◌, ◌*◌, ◌^◌, ◌≤ℤ◌, ℤ, pos, List, [], ◌∷◌, ◌++◌, length, drop, ap, sym, ◌∙◌, refl, arith, subst, append_assoc, length-append, Option, Some, None, Bool, true, false, if◌then◌else◌}
-use Rattle.std.proofs.lemmas.Int.{ints, clamps}
-use Rattle.std.proofs.lemmas.List.{nil_from_length, take_all}
-use Rattle.std.specs.Prelude.{Ok, Err, IfSome, ⊤}
-use Rattle.std.specs.Int.{int_max}
-use Rattle.mt_scaled.specs.Number.{Within, is_in_range, max_dimen}
-use Rattle.mt_box.specs.Rows.{PieceValue, row_height, row_depth}
-use Rattle.mt_family.specs.SetValue.{SetValue}
-use Rattle.mt_rules.specs.declared.style.Style.{Style}
+use Rattle.std.proofs.Common.{◌≡◌, ℕ, zero, suc, ◌<◌, ◌≤◌, ◌+◌, ◌*◌, ◌^◌, ◌≤ℤ◌, ℤ, pos, List, [], ◌∷◌, ◌++◌, length, drop, ap, sym, ◌∙◌, refl, arith, subst, append_assoc, length-append, Option, Some, None, Bool, true, false, if◌then◌else◌, Ok, Err, IfSome}
+use Rattle.mt_convert.proofs.Common.{current_after_half, ints, clamps, nil_from_length, take_all, int_max, Within, is_in_range, max_dimen, PieceValue, row_height, row_depth, SetValue, Style, IsModestList, list_items, element_items, list_nesting, ListAmounts, Sequence, Element, End, More, AtomElement, sequence_size, element_size, Setting, Overflow, ◌>>=◌, test_value, in_range, Current, SetFault, PlacedHalf, PlacedHalves, Thing, Held, value_in, is_item, more_of, SetFails, opening, set_item, set_items, flat, flat_by, current_after_items, HalfValue, half_height, half_depth, greatest_height, greatest_depth, settle, items_of}
+use Rattle.std.specs.Prelude.{⊤}
 use Rattle.mt_rules.specs.Facts.{IsMathList}
-use Rattle.mt_rules.specs.Modest.{IsModestList, list_items, element_items, list_nesting, ListAmounts}
-use Rattle.mt_rules.specs.Sequence.{Sequence, Element, End, More, AtomElement, FractionElement, LeftElement, MiddleElement, RightElement, StyleElement, ChoiceElement, MuSpaceElement, SpaceElement, MuKernElement, KernElement, NonscriptElement, sequence_size, element_size}
-use Rattle.mt_rules.specs.Setting.{Setting, Overflow, ◌>>=◌, test_value}
-use Rattle.mt_rules.proofs.Answering.{in_range}
-use Rattle.mt_convert.specs.declared.flat.current.Current.{Current}
-use Rattle.mt_convert.specs.declared.fault.SetFault.{SetFault}
-use Rattle.mt_convert.specs.declared.placed.PlacedHalf.{PlacedHalf}
 use Rattle.mt_convert.specs.declared.placed.PlacedHalf.TheVariants as placed
-use Rattle.mt_convert.specs.declared.placed.PlacedHalves.{PlacedHalves}
 use Rattle.mt_convert.specs.declared.set.settle.Reach.{Reach}
 use Rattle.mt_convert.specs.declared.flat.passed.Passed.{Passed as CodePassed}
-use Rattle.mt_arena.specs.declared.thing.Thing.{Thing}
-use Rattle.mt_arena.specs.Arena.{Held, value_in}
-use Rattle.mt_arena.specs.Rest.{is_item, more_of}
-use Rattle.mt_convert.specs.Calls.{SetFails}
-use Rattle.mt_convert.specs.Current.{opening}
-use Rattle.mt_convert.specs.FirstPass.{set_item, set_items, first_pass_of}
-use Rattle.mt_convert.specs.Flat.{flat, flat_by, current_after_items}
-use Rattle.mt_convert.specs.Halves.{HalfValue, half_height, half_depth, greatest_height, greatest_depth, settle}
-use Rattle.mt_convert.specs.ListRow.{items_of, halves_of}
 use Rattle.mt_convert.specs.inner.OnPieces.{HalfOn}
 use Rattle.mt_convert.specs.inner.Placed.{AllPlacedFit, HalvesOn, PlacedFits, placed_count, placed_length, placed_value, placed_values}
 use Rattle.mt_convert.specs.inner.Settling.{CanFinish, Finishes}
@@ -37,16 +14,19 @@ use Rattle.mt_convert.specs.inner.Boundaries.{Remains, RestOfList, LeavesBy}
 use Rattle.mt_convert.specs.inner.Lengths.{kern_halves, test_kern}
 use Rattle.mt_convert.specs.inner.Modest.{IsModestElement}
 use Rattle.mt_convert.specs.inner.Spans.{KeptPassed, ModestPassed, passed_in, turn_of_held}
-use Rattle.mt_convert.specs.inner.Turns.{PassedElement, ListTurn, PassesOne, RewritesTo, element_of_passed, turn_of, turned_by, turn_meaning, flat_item, flat_items, current_after_passed, kern_of}
+use Rattle.mt_convert.specs.inner.Turns.{PassedElement, ListTurn, PassesOne, RewritesTo, element_of_passed, turn_of, turned_by, turn_meaning, flat_item, flat_items, kern_of}
 use Rattle.mt_convert.proofs.Appending.{appended_nil, appended_end, fails_on}
 use Rattle.mt_convert.proofs.Following.{FollowSoFar, follow_start, follow_step, item_follows}
 use Rattle.mt_convert.proofs.ThingKinds.{an_item}
+use Rattle.mt_convert.proofs.ItemsSet.{after_set}
 use Rattle.mt_convert.proofs.InOrder.{items_set, items_fail, item_err, kern_err, kern_values}
 use Rattle.mt_convert.proofs.Remaining.{remains_start, remains_again, remains_pass, remains_end}
 use Rattle.mt_convert.proofs.Settling.{height_low, depth_low}
 use Rattle.mt_convert.proofs.Behind.{nil_right, row_behind}
 use Rattle.mt_convert.proofs.PlacedValues.{count_append, fits_append, values_append}
-use Rattle.mt_convert.proofs.Turning.{positive, element_positive, TurnKeeps, turn_keeps, same_turn, same_current}
+use Rattle.mt_convert.proofs.Turning.{positive, element_positive, TurnKeeps, turn_keeps, same_turn}
+use Rattle.mt_convert.specs.ListRow.{halves_of}
+use Rattle.mt_convert.specs.FirstPass.{first_pass_of}
 
 -- The items of the whole list are those so far, and then those of the rest. An item makes at most itself and a kern, and at most 4 pieces.
 pub record Going (fonts : SetValue) (first : Style) (whole : Sequence) (current : Current) (rest : Sequence) (items : List PlacedHalf) (reach : Reach) (old new : List PieceValue) : Type 0 where
@@ -174,17 +154,7 @@ next_fits fonts first whole current rest items reach old new f s p rest' g is u 
 
 items_positive : (e : Element) → 1 ≤ element_items e
 items_positive (AtomElement kind limits nucleus sup sub) = omega arith
-items_positive (FractionElement thickness left right num den) = omega arith
-items_positive (LeftElement delim) = omega arith
-items_positive (MiddleElement delim) = omega arith
-items_positive (RightElement delim) = omega arith
-items_positive (StyleElement style) = omega arith
-items_positive (ChoiceElement display text script small) = omega arith
-items_positive (MuSpaceElement glue) = omega arith
-items_positive (SpaceElement glue) = omega arith
-items_positive (MuKernElement amount) = omega arith
-items_positive (KernElement amount) = omega arith
-items_positive NonscriptElement = omega arith
+items_positive _ = omega arith
 
 both_low : (a b n : ℤ) → a ≤ℤ n → b ≤ℤ n → int_max a b ≤ℤ n
 both_low a b n h k = omega (arith, ints, clamps, h, k)
@@ -215,21 +185,11 @@ kern_depth (Some k) = omega (arith, ints, clamps)
 -- the row of the pieces that were put for an item reaches as far as the item
 piece_height : (h : PlacedHalf) (row : List PieceValue) → placed_length h ≡ length row → half_height (placed_value h row) ≡ row_height row
 piece_height (placed.Set class count) row e = ap row_height (take_all count row (omega (arith, e)))
-piece_height (placed.Left delim) row e = ap row_height (sym (nil_from_length row (sym e)))
-piece_height (placed.Middle delim) row e = ap row_height (sym (nil_from_length row (sym e)))
-piece_height (placed.Right delim) row e = ap row_height (sym (nil_from_length row (sym e)))
-piece_height (placed.Style style) row e = ap row_height (sym (nil_from_length row (sym e)))
-piece_height (placed.Kern k) row e = ap row_height (sym (nil_from_length row (sym e)))
-piece_height (placed.Space glue) row e = ap row_height (sym (nil_from_length row (sym e)))
+piece_height _ row e = ap row_height (sym (nil_from_length row (sym e)))
 
 piece_depth : (h : PlacedHalf) (row : List PieceValue) → placed_length h ≡ length row → half_depth (placed_value h row) ≡ row_depth row
 piece_depth (placed.Set class count) row e = ap row_depth (take_all count row (omega (arith, e)))
-piece_depth (placed.Left delim) row e = ap row_depth (sym (nil_from_length row (sym e)))
-piece_depth (placed.Middle delim) row e = ap row_depth (sym (nil_from_length row (sym e)))
-piece_depth (placed.Right delim) row e = ap row_depth (sym (nil_from_length row (sym e)))
-piece_depth (placed.Style style) row e = ap row_depth (sym (nil_from_length row (sym e)))
-piece_depth (placed.Kern k) row e = ap row_depth (sym (nil_from_length row (sym e)))
-piece_depth (placed.Space glue) row e = ap row_depth (sym (nil_from_length row (sym e)))
+piece_depth _ row e = ap row_depth (sym (nil_from_length row (sym e)))
 
 wide : (x : ℤ) → Within max_dimen x → Within (2 ^ 40) x
 wide x h = record { low = omega (arith, ints, h.low); high = omega (arith, ints, h.high) }
@@ -268,7 +228,7 @@ reaches_on first reach reach' old new e h d = record {
   depth = subst (λ n. reach'.depth.sp ≡ int_max reach.depth.sp (row_depth (drop n new))) e d;
 }
 
-going_set : (fonts : SetValue) (first : Style) (whole : Sequence) (current : Current) (f : Element) (s : Sequence) (items : List PlacedHalf) (reach reach' : Reach) (old mid new : List PieceValue) (p : PassedElement) (rest' : Sequence) (h : PlacedHalf) → Going fonts first whole current (More f s) items reach old mid → PassesOne p rest' ≡ turn_of fonts current f s → ((enclosed : Bool) → RestOfList enclosed (More f s) → RestOfList enclosed (More (element_of_passed p) rest')) → WasSet fonts current p h (kern_of p) mid new → ReachesOn reach reach' mid new → Going fonts first whole (current_after_passed current p) rest' (items ++ h ∷ kern_halves (kern_of p)) reach' old new
+going_set : (fonts : SetValue) (first : Style) (whole : Sequence) (current : Current) (f : Element) (s : Sequence) (items : List PlacedHalf) (reach reach' : Reach) (old mid new : List PieceValue) (p : PassedElement) (rest' : Sequence) (h : PlacedHalf) → Going fonts first whole current (More f s) items reach old mid → PassesOne p rest' ≡ turn_of fonts current f s → ((enclosed : Bool) → RestOfList enclosed (More f s) → RestOfList enclosed (More (element_of_passed p) rest')) → (w : WasSet fonts current p h (kern_of p) mid new) → ReachesOn reach reach' mid new → Going fonts first whole (current_after_half current (placed_value h w.half.row)) rest' (items ++ h ∷ kern_halves (kern_of p)) reach' old new
 going_set fonts first whole current f s items reach reach' old mid new p rest' h g u l w r =
     let k : TurnKeeps f s (PassesOne p rest') = subst (TurnKeeps f s) (sym u) (turn_keeps fonts current f s) in
     let t = turns_left fonts current f s g.turns g.enough in
@@ -296,8 +256,8 @@ going_set fonts first whole current f s items reach reach' old mid new p rest' h
           g.whole_is
           ∙ (ap (λ xs. appended_to done (set_items fonts current xs)) (t.first_turn ∙ ap (λ v. flat_by (flat fonts t.left) current (turn_meaning fonts v)) (sym u))
           ∙ (items_set fonts current done p value (flat fonts t.left (current_after_items current (flat_items fonts p)) (items_of fonts rest')) w.half.is w.kern
-          ∙ (ap (λ x. appended_to (done ++ value ∷ kern_values (kern_of p)) (set_items fonts x (flat fonts t.left x (items_of fonts rest')))) (same_current fonts current p)
-          ∙ ap (λ xs. appended_to xs (set_items fonts (current_after_passed current p) (flat fonts t.left (current_after_passed current p) (items_of fonts rest')))) (sym now))));
+          ∙ (ap (λ x. appended_to (done ++ value ∷ kern_values (kern_of p)) (set_items fonts x (flat fonts t.left x (items_of fonts rest')))) (after_set fonts current p value w.half.is)
+          ∙ ap (λ xs. appended_to xs (set_items fonts (current_after_half current value) (flat fonts t.left (current_after_half current value) (items_of fonts rest')))) (sym now))));
       size = omega (arith, g.size, k.size);
       items_few = omega (arith, g.items_few, k.items, a.count, items_positive (element_of_passed p), length-append items next);
       total = omega (arith, g.total, k.items, w.half.few, items_positive (element_of_passed p), length-append g.row more);
@@ -316,14 +276,15 @@ going_set fonts first whole current f s items reach reach' old mid new p rest' h
           ∙ (sym (depth_append done (value ∷ kern_values (kern_of p))) ∙ ap greatest_depth (sym now))));
       height = subst (λ x. x ≤ℤ pos max_dimen) (sym high) (both_low reach.height.sp (half_height value) (pos max_dimen) g.height w.half.height);
       depth = subst (λ x. x ≤ℤ pos max_dimen) (sym deep) (both_low reach.depth.sp (half_depth value) (pos max_dimen) g.depth w.half.depth);
-      follow = subst (FollowSoFar (current_after_passed current p).last) (sym now) (follow_step current.last (current_after_passed current p).last done value (kern_of p) g.follow (item_follows fonts current p value w.half.is));
+      follow = subst (FollowSoFar (current_after_half current value).last) (sym now) (follow_step current.last done value (kern_of p) g.follow (item_follows fonts current p value w.half.is));
       remains = subst (λ xs. Remains xs rest') (sym now) (remains_pass fonts current done f s p rest' value g.remains u l w.half.is);
       modest = g.modest;
     }
 
-pub going_pass : (fonts : SetValue) (first : Style) (whole : Sequence) (current current' : Current) (rest : Sequence) (items items' : List PlacedHalf) (reach reach' : Reach) (old mid new : List PieceValue) (f : Element) (s : Sequence) (p : PassedElement) (rest' : Sequence) (h : PlacedHalf) (kern : Option ℤ) → Going fonts first whole current rest items reach old mid → rest ≡ More f s → PassesOne p rest' ≡ turn_of fonts current f s → ((enclosed : Bool) → RestOfList enclosed (More f s) → RestOfList enclosed (More (element_of_passed p) rest')) → kern ≡ kern_of p → WasSet fonts current p h kern mid new → ReachesOn reach reach' mid new → items' ≡ items ++ h ∷ kern_halves kern → current' ≡ current_after_passed current p → Going fonts first whole current' rest' items' reach' old new
+pub going_pass : (fonts : SetValue) (first : Style) (whole : Sequence) (current current' : Current) (rest : Sequence) (items items' : List PlacedHalf) (reach reach' : Reach) (old mid new : List PieceValue) (f : Element) (s : Sequence) (p : PassedElement) (rest' : Sequence) (h : PlacedHalf) (kern : Option ℤ) → Going fonts first whole current rest items reach old mid → rest ≡ More f s → PassesOne p rest' ≡ turn_of fonts current f s → ((enclosed : Bool) → RestOfList enclosed (More f s) → RestOfList enclosed (More (element_of_passed p) rest')) → kern ≡ kern_of p → WasSet fonts current p h kern mid new → ReachesOn reach reach' mid new → items' ≡ items ++ h ∷ kern_halves kern → ((row : List PieceValue) → current' ≡ current_after_half current (placed_value h row)) → Going fonts first whole current' rest' items' reach' old new
 going_pass fonts first whole current current' rest items items' reach reach' old mid new f s p rest' h kern g is u l k w r eq c =
-    rw (eq, c, k) (going_set fonts first whole current f s items reach reach' old mid new p rest' h (subst (λ r. Going fonts first whole current r items reach old mid) is g) u l (subst (λ x. WasSet fonts current p h x mid new) k w) r)
+    let v : WasSet fonts current p h (kern_of p) mid new = record { half = w.half; kern = subst (λ x. test_kern x ≡ Ok tt) k w.kern } in
+    rw (eq, k, c w.half.row) (going_set fonts first whole current f s items reach reach' old mid new p rest' h (subst (λ r. Going fonts first whole current r items reach old mid) is g) u l v r)
 
 -- ---- a fault of an item is the fault of the list
 

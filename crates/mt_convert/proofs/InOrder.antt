@@ -1,14 +1,7 @@
 -- Items of the flat list set in order (`items_set`): those that a turn passes, and then those after them.
-use Rattle.std.proofs.Common.{◌≡◌, List, [], ◌∷◌, ◌++◌, ap, sym, ◌∙◌, refl, Option, Some, None, ℤ}
-use Rattle.std.specs.Prelude.{Ok, Err, ⊤}
-use Rattle.mt_family.specs.SetValue.{SetValue}
-use Rattle.mt_rules.specs.Setting.{Setting, SettingFault, ◌>>=◌, ◌>>◌, test_value}
-use Rattle.mt_convert.specs.declared.flat.current.Current.{Current}
-use Rattle.mt_convert.specs.declared.fault.SetFault.{SetFault}
-use Rattle.mt_convert.specs.Calls.{SetFails}
-use Rattle.mt_convert.specs.FirstPass.{set_item, set_items}
-use Rattle.mt_convert.specs.Flat.{FlatItem, current_after_item, current_after_items}
-use Rattle.mt_convert.specs.Halves.{HalfValue, HalfKern}
+use Rattle.std.proofs.Common.{◌≡◌, List, [], ◌∷◌, ◌++◌, ap, sym, ◌∙◌, refl, Option, Some, None, ℤ, Ok, Err}
+use Rattle.mt_convert.proofs.Common.{SetValue, Setting, SettingFault, ◌>>=◌, ◌>>◌, test_value, Current, SetFault, SetFails, set_item, set_items, FlatItem, current_after_item, current_after_items, HalfValue, HalfKern}
+use Rattle.std.specs.Prelude.{⊤}
 use Rattle.mt_convert.specs.inner.Appending.{appended_to}
 use Rattle.mt_convert.specs.inner.Lengths.{test_kern}
 use Rattle.mt_convert.specs.inner.Turns.{PassedElement, flat_item, flat_items, kern_items, kern_of}

@@ -1,7 +1,11 @@
+-- the names that most proofs cite
+mod Common
 -- the clean box of a character
 pub mod CleanGlyphs
 -- the row of an atom alone
 pub mod LoneAtoms
+-- the list of a choice
+mod Choosing
 -- lists made part by part
 pub mod Appending
 -- boxes of boundaries
@@ -27,6 +31,8 @@ pub mod Turning
 pub mod Remaining
 -- classes settled from the right
 pub mod Settling
+-- what an item is set to
+mod ItemsSet
 -- neighbours while a list is set
 pub mod Following
 -- items set in order

@@ -1,28 +1,15 @@
 -- The row of an atom alone stays as it is (`lone_row`).
-use Rattle.std.proofs.Common.{◌≡◌, ℕ, ℤ, List, [], ◌∷◌, length, take, drop, ap, sym, ◌∙◌, arith, true, append-nil}
-use Rattle.std.proofs.lemmas.List.{take_all, take-append-drop}
-use Rattle.std.specs.Prelude.{Ok}
-use Rattle.mt_family.specs.declared.size.Size.{Size}
-use Rattle.mt_family.specs.SetValue.{SetValue}
-use Rattle.mt_box.specs.Rows.{PieceValue}
-use Rattle.mt_rules.specs.declared.style.Style.{Style}
-use Rattle.mt_convert.specs.declared.placed.PlacedHalf.{PlacedHalf}
+use Rattle.std.proofs.Common.{◌≡◌, ℕ, ℤ, List, [], ◌∷◌, length, take, drop, ap, sym, ◌∙◌, arith, true, append-nil, Ok}
+use Rattle.mt_convert.proofs.Common.{take_all, Size, SetValue, PieceValue, Style, PlacedHalf, opening, all_pieces, RowOn}
+use Rattle.std.proofs.lemmas.List.{take-append-drop}
 use Rattle.mt_convert.specs.declared.placed.PlacedHalf.TheVariants as placed
-use Rattle.mt_convert.specs.Current.{opening}
-use Rattle.mt_convert.specs.SecondPass.{all_pieces}
 use Rattle.mt_convert.specs.inner.LoneAtoms.{is_set_atom, is_lone_atom}
-use Rattle.mt_convert.specs.Calls.{RowOn}
 use Rattle.mt_convert.specs.inner.Placed.{placed_values, placed_length, placed_count}
 
 atom_row : (fonts : SetValue) (size : Size) (wanted : ℤ) (style : Style) (h : PlacedHalf) (row : List PieceValue) → is_set_atom h ≡ true → placed_length h ≡ length row
     → all_pieces fonts size wanted (opening style) (placed_values (h ∷ []) row) ≡ Ok row
 atom_row fonts size wanted style (placed.Set c n) row t e = ap (λ r. Ok r) (append-nil (take n row) ∙ take_all n row (omega (arith, e)))
-atom_row fonts size wanted style (placed.Left d) row t e = absurd (cc)
-atom_row fonts size wanted style (placed.Middle d) row t e = absurd (cc)
-atom_row fonts size wanted style (placed.Right d) row t e = absurd (cc)
-atom_row fonts size wanted style (placed.Style s) row t e = absurd (cc)
-atom_row fonts size wanted style (placed.Kern k) row t e = absurd (cc)
-atom_row fonts size wanted style (placed.Space g) row t e = absurd (cc)
+atom_row fonts size wanted style _ row t e = absurd (cc)
 
 lone_pieces : (fonts : SetValue) (size : Size) (wanted : ℤ) (style : Style) (items : List PlacedHalf) (row : List PieceValue) → is_lone_atom items ≡ true → placed_count items ≡ length row
     → all_pieces fonts size wanted (opening style) (placed_values items row) ≡ Ok row

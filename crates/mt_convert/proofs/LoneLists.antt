@@ -1,42 +1,17 @@
 -- The list of one atom alone (`lone_list`): its row is that of the atom, tested once more.
-use Rattle.std.proofs.Common.{◌≡◌, ℕ, suc, ◌≤◌, ◌<◌, ◌-◌, ◌+◌, List, [], ◌∷◌, ◌++◌, length, take, drop, zero, ap, refl, sym, subst, ◌∙◌, arith, append-nil, slice_get, Option, Some, None}
-use Rattle.std.specs.Prelude.{Result, Ok, Err}
-use Rattle.std.proofs.lemmas.List.{drop_all, length-take}
-use Rattle.mt_family.specs.SetValue.{SetValue}
-use Rattle.mt_box.specs.Rows.{PieceValue}
-use Rattle.mt_rules.specs.declared.style.Style.{Style}
-use Rattle.mt_rules.specs.declared.symbol.Symbol.{Symbol}
-use Rattle.mt_rules.specs.AtomRow.{AtomContent, atom_row}
-use Rattle.mt_rules.specs.Nuclei.{OrdinarySymbol}
-use Rattle.mt_rules.specs.declared.class.Class.{Class}
-use Rattle.mt_rules.specs.Sequence.{Sequence, Element, End, More, sequence_size}
-use Rattle.mt_rules.specs.Styles.{size_of}
-use Rattle.mt_rules.specs.Modest.{IsModestList}
-use Rattle.mt_rules.specs.Setting.{Setting, ◌>>=◌, make_row}
-use Rattle.mt_arena.specs.declared.thing.Noad.{Noad}
-use Rattle.mt_arena.specs.declared.thing.Span.{Span}
-use Rattle.mt_arena.specs.declared.thing.Thing.{Thing}
+use Rattle.std.proofs.Common.{◌≡◌, ℕ, suc, ◌≤◌, ◌-◌, ◌+◌, List, [], ◌∷◌, length, take, drop, zero, ap, refl, sym, subst, ◌∙◌, arith, append-nil, slice_get, Option, Some, None, Result, Ok, Err}
+use Rattle.mt_convert.proofs.Common.{drop_all, SetValue, PieceValue, Style, Symbol, AtomContent, atom_row, OrdinarySymbol, Class, Sequence, Element, End, More, sequence_size, size_of, IsModestList, Setting, ◌>>=◌, make_row, Noad, Span, Thing, Held, as_sequence, sequence_in, thing_end, value_in, HeldLists, SetFault, SetFails, SetsRowOn, Current, opening, set_items, FlatAtom, atom_turn, flat, flat_by, HalfAtom, settle, first_symbol, symbol_pair, row_of_items, AtomItem, MoreItems, NoItems}
+use Rattle.std.proofs.lemmas.List.{length-take}
 use Rattle.mt_arena.specs.declared.thing.Thing.TheVariants as thing
-use Rattle.mt_arena.specs.Arena.{Held, as_sequence, held_in, sequence_in, thing_end, value_in}
-use Rattle.mt_arena.specs.Keeping.{HeldLists}
 use Rattle.mt_arena.proofs.Growing.{next_in}
-use Rattle.mt_convert.specs.declared.fault.SetFault.{SetFault}
-use Rattle.mt_convert.specs.Calls.{SetFails, SetsRowOn}
-use Rattle.mt_convert.specs.declared.flat.current.Current.{Current}
-use Rattle.mt_convert.specs.Current.{opening}
-use Rattle.mt_convert.specs.FirstPass.{first_pass_of, set_items}
-use Rattle.mt_convert.specs.Flat.{FlatAtom, atom_turn, flat, flat_by}
-use Rattle.mt_convert.specs.Halves.{HalfAtom, settle}
-use Rattle.mt_convert.specs.Joining.{first_symbol, symbol_pair}
-use Rattle.mt_convert.specs.ListRow.{row_of_items}
-use Rattle.mt_convert.specs.Contents.{AtomItem, MoreItems, NoItems}
-use Rattle.mt_convert.specs.SecondPass.{second_pass_of}
 use Rattle.mt_convert.specs.inner.Fields.{atom_row_of, list_content}
 use Rattle.mt_convert.specs.inner.Modest.{IsModestElement}
 use Rattle.mt_convert.specs.inner.OnPieces.{AtomOn, TestsRow}
 use Rattle.mt_convert.specs.inner.Spans.{ModestAtom, ModestSpan, atom_in}
 use Rattle.mt_convert.proofs.Appending.{fails_then}
 use Rattle.mt_convert.proofs.Behind.{row_behind}
+use Rattle.mt_convert.specs.SecondPass.{second_pass_of}
+use Rattle.mt_convert.specs.FirstPass.{first_pass_of}
 
 -- ---- its atom in the arena
 

@@ -1,30 +1,13 @@
 -- Nuclei behind the pieces that were there: of a box, of a glyph, and of a large operator.
-use Rattle.std.proofs.Common.{◌≡◌, ℕ, ℤ, pos, ◌-ℤ◌, ◌^◌, Bool, false, List, [], ◌∷◌, ◌++◌, append_assoc, refl, ap, ◌∙◌, subst, arith, lit≤, if◌then◌else◌}
-use Rattle.std.specs.Prelude.{Ok}
-use Rattle.std.specs.Ordering.{int_eq}
-use Rattle.std.proofs.lemmas.Int.{ints}
-use Rattle.mt_scaled.specs.Number.{Within}
-use Rattle.mt_tfm.specs.Font.{italic_of}
-use Rattle.mt_family.specs.SetValue.{SetValue}
-use Rattle.mt_box.specs.declared.extents.Extents.{Extents}
-use Rattle.mt_box.specs.Extents.{ExtentsInRange}
-use Rattle.mt_box.specs.Layout.{Layout}
-use Rattle.mt_box.specs.Rows.{PieceValue, PieceBox, PieceKern}
+use Rattle.std.proofs.Common.{◌≡◌, ℕ, ℤ, pos, ◌-ℤ◌, ◌^◌, Bool, false, List, [], ◌∷◌, ◌++◌, append_assoc, refl, ap, ◌∙◌, subst, arith, lit≤, if◌then◌else◌, Ok}
+use Rattle.mt_convert.proofs.Common.{int_eq, ints, Within, italic_of, SetValue, Extents, ExtentsInRange, Layout, PieceValue, PieceBox, PieceKern, Style, Symbol, piece_on_axis, Nucleus, clean_symbol, nucleus_with_italic, box_without_italic, operator_code, Setting, ◌>>=◌, make_box, size_of, find_symbol, font_of_number, first_out-none, make_box-ok}
 use Rattle.mt_box.proofs.Equalities.{extents_eq}
-use Rattle.mt_rules.specs.declared.style.Style.{Style}
-use Rattle.mt_rules.specs.declared.symbol.Symbol.{Symbol}
-use Rattle.mt_rules.specs.Delimiters.{piece_on_axis}
-use Rattle.mt_rules.specs.Nuclei.{Nucleus, clean_symbol, nucleus_with_italic}
 use Rattle.mt_rules.specs.OnMarks.{layout_with}
-use Rattle.mt_rules.specs.Operators.{box_without_italic, operator_code, operator_nucleus}
-use Rattle.mt_rules.specs.Setting.{Setting, ◌>>=◌, make_box}
-use Rattle.mt_rules.specs.Styles.{size_of}
-use Rattle.mt_rules.specs.Symbols.{find_symbol, font_of_number}
-use Rattle.mt_rules.proofs.Answering.{first_out-none, make_box-ok}
 use Rattle.mt_convert.specs.inner.AtomSteps.{as_nucleus}
 use Rattle.mt_convert.specs.inner.Forms.{as_operator}
 use Rattle.mt_convert.specs.inner.OnPieces.{BoxOn, NucleusOn, OperatorOn}
 use Rattle.mt_convert.proofs.kinds.Chains.{first_made}
+use Rattle.mt_rules.specs.Operators.{operator_nucleus}
 
 -- ---- a box as a nucleus and as an operator
 

@@ -1,21 +1,13 @@
 -- Items whose pieces are on a stack, one list of them after another (`values_append`).
 use Rattle.std.proofs.Common.{◌≡◌, ◌+◌, ◌≤◌, List, [], ◌∷◌, ◌++◌, length, drop, ap, sym, refl, arith, length-drop}
-use Rattle.std.proofs.lemmas.List.{take-append-le, drop-append-le, nil_from_length}
-use Rattle.mt_box.specs.Rows.{PieceValue}
-use Rattle.mt_convert.specs.declared.placed.PlacedHalf.{PlacedHalf}
+use Rattle.mt_convert.proofs.Common.{take-append-le, drop-append-le, nil_from_length, PieceValue, PlacedHalf, HalfAtom}
 use Rattle.mt_convert.specs.declared.placed.PlacedHalf.TheVariants as placed
-use Rattle.mt_convert.specs.Halves.{HalfAtom}
 use Rattle.mt_convert.specs.inner.Placed.{placed_value, placed_values, placed_length, placed_count, AllPlacedFit}
 
 -- what is behind the pieces of an item is not its own
 pub value_within : (h : PlacedHalf) (row more : List PieceValue) → placed_length h ≤ length row → placed_value h (row ++ more) ≡ placed_value h row
 value_within (placed.Set c n) row more le = ap (λ r. HalfAtom c r) (take-append-le n row more le)
-value_within (placed.Left d) row more le = refl
-value_within (placed.Middle d) row more le = refl
-value_within (placed.Right d) row more le = refl
-value_within (placed.Style s) row more le = refl
-value_within (placed.Kern k) row more le = refl
-value_within (placed.Space g) row more le = refl
+value_within _ row more le = refl
 
 pub values_append : (hs ks : List PlacedHalf) (row more : List PieceValue) → placed_count hs ≡ length row → placed_values (hs ++ ks) (row ++ more) ≡ placed_values hs row ++ placed_values ks more
 values_append [] ks row more e = ap (λ r. placed_values ks (r ++ more)) (nil_from_length row (sym e))

@@ -1,24 +1,13 @@
 -- Rows behind the pieces that were there: of a box alone, with scripts, and of a root.
-use Rattle.std.proofs.Common.{◌≡◌, ℕ, ℤ, pos, ◌≤◌, ◌+◌, List, [], ◌∷◌, ◌++◌, length, length-append, drop, take, refl, ap, sym, ◌∙◌, subst, arith, lit≤, Option, Some, None}
-use Rattle.std.specs.Prelude.{Result, Ok, Err, ⊤}
-use Rattle.std.proofs.lemmas.Int.{ints, clamps}
-use Rattle.std.proofs.lemmas.List.{drop_all, drop_at, take_at}
-use Rattle.mt_family.specs.SetValue.{SetValue}
-use Rattle.mt_box.specs.Extents.{ExtentsInRange, first_out}
-use Rattle.mt_box.specs.Layout.{Layout}
-use Rattle.mt_box.specs.Rows.{PieceValue, PieceBox, pack}
-use Rattle.mt_rules.specs.declared.style.Style.{Style}
-use Rattle.mt_rules.specs.Roots.{root_row}
-use Rattle.mt_rules.specs.Setting.{Setting, ◌>>=◌, ◌>>◌, pass_unless, make_box, make_row}
-use Rattle.mt_rules.specs.Nuclei.{Nucleus}
-use Rattle.mt_rules.specs.Scripts.{row_with_scripts, widened_script}
-use Rattle.mt_rules.proofs.Answering.{extents_in_range, first_out-none}
+use Rattle.std.proofs.Common.{◌≡◌, ℕ, ℤ, pos, ◌≤◌, ◌+◌, List, [], ◌∷◌, ◌++◌, length, length-append, drop, take, refl, ap, sym, ◌∙◌, subst, arith, lit≤, Option, Some, None, Result, Ok, Err}
+use Rattle.mt_convert.proofs.Common.{ints, clamps, drop_all, drop_at, take_at, SetValue, ExtentsInRange, first_out, Layout, PieceValue, PieceBox, pack, Style, Setting, ◌>>=◌, ◌>>◌, pass_unless, make_box, make_row, Nucleus, widened_script, extents_in_range, first_out-none, SetFault, RowOn, SetsRowOn}
+use Rattle.std.specs.Prelude.{⊤}
 use Rattle.mt_convert.proofs.Appending.{nil_right}
 use Rattle.mt_convert.proofs.kinds.Chains.{first_made}
-use Rattle.mt_convert.specs.declared.fault.SetFault.{SetFault}
 use Rattle.mt_convert.specs.inner.AtomSteps.{lone_box, row_beside, row_of_box, row_of_root}
-use Rattle.mt_convert.specs.Calls.{RowOn, SetsRowOn}
 use Rattle.mt_convert.specs.inner.OnPieces.{AtomOn, BoxOn, SetsAtomOn}
+use Rattle.mt_rules.specs.Scripts.{row_with_scripts}
+use Rattle.mt_rules.specs.Roots.{root_row}
 
 -- ---- the pieces behind others
 

@@ -1,30 +1,15 @@
 -- The second pass, item by item (`PutSoFar`), and the test of the row.
-use Rattle.std.proofs.Common.{◌≡◌, ℕ, ◌≤◌, ◌+◌, ◌^◌, List, [], ◌∷◌, ◌++◌, length, take, drop, min, ap, sym, ◌∙◌, arith, subst, ℤ, None, append_assoc, append-nil, length-append, length-drop, length-take-le}
-use Rattle.std.proofs.lemmas.List.{drop_at, drop-drop, take-append-le}
-use Rattle.std.specs.Prelude.{Result, Ok, Err, OnOk}
-use Rattle.mt_family.specs.declared.size.Size.{Size}
-use Rattle.mt_family.specs.SetValue.{SetValue}
-use Rattle.mt_box.specs.Rows.{PieceValue}
+use Rattle.std.proofs.Common.{◌≡◌, ℕ, ◌≤◌, ◌+◌, ◌^◌, List, [], ◌∷◌, ◌++◌, length, take, drop, min, ap, sym, ◌∙◌, arith, subst, ℤ, None, append_assoc, append-nil, length-append, length-drop, length-take-le, Result, Ok, Err, OnOk}
+use Rattle.mt_convert.proofs.Common.{drop_at, drop-drop, Size, SetValue, PieceValue, Style, size_of, Setting, ◌>>=◌, make_row, boundary_size, Current, SetFault, PlacedHalf, opening, HalfValue, SetFails, RowOn, SetsRowOn, AllMeet, MayMeet, all_pieces, half_pieces, current_after_half, row_of_halves}
 use Rattle.mt_pieces.specs.declared.runs.PieceAt.{PieceAt}
 use Rattle.mt_pieces.specs.Runs.{IsAt}
-use Rattle.mt_rules.specs.declared.style.Style.{Style}
-use Rattle.mt_rules.specs.Styles.{size_of}
-use Rattle.mt_rules.specs.Setting.{Setting, ◌>>=◌, make_row}
-use Rattle.mt_rules.specs.Delimiters.{boundary_size}
-use Rattle.mt_convert.specs.declared.flat.current.Current.{Current}
-use Rattle.mt_convert.specs.declared.fault.SetFault.{SetFault}
-use Rattle.mt_convert.specs.declared.placed.PlacedHalf.{PlacedHalf}
-use Rattle.mt_convert.specs.Current.{opening}
-use Rattle.mt_convert.specs.Halves.{HalfValue}
-use Rattle.mt_convert.specs.Calls.{SetFails, RowOn, SetsRowOn}
-use Rattle.mt_convert.specs.Halfway.{AllMeet, MayMeet}
-use Rattle.mt_convert.specs.SecondPass.{all_pieces, half_pieces, current_after_half, row_of_halves, second_pass_of}
 use Rattle.mt_convert.specs.inner.Appending.{appended_to}
 use Rattle.mt_convert.specs.inner.OnPieces.{TestsRow}
 use Rattle.mt_convert.specs.inner.Placed.{placed_value, placed_values, placed_length, placed_count, placed_left, PlacedFits, AllPlacedFit, PlacesIn}
-use Rattle.mt_convert.proofs.Appending.{appended_nil, appended_end, appended_step, appended_err, fails_on}
+use Rattle.mt_convert.proofs.Appending.{appended_nil, appended_step}
 use Rattle.mt_convert.proofs.FewPieces.{all_few}
 use Rattle.mt_convert.proofs.Settling.{left_is}
+use Rattle.mt_convert.specs.SecondPass.{second_pass_of}
 
 -- The pieces of the whole list are those that are put, and then those of the rest, whose own pieces begin at the place.
 pub record PutSoFar (fonts : SetValue) (size : Size) (wanted : ℤ) (style : Style) (items : List PlacedHalf) (first : ℕ) (old : List PieceValue) (current : Current) (rest : List PlacedHalf) (from : PieceAt) (now : List PieceValue) : Type 0 where
@@ -90,38 +75,6 @@ put_step fonts size wanted style items first old current current' rest from from
       meet = subst (λ r. AllMeet (current_after_half current half).last (placed_values rest' r)) dropped meet.1;
       fit = (subst AllPlacedFit e s.fit).1;
     })
-
--- a fault of an item is the fault of the list
-pub put_err : (fonts : SetValue) (size : Size) (wanted : ℤ) (style : Style) (items : List PlacedHalf) (first : ℕ) (old : List PieceValue) (current : Current) (rest : List PlacedHalf) (from : PieceAt) (now : List PieceValue) (h : PlacedHalf) (rest' : List PlacedHalf) (fault : SetFault) → (s : PutSoFar fonts size wanted style items first old current rest from now) → rest ≡ h ∷ rest'
-    → SetFails fault (half_pieces fonts size wanted current (placed_value h (drop from.piece old))) → SetFails fault (all_pieces fonts size wanted (opening style) (placed_values items (drop first old)))
-put_err fonts size wanted style items first old current rest from now h rest' fault s e fails =
-    let half = placed_value h (drop from.piece old) in
-    fails_on fault (half_pieces fonts size wanted current half) (all_pieces fonts size wanted (opening style) (placed_values items (drop first old))) fails
-    (λ f k. s.whole_is
-    ∙ (ap (λ r. appended_to s.done (all_pieces fonts size wanted current (placed_values r (drop from.piece old)))) e
-    ∙ appended_err s.done (half_pieces fonts size wanted current half) (all_pieces fonts size wanted (current_after_half current half) (placed_values rest' (drop (placed_length h) (drop from.piece old)))) f k))
-
-pub put_end : (fonts : SetValue) (size : Size) (wanted : ℤ) (style : Style) (items : List PlacedHalf) (first : ℕ) (old : List PieceValue) (current : Current) (rest : List PlacedHalf) (from : PieceAt) (now : List PieceValue) → PutSoFar fonts size wanted style items first old current rest from now → rest ≡ []
-    → RowOn old now (all_pieces fonts size wanted (opening style) (placed_values items (drop first old)))
-put_end fonts size wanted style items first old current rest from now s e = record {
-  row = s.done;
-  is = s.whole_is ∙ (ap (λ r. appended_to s.done (all_pieces fonts size wanted current (placed_values r (drop from.piece old)))) e ∙ appended_end s.done);
-  stays = s.stays;
-}
-
--- ---- the pieces of the items go
-
-pub items_gone : (first count : ℕ) (old mid new : List PieceValue) (setting : Setting (List PieceValue)) → first ≤ length old → first + count ≡ length old → RowOn old mid setting → new ≡ take first mid ++ drop (first + count) mid
-    → RowOn (take first old) new setting
-items_gone first count old mid new setting le c m e = record {
-  row = m.row;
-  is = m.is;
-  stays =
-      e
-      ∙ (ap (λ z. take first z ++ drop (first + count) z) m.stays
-      ∙ (ap (λ z. z ++ drop (first + count) (old ++ m.row)) (take-append-le first old m.row le)
-      ∙ ap (λ z. take first old ++ z) (drop_at old m.row (first + count) (sym c))));
-}
 
 -- ---- the row is tested
 

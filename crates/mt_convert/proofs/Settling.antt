@@ -1,20 +1,9 @@
 -- Classes settled from the right, item by item (`settle_turn`, `settle_end`), and what a list keeps by it (`finishes`).
 use Rattle.std.proofs.Common.{◌≡◌, ℕ, ◌+◌, ◌-◌, ◌<◌, ◌≤◌, ◌≤ℤ◌, get_or, subst, List, [], ◌∷◌, ◌++◌, length, take, drop, ap, sym, ◌∙◌, refl, arith, append_assoc, Option, Some, None, pos}
-use Rattle.std.proofs.lemmas.Int.{ints, clamps}
-use Rattle.std.proofs.lemmas.List.{take-set, drop-set, take_more}
+use Rattle.mt_convert.proofs.Common.{ints, clamps, take-set, drop-set, take_more, option_or, max_dimen, PieceValue, Class, Open, Close, settled_of, PlacedHalf, PlacedHalves, HalfValue, HalfAtom, HalfLeft, HalfMiddle, HalfRight, class_to_left, next_class, settled_half, settled_halves, greatest_height, greatest_depth, settle, BoundariesOutside, AllMeet, MayMeet}
 use Rattle.std.proofs.Math.ListN.{set}
-use Rattle.std.specs.Option.{option_or}
-use Rattle.mt_scaled.specs.Number.{max_dimen}
-use Rattle.mt_box.specs.Rows.{PieceValue}
-use Rattle.mt_rules.specs.declared.class.Class.{Class}
-use Rattle.mt_rules.specs.declared.class.Class.TheVariants.{Open, Close}
-use Rattle.mt_rules.specs.Classes.{settled_of}
-use Rattle.mt_convert.specs.declared.placed.PlacedHalf.{PlacedHalf}
 use Rattle.mt_convert.specs.declared.placed.PlacedHalf.TheVariants as placed
-use Rattle.mt_convert.specs.declared.placed.PlacedHalves.{PlacedHalves}
 use Rattle.mt_convert.specs.declared.set.settle.Reach.{Reach}
-use Rattle.mt_convert.specs.Halves.{HalfValue, HalfAtom, HalfLeft, HalfMiddle, HalfRight, HalfStyle, HalfKern, HalfSpace, class_to_left, next_class, settled_half, settled_halves, greatest_height, greatest_depth, settle}
-use Rattle.mt_convert.specs.Halfway.{BoundariesOutside, AllMeet, MayMeet}
 use Rattle.mt_convert.specs.inner.Placed.{placed_value, placed_values, placed_length, placed_count, placed_left, PlacedFits, AllPlacedFit}
 use Rattle.mt_convert.specs.inner.Settling.{settled_item, settled_items, next_placed, CanFollow, AllCanFollow, CanFinish, Finishes}
 use Rattle.mt_convert.proofs.Remaining.{boundaries_settled}
@@ -73,12 +62,7 @@ settle_end hs i after whole z h = subst (λ n. settled_before after (take n hs) 
 -- what an item counts as does not depend on its pieces
 pub left_is : (h : PlacedHalf) (row : List PieceValue) → class_to_left (placed_value h row) ≡ placed_left h
 left_is (placed.Set c n) row = refl
-left_is (placed.Left d) row = refl
-left_is (placed.Middle d) row = refl
-left_is (placed.Right d) row = refl
-left_is (placed.Style s) row = refl
-left_is (placed.Kern k) row = refl
-left_is (placed.Space g) row = refl
+left_is _ row = refl
 
 next_is : (hs : List PlacedHalf) (row : List PieceValue) → next_class (placed_values hs row) ≡ next_placed hs
 next_is [] row = refl
@@ -86,30 +70,15 @@ next_is (h ∷ hs) row = rw (left_is h row, next_is hs (drop (placed_length h) r
 
 item_settled : (h : PlacedHalf) (after : Option Class) (row : List PieceValue) → placed_value (settled_item h after) row ≡ settled_half (placed_value h row) after
 item_settled (placed.Set c n) after row = refl
-item_settled (placed.Left d) after row = refl
-item_settled (placed.Middle d) after row = refl
-item_settled (placed.Right d) after row = refl
-item_settled (placed.Style s) after row = refl
-item_settled (placed.Kern k) after row = refl
-item_settled (placed.Space g) after row = refl
+item_settled _ after row = refl
 
 item_length : (h : PlacedHalf) (after : Option Class) → placed_length (settled_item h after) ≡ placed_length h
 item_length (placed.Set c n) after = refl
-item_length (placed.Left d) after = refl
-item_length (placed.Middle d) after = refl
-item_length (placed.Right d) after = refl
-item_length (placed.Style s) after = refl
-item_length (placed.Kern k) after = refl
-item_length (placed.Space g) after = refl
+item_length _ after = refl
 
 item_fits : (h : PlacedHalf) (after : Option Class) → PlacedFits h → PlacedFits (settled_item h after)
 item_fits (placed.Set c n) after k = k
-item_fits (placed.Left d) after k = k
-item_fits (placed.Middle d) after k = k
-item_fits (placed.Right d) after k = k
-item_fits (placed.Style s) after k = k
-item_fits (placed.Kern x) after k = k
-item_fits (placed.Space g) after k = k
+item_fits _ after k = k
 
 values_settled : (hs : List PlacedHalf) (row : List PieceValue) → placed_values (settled_items hs) row ≡ settled_halves (placed_values hs row)
 values_settled [] row = refl
@@ -147,9 +116,7 @@ meet_settled last (HalfAtom c r ∷ hs) h = (meets last c (next_class hs) h.0, m
 meet_settled last (HalfLeft d ∷ hs) h = (meets last Open (next_class hs) h.0, meet_settled (Some Open) hs h.1)
 meet_settled last (HalfMiddle d ∷ hs) h = (meets last Close (next_class hs) h.0, meet_settled (Some Open) hs h.1)
 meet_settled last (HalfRight d ∷ hs) h = (meets last Close (next_class hs) h.0, meet_settled (Some Close) hs h.1)
-meet_settled last (HalfStyle s ∷ hs) h = (meets_none (last_settled last (next_class hs)), meet_settled last hs h.1)
-meet_settled last (HalfKern k ∷ hs) h = (meets_none (last_settled last (next_class hs)), meet_settled last hs h.1)
-meet_settled last (HalfSpace g ∷ hs) h = (meets_none (last_settled last (next_class hs)), meet_settled last hs h.1)
+meet_settled last (_ ∷ hs) h = (meets_none (last_settled last (next_class hs)), meet_settled last hs h.1)
 
 pub height_low : (hs : List HalfValue) → pos 0 ≤ℤ greatest_height hs
 height_low [] = omega (arith, ints)

@@ -1,19 +1,10 @@
 -- The rows of items taken from a stack, from the last item on (`ItemsTaken`).
-use Rattle.std.proofs.Common.{◌≡◌, ℕ, ◌≤◌, ◌<◌, ◌+◌, ◌-◌, ◌^◌, List, [], ◌∷◌, ◌++◌, length, take, drop, reverse, get_or, ap, sym, ◌∙◌, refl, arith, subst, append_assoc, append-nil, length-append, length-take-le, take-append-drop}
-use Rattle.std.proofs.lemmas.List.{take_all, take_at, drop_at, take_more, reverse-append, nil_from_length}
-use Rattle.std.specs.Prelude.{None, pos, ◌≤ℤ◌}
-use Rattle.mt_scaled.specs.Number.{max_dimen}
-use Rattle.mt_box.specs.declared.piece.Piece.{Piece}
-use Rattle.mt_box.specs.Rows.{PieceValue, piece_values, AllMeasurable, row_level}
-use Rattle.mt_rules.specs.declared.class.Class.{Class}
+use Rattle.std.proofs.Common.{◌≡◌, ℕ, ◌≤◌, ◌<◌, ◌+◌, ◌-◌, ◌^◌, List, [], ◌∷◌, ◌++◌, length, take, drop, reverse, get_or, ap, sym, ◌∙◌, refl, arith, subst, append_assoc, length-append, length-take-le, take-append-drop, None, pos, ◌≤ℤ◌}
+use Rattle.mt_convert.proofs.Common.{take_all, drop_at, take_more, reverse-append, max_dimen, Piece, PieceValue, piece_values, AllMeasurable, row_level, Class, PlacedHalf, PlacedHalves, HalfAtom, half_value, half_values, HalfwayValue, IsHalfway, HalvesFit, RowFits, total_of, AllMeet, BoundariesOutside}
 use Rattle.mt_convert.specs.declared.half.Half.{Half}
 use Rattle.mt_convert.specs.declared.half.Half.TheVariants as half
-use Rattle.mt_convert.specs.declared.placed.PlacedHalf.{PlacedHalf}
 use Rattle.mt_convert.specs.declared.placed.PlacedHalf.TheVariants as placed
-use Rattle.mt_convert.specs.declared.placed.PlacedHalves.{PlacedHalves}
-use Rattle.mt_convert.specs.Halves.{HalfAtom}
-use Rattle.mt_convert.specs.Halfway.{half_value, half_values, halves_value, HalfwayValue, IsHalfway, HalvesFit, RowFits, total_of, AllMeet, BoundariesOutside}
-use Rattle.mt_convert.specs.inner.Placed.{placed_values, placed_halves, placed_length, placed_count, PlacedFits, AllPlacedFit, IsPlaced}
+use Rattle.mt_convert.specs.inner.Placed.{placed_values, placed_length, placed_count, PlacedFits, AllPlacedFit, IsPlaced}
 use Rattle.mt_convert.specs.inner.Taken.{IsTaken, AreTaken}
 use Rattle.mt_convert.proofs.PlacedValues.{values_append, count_append}
 use Rattle.mt_convert.proofs.PutRows.{values_length}
@@ -36,15 +27,6 @@ atom_taken class count first taken old front row e c f g fits =
       fits = λ _. fits;
     }
 
-pub atom_left : (count first : ℕ) (old new front row : List PieceValue) → old ≡ front ++ row → count ≡ length row → first ≡ length old - count → new ≡ take first old → new ≡ front
-atom_left count first old new front row e c f g =
-    let at : length front ≡ first = omega (arith, f, c, ap length e, length-append front row) in
-    g ∙ (ap (take first) e ∙ take_at front row first at)
-
--- an item that has no row
-pub alone_left : (old front row : List PieceValue) → old ≡ front ++ row → 0 ≡ length row → old ≡ front
-alone_left old front row e c = e ∙ (ap (λ r. front ++ r) (nil_from_length row (sym c)) ∙ append-nil front)
-
 -- ---- items in order
 
 pub record ItemsTaken (items left : List PlacedHalf) (row now : List PieceValue) (halves : List Half) : Type 0 where
@@ -53,15 +35,6 @@ pub record ItemsTaken (items left : List PlacedHalf) (row now : List PieceValue)
   pub total : total_of (reverse halves) + placed_count left ≡ placed_count items
   pub left_fit : AllPlacedFit items → AllPlacedFit left
   pub fit : AllPlacedFit items → (n : ℕ) → 1 ≤ n → HalvesFit n (reverse halves)
-
-pub taken_start : (items left : List PlacedHalf) (row : List PieceValue) (halves : List Half) → left ≡ items → halves ≡ [] → placed_count items ≡ length row → ItemsTaken items left row row halves
-taken_start items left row halves e f c = rw (e, f) (record {
-  count = c;
-  are = append-nil (placed_values items row);
-  total = omega arith;
-  left_fit = λ k. k;
-  fit = λ k n le. tt;
-})
 
 -- the pieces of the last item, and those before them
 pub record Apart (hs : List PlacedHalf) (item : PlacedHalf) (now : List PieceValue) : Type 0 where
@@ -149,6 +122,3 @@ is_halfway h row v p t e f = record {
   depth_low = subst (λ z. pos 0 ≤ℤ z) (sym f) p.depth_low;
   depth_high = subst (λ z. z ≤ℤ pos max_dimen) (sym f) p.depth_high;
 }
-
-pub same_halves : (h : PlacedHalves) (row : List PieceValue) (v : HalfwayValue) → AreTaken v.items h.items row → v.height ≡ h.height.sp → v.depth ≡ h.depth.sp → halves_value v ≡ placed_halves h row
-same_halves h row v t e f = rw (t.are, e, f) refl

@@ -1,13 +1,9 @@
 -- What a thing of an arena is (`thing_kind`): an item, a row, a row of a table or a root.
-use Rattle.std.proofs.Common.{◌≡◌, ℕ, suc, ◌+◌, ◌<◌, ◌≤◌, List, [], ◌∷◌, length, take, slice_get, Some, true, ap, refl, sym, ◌∙◌, arith}
-use Rattle.std.proofs.lemmas.List.{drop_all, length-take}
-use Rattle.mt_rules.specs.Sequence.{Element, Rows, NoRows, MoreRows, TableGrid, NoTableRows, MoreTableRows, End, EmptyPart, RootPart}
+use Rattle.std.proofs.Common.{◌≡◌, ℕ, ◌+◌, ◌<◌, ◌≤◌, List, [], ◌∷◌, length, take, slice_get, Some, true, ap, refl, ◌∙◌, arith}
+use Rattle.mt_convert.proofs.Common.{drop_all, Element, NoRows, MoreRows, NoTableRows, MoreTableRows, End, EmptyPart, RootPart, Span, Thing, Held, ItemHeld, as_grid, as_root, as_rows, grid_in, held_in, rows_in, sequence_in, value_in, is_item}
+use Rattle.std.proofs.lemmas.List.{length-take}
 use Rattle.mt_arena.specs.declared.thing.RootParts.{RootParts}
-use Rattle.mt_arena.specs.declared.thing.Span.{Span}
-use Rattle.mt_arena.specs.declared.thing.Thing.{Thing}
 use Rattle.mt_arena.specs.declared.thing.Thing.TheVariants as thing
-use Rattle.mt_arena.specs.Arena.{Held, ItemHeld, as_grid, as_root, as_rows, grid_in, held_in, rows_in, sequence_in, value_in}
-use Rattle.mt_arena.specs.Rest.{is_item}
 use Rattle.mt_arena.proofs.Growing.{next_in}
 
 data ThingKind (es : List Held) (t : Thing) : Type 0 where
@@ -17,21 +13,10 @@ data ThingKind (es : List Held) (t : Thing) : Type 0 where
   ARoot : (parts : RootParts) → t ≡ thing.Root parts → ThingKind es t
 
 thing_kind : (es : List Held) (t : Thing) → ThingKind es t
-thing_kind es (thing.Atom x) = AnItem _ refl
-thing_kind es (thing.Fraction x) = AnItem _ refl
-thing_kind es (thing.Left x) = AnItem _ refl
-thing_kind es (thing.Middle x) = AnItem _ refl
-thing_kind es (thing.Right x) = AnItem _ refl
-thing_kind es (thing.Style x) = AnItem _ refl
-thing_kind es (thing.Choice x) = AnItem _ refl
-thing_kind es (thing.MuSpace x) = AnItem _ refl
-thing_kind es (thing.Space x) = AnItem _ refl
-thing_kind es (thing.MuKern x) = AnItem _ refl
-thing_kind es (thing.Kern x) = AnItem _ refl
-thing_kind es thing.Nonscript = AnItem _ refl
 thing_kind es (thing.Row list) = ARow list refl
 thing_kind es (thing.Cells cells) = SomeCells cells refl
 thing_kind es (thing.Root parts) = ARoot parts refl
+thing_kind es _ = AnItem _ refl
 
 pub record IsItem (h : Held) : Type 0 where
   pub element : Element

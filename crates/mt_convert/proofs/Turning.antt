@@ -1,30 +1,10 @@
 -- What a turn leaves: a smaller list, with no more items, nesting or amounts (`turn_keeps`), and the same as in the definition (`same_turn`).
-use Rattle.std.proofs.Common.{◌≡◌, ℕ, ◌+◌, ◌≤◌, max, ap, sym, ◌∙◌, refl, arith, [], ◌∷◌, Option, Some, None}
-use Rattle.std.proofs.lemmas.Int.{ints}
-use Rattle.std.specs.Prelude.{pos, Bool, true, false, ◌&&◌, if◌then◌else◌}
-use Rattle.mt_tfm.specs.declared.pair.Pair.{Pair}
+use Rattle.std.proofs.Common.{◌≡◌, ℕ, ◌+◌, ◌≤◌, max, ap, sym, ◌∙◌, refl, arith, [], ◌∷◌, Option, Some, None, pos, Bool, true, false, ◌&&◌, if◌then◌else◌}
+use Rattle.mt_convert.proofs.Common.{ints, Pair, Size, SetValue, Class, Kind, Limits, Style, D, Symbol, size_of, is_display_or_text, OrdinarySymbol, TextSymbol, SmartPair, is_empty, Sequence, Element, Part, End, More, AtomElement, FractionElement, LeftElement, MiddleElement, RightElement, StyleElement, ChoiceElement, MuSpaceElement, SpaceElement, MuKernElement, KernElement, NonscriptElement, EmptyPart, sequence_size, element_size, list_items, element_items, list_nesting, element_nesting, ListAmounts, ElementAmounts, IsAmount, Current, SymbolPair, MoreItems, StyleItem, append_items, is_ord_by_now, is_any_but_inner, content_symbol, first_symbol, symbol_of_item, next_symbol, symbol_pair, pair_of_fonts, items_of, item_of, content_of, Passes, Rewrites, FlatSpace, turn, atom_turn, pair_turn, as_symbol, first_as_symbol, list_for, is_space_or_kern, without_space, after_nonscript, no_glue, append_list}
 use Rattle.mt_tfm.specs.declared.pair.Pair.TheVariants.{None as NoPair, Kern as KernPair, Join as JoinPair, Smart as RefusedPair}
-use Rattle.mt_family.specs.declared.size.Size.{Size}
-use Rattle.mt_family.specs.SetValue.{SetValue}
-use Rattle.mt_rules.specs.declared.class.Class.{Class}
-use Rattle.mt_rules.specs.declared.kind.Kind.{Kind}
-use Rattle.mt_rules.specs.declared.kind.Limits.{Limits}
-use Rattle.mt_rules.specs.declared.style.Style.{Style}
-use Rattle.mt_rules.specs.declared.style.Style.TheVariants.{D, Dc, T, Tc, S, Sc, Ss, Ssc}
-use Rattle.mt_rules.specs.declared.symbol.Symbol.{Symbol}
-use Rattle.mt_rules.specs.Styles.{size_of, is_display_or_text}
-use Rattle.mt_rules.specs.Nuclei.{OrdinarySymbol, TextSymbol, SmartPair, is_empty}
-use Rattle.mt_rules.specs.Sequence.{Sequence, Element, Part, End, More, AtomElement, FractionElement, LeftElement, MiddleElement, RightElement, StyleElement, ChoiceElement, MuSpaceElement, SpaceElement, MuKernElement, KernElement, NonscriptElement, EmptyPart, SymbolPart, ListPart, RowsPart, TablePart, RootPart, BigPart, sequence_size, element_size}
-use Rattle.mt_rules.specs.Modest.{list_items, element_items, list_nesting, element_nesting, ListAmounts, ElementAmounts, IsAmount}
-use Rattle.mt_convert.specs.declared.flat.current.Current.{Current}
-use Rattle.mt_convert.specs.declared.flat.joining.SymbolPair.{SymbolPair}
-use Rattle.mt_convert.specs.Contents.{MoreItems, StyleItem, append_items}
-use Rattle.mt_convert.specs.Joining.{is_ord_by_now, is_any_but_inner, content_symbol, first_symbol, symbol_of_item, next_symbol, symbol_pair, pair_of_fonts}
-use Rattle.mt_convert.specs.ListRow.{items_of, item_of, content_of}
-use Rattle.mt_convert.specs.Flat.{Passes, Rewrites, FlatSpace, turn, atom_turn, pair_turn, as_symbol, first_as_symbol, list_for, is_space_or_kern, without_space, after_nonscript, no_glue, current_after_items}
 use Rattle.mt_convert.specs.inner.Fields.{atom_content}
-use Rattle.mt_arena.specs.Rest.{append_list}
-use Rattle.mt_convert.specs.inner.Turns.{PassedElement, PassedAtom, PassedFraction, PassedLeft, PassedMiddle, PassedRight, PassedStyle, PassedMuSpace, PassedSpace, PassedMuKern, PassedKern, ListTurn, PassesOne, RewritesTo, element_of_passed, part_symbol, is_empty_part, symbol_before, symbol_of_element, next_symbol_of, element_as_symbol, first_element_as, turn_by_pair, turn_of_atom, is_space_element, list_without_space, list_after_nonscript, turn_of, turn_meaning, flat_items, current_after_passed}
+use Rattle.mt_convert.specs.inner.Turns.{PassedElement, PassedAtom, PassedFraction, PassedLeft, PassedMiddle, PassedRight, PassedStyle, PassedMuSpace, PassedSpace, PassedMuKern, PassedKern, ListTurn, PassesOne, RewritesTo, element_of_passed, part_symbol, is_empty_part, symbol_before, symbol_of_element, next_symbol_of, element_as_symbol, first_element_as, turn_by_pair, turn_of_atom, is_space_element, list_without_space, list_after_nonscript, turn_of, turn_meaning}
+use Rattle.mt_convert.proofs.Choosing.{one_of_four}
 
 -- ---- in size, items, nesting and amounts
 
@@ -56,17 +36,7 @@ positive (More e s) = omega (arith, positive s)
 
 pub element_positive : (e : Element) → 1 ≤ element_size e
 element_positive (AtomElement kind limits nucleus sup sub) = omega arith
-element_positive (FractionElement thickness left right num den) = omega arith
-element_positive (LeftElement delim) = omega arith
-element_positive (MiddleElement delim) = omega arith
-element_positive (RightElement delim) = omega arith
-element_positive (StyleElement style) = omega arith
-element_positive (ChoiceElement display text script small) = omega arith
-element_positive (MuSpaceElement glue) = omega arith
-element_positive (SpaceElement glue) = omega arith
-element_positive (MuKernElement amount) = omega arith
-element_positive (KernElement amount) = omega arith
-element_positive NonscriptElement = omega arith
+element_positive _ = omega arith
 
 pub nesting_positive : (s : Sequence) → 1 ≤ list_nesting s
 nesting_positive End = omega arith
@@ -101,14 +71,12 @@ choice_with style a b c d taken s size items nesting amounts = record {
 }
 
 choice_keeps : (current : Current) (style : Style) (a b c d s : Sequence) → TurnKeeps (ChoiceElement a b c d) s (RewritesTo (More (StyleElement current.style) (append_list (list_for style a b c d) s)))
-choice_keeps current D a b c d s = choice_with current.style a b c d a s (omega (arith, positive b, positive c, positive d)) (omega arith) (omega arith) (λ g. g.0)
-choice_keeps current Dc a b c d s = choice_with current.style a b c d a s (omega (arith, positive b, positive c, positive d)) (omega arith) (omega arith) (λ g. g.0)
-choice_keeps current T a b c d s = choice_with current.style a b c d b s (omega (arith, positive a, positive c, positive d)) (omega arith) (omega arith) (λ g. g.1)
-choice_keeps current Tc a b c d s = choice_with current.style a b c d b s (omega (arith, positive a, positive c, positive d)) (omega arith) (omega arith) (λ g. g.1)
-choice_keeps current S a b c d s = choice_with current.style a b c d c s (omega (arith, positive a, positive b, positive d)) (omega arith) (omega arith) (λ g. g.2)
-choice_keeps current Sc a b c d s = choice_with current.style a b c d c s (omega (arith, positive a, positive b, positive d)) (omega arith) (omega arith) (λ g. g.2)
-choice_keeps current Ss a b c d s = choice_with current.style a b c d d s (omega (arith, positive a, positive b, positive c)) (omega arith) (omega arith) (λ g. g.3)
-choice_keeps current Ssc a b c d s = choice_with current.style a b c d d s (omega (arith, positive a, positive b, positive c)) (omega arith) (omega arith) (λ g. g.3)
+choice_keeps current style a b c d s =
+    one_of_four (λ x. TurnKeeps (ChoiceElement a b c d) s (RewritesTo (More (StyleElement current.style) (append_list x s)))) style a b c d
+    (choice_with current.style a b c d a s (omega (arith, positive b, positive c, positive d)) (omega arith) (omega arith) (λ g. g.0))
+    (choice_with current.style a b c d b s (omega (arith, positive a, positive c, positive d)) (omega arith) (omega arith) (λ g. g.1))
+    (choice_with current.style a b c d c s (omega (arith, positive a, positive b, positive d)) (omega arith) (omega arith) (λ g. g.2))
+    (choice_with current.style a b c d d s (omega (arith, positive a, positive b, positive c)) (omega arith) (omega arith) (λ g. g.3))
 
 -- ---- a part of the rest, or a smaller one in its place
 
@@ -157,17 +125,7 @@ same_element e = record { size = omega arith; items = omega arith; nesting = ome
 
 less_as_symbol : (symbol : Symbol) (e : Element) → ElementIsLess e (element_as_symbol symbol e)
 less_as_symbol symbol (AtomElement kind limits nucleus sup sub) = record { size = omega arith; items = omega arith; nesting = omega arith; amounts = λ g. (tt, g.1, g.2) }
-less_as_symbol symbol (FractionElement thickness left right num den) = same_element _
-less_as_symbol symbol (LeftElement delim) = same_element _
-less_as_symbol symbol (MiddleElement delim) = same_element _
-less_as_symbol symbol (RightElement delim) = same_element _
-less_as_symbol symbol (StyleElement style) = same_element _
-less_as_symbol symbol (ChoiceElement display text script small) = same_element _
-less_as_symbol symbol (MuSpaceElement glue) = same_element _
-less_as_symbol symbol (SpaceElement glue) = same_element _
-less_as_symbol symbol (MuKernElement amount) = same_element _
-less_as_symbol symbol (KernElement amount) = same_element _
-less_as_symbol symbol NonscriptElement = same_element _
+less_as_symbol symbol _ = same_element _
 
 joined_keeps : (symbol : Symbol) (e : Element) (s : Sequence) → TurnKeeps e s (RewritesTo (first_element_as symbol s))
 joined_keeps symbol e End = record { size = omega (arith, element_positive e); items = omega arith; nesting = omega arith; amounts = λ g h. h }
@@ -214,31 +172,15 @@ items_append_list fonts (More e s) t = ap (λ r. MoreItems (item_of fonts e) r) 
 
 same_list_for : (fonts : SetValue) (style : Style) (a b c d : Sequence) → list_for style (items_of fonts a) (items_of fonts b) (items_of fonts c) (items_of fonts d) ≡ items_of fonts (list_for style a b c d)
 same_list_for fonts D a b c d = refl
-same_list_for fonts Dc a b c d = refl
-same_list_for fonts T a b c d = refl
-same_list_for fonts Tc a b c d = refl
-same_list_for fonts S a b c d = refl
-same_list_for fonts Sc a b c d = refl
-same_list_for fonts Ss a b c d = refl
-same_list_for fonts Ssc a b c d = refl
+same_list_for fonts _ a b c d = refl
 
 pub same_empty : (fonts : SetValue) (part : Part) → is_empty (content_of fonts part) ≡ is_empty_part part
 same_empty fonts EmptyPart = refl
-same_empty fonts (SymbolPart symbol) = refl
-same_empty fonts (ListPart list) = refl
-same_empty fonts (RowsPart rows) = refl
-same_empty fonts (TablePart look grid) = refl
-same_empty fonts (RootPart degree body) = refl
-same_empty fonts (BigPart delim level) = refl
+same_empty fonts _ = refl
 
 same_part_symbol : (fonts : SetValue) (part : Part) → content_symbol (content_of fonts part) ≡ part_symbol part
 same_part_symbol fonts EmptyPart = refl
-same_part_symbol fonts (SymbolPart symbol) = refl
-same_part_symbol fonts (ListPart list) = refl
-same_part_symbol fonts (RowsPart rows) = refl
-same_part_symbol fonts (TablePart look grid) = refl
-same_part_symbol fonts (RootPart degree body) = refl
-same_part_symbol fonts (BigPart delim level) = refl
+same_part_symbol fonts _ = refl
 
 same_first : (fonts : SetValue) (last : Option Class) (kind : Kind) (limits : Limits) (nucleus sup sub : Part) → first_symbol last (atom_content fonts kind limits nucleus sup sub) ≡ symbol_before last kind nucleus sup sub
 same_first fonts last kind limits nucleus sup sub =
@@ -248,17 +190,7 @@ same_first fonts last kind limits nucleus sup sub =
 
 same_symbol_of : (fonts : SetValue) (e : Element) → symbol_of_item (item_of fonts e) ≡ symbol_of_element e
 same_symbol_of fonts (AtomElement kind limits nucleus sup sub) = ap (λ x. if is_any_but_inner kind then x else None) (same_part_symbol fonts nucleus)
-same_symbol_of fonts (FractionElement thickness left right num den) = refl
-same_symbol_of fonts (LeftElement delim) = refl
-same_symbol_of fonts (MiddleElement delim) = refl
-same_symbol_of fonts (RightElement delim) = refl
-same_symbol_of fonts (StyleElement style) = refl
-same_symbol_of fonts (ChoiceElement display text script small) = refl
-same_symbol_of fonts (MuSpaceElement glue) = refl
-same_symbol_of fonts (SpaceElement glue) = refl
-same_symbol_of fonts (MuKernElement amount) = refl
-same_symbol_of fonts (KernElement amount) = refl
-same_symbol_of fonts NonscriptElement = refl
+same_symbol_of fonts _ = refl
 
 same_next : (fonts : SetValue) (s : Sequence) → next_symbol (items_of fonts s) ≡ next_symbol_of s
 same_next fonts End = refl
@@ -266,28 +198,15 @@ same_next fonts (More e s) = same_symbol_of fonts e
 
 same_as_symbol : (fonts : SetValue) (symbol : Symbol) (e : Element) → as_symbol symbol (item_of fonts e) ≡ item_of fonts (element_as_symbol symbol e)
 same_as_symbol fonts symbol (AtomElement kind limits nucleus sup sub) = refl
-same_as_symbol fonts symbol (FractionElement thickness left right num den) = refl
-same_as_symbol fonts symbol (LeftElement delim) = refl
-same_as_symbol fonts symbol (MiddleElement delim) = refl
-same_as_symbol fonts symbol (RightElement delim) = refl
-same_as_symbol fonts symbol (StyleElement style) = refl
-same_as_symbol fonts symbol (ChoiceElement display text script small) = refl
-same_as_symbol fonts symbol (MuSpaceElement glue) = refl
-same_as_symbol fonts symbol (SpaceElement glue) = refl
-same_as_symbol fonts symbol (MuKernElement amount) = refl
-same_as_symbol fonts symbol (KernElement amount) = refl
-same_as_symbol fonts symbol NonscriptElement = refl
+same_as_symbol fonts symbol _ = refl
 
 same_joined : (fonts : SetValue) (symbol : Symbol) (s : Sequence) → first_as_symbol symbol (items_of fonts s) ≡ items_of fonts (first_element_as symbol s)
 same_joined fonts symbol End = refl
 same_joined fonts symbol (More e s) = ap (λ item. MoreItems item (items_of fonts s)) (same_as_symbol fonts symbol e)
 
 same_by_pair : (fonts : SetValue) (p : SymbolPair) (kind : Kind) (limits : Limits) (nucleus sup sub : Part) (s : Sequence) (found : Option Pair) → pair_turn p (atom_content fonts kind limits nucleus sup sub) (items_of fonts s) found ≡ turn_meaning fonts (turn_by_pair p (PassedAtom kind limits nucleus sup sub) s found)
-same_by_pair fonts p kind limits nucleus sup sub s None = refl
-same_by_pair fonts p kind limits nucleus sup sub s (Some NoPair) = refl
-same_by_pair fonts p kind limits nucleus sup sub s (Some (KernPair amount)) = refl
 same_by_pair fonts p kind limits nucleus sup sub s (Some (JoinPair code)) = ap Rewrites (same_joined fonts (record { fam = p.fam; code = code }) s)
-same_by_pair fonts p kind limits nucleus sup sub s (Some RefusedPair) = refl
+same_by_pair fonts p kind limits nucleus sup sub s _ = refl
 
 same_of_atom : (fonts : SetValue) (size : Size) (kind : Kind) (limits : Limits) (nucleus sup sub : Part) (s : Sequence) (p : Option SymbolPair) → atom_turn fonts size (atom_content fonts kind limits nucleus sup sub) (items_of fonts s) p ≡ turn_meaning fonts (turn_of_atom fonts size (PassedAtom kind limits nucleus sup sub) s p)
 same_of_atom fonts size kind limits nucleus sup sub s None = refl
@@ -302,17 +221,7 @@ same_atom fonts current kind limits nucleus sup sub s =
 
 same_is_space : (fonts : SetValue) (e : Element) → is_space_or_kern (item_of fonts e) ≡ is_space_element e
 same_is_space fonts (AtomElement kind limits nucleus sup sub) = refl
-same_is_space fonts (FractionElement thickness left right num den) = refl
-same_is_space fonts (LeftElement delim) = refl
-same_is_space fonts (MiddleElement delim) = refl
-same_is_space fonts (RightElement delim) = refl
-same_is_space fonts (StyleElement style) = refl
-same_is_space fonts (ChoiceElement display text script small) = refl
-same_is_space fonts (MuSpaceElement glue) = refl
-same_is_space fonts (SpaceElement glue) = refl
-same_is_space fonts (MuKernElement amount) = refl
-same_is_space fonts (KernElement amount) = refl
-same_is_space fonts NonscriptElement = refl
+same_is_space fonts _ = refl
 
 items_if : (fonts : SetValue) (b : Bool) (s t : Sequence) → (if b then items_of fonts s else items_of fonts t) ≡ items_of fonts (if b then s else t)
 items_if fonts true s t = refl
@@ -331,29 +240,8 @@ same_nonscript fonts style s =
 
 pub same_turn : (fonts : SetValue) (current : Current) (e : Element) (s : Sequence) → turn fonts current (item_of fonts e) (items_of fonts s) ≡ turn_meaning fonts (turn_of fonts current e s)
 same_turn fonts current (AtomElement kind limits nucleus sup sub) s = same_atom fonts current kind limits nucleus sup sub s
-same_turn fonts current (FractionElement thickness left right num den) s = refl
-same_turn fonts current (LeftElement delim) s = refl
-same_turn fonts current (MiddleElement delim) s = refl
-same_turn fonts current (RightElement delim) s = refl
-same_turn fonts current (StyleElement style) s = refl
 same_turn fonts current (ChoiceElement display text script small) s =
     ap (λ x. Rewrites (MoreItems (StyleItem current.style) (append_items x (items_of fonts s)))) (same_list_for fonts current.style display text script small)
     ∙ ap (λ x. Rewrites (MoreItems (StyleItem current.style) x)) (sym (items_append_list fonts (list_for current.style display text script small) s))
-same_turn fonts current (MuSpaceElement glue) s = refl
-same_turn fonts current (SpaceElement glue) s = refl
-same_turn fonts current (MuKernElement amount) s = refl
-same_turn fonts current (KernElement amount) s = refl
 same_turn fonts current NonscriptElement s = ap (λ x. Passes (FlatSpace no_glue ∷ []) x) (same_nonscript fonts current.style s)
-
-pub same_current : (fonts : SetValue) (current : Current) (p : PassedElement) → current_after_items current (flat_items fonts p) ≡ current_after_passed current p
-same_current fonts current (PassedAtom kind limits nucleus sup sub role None) = refl
-same_current fonts current (PassedAtom kind limits nucleus sup sub role (Some amount)) = refl
-same_current fonts current (PassedFraction thickness left right num den) = refl
-same_current fonts current (PassedLeft delim) = refl
-same_current fonts current (PassedMiddle delim) = refl
-same_current fonts current (PassedRight delim) = refl
-same_current fonts current (PassedStyle style) = refl
-same_current fonts current (PassedMuSpace glue) = refl
-same_current fonts current (PassedSpace glue) = refl
-same_current fonts current (PassedMuKern amount) = refl
-same_current fonts current (PassedKern amount) = refl
+same_turn fonts current _ s = refl

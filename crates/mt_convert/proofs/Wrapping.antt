@@ -1,25 +1,12 @@
 -- The public calls, by way of a stack that begins empty (`pass_is`, `list_taken`, `halves_taken`).
-use Rattle.std.proofs.Common.{◌≡◌, ◌≤◌, ◌^◌, List, [], ◌++◌, take, drop, length, ap, sym, refl, ◌∙◌, arith, subst}
-use Rattle.std.specs.Prelude.{Ok, Err, Result, All, OnOk}
-use Rattle.mt_family.specs.SetValue.{SetValue}
-use Rattle.mt_box.specs.declared.piece.Piece.{Piece}
-use Rattle.mt_box.specs.Rows.{PieceValue, piece_values}
-use Rattle.mt_rules.specs.declared.style.Style.{Style}
-use Rattle.mt_rules.specs.Sequence.{Sequence}
-use Rattle.mt_rules.specs.Setting.{Setting}
-use Rattle.mt_convert.specs.declared.fault.SetFault.{SetFault}
-use Rattle.mt_convert.specs.declared.placed.PlacedHalves.{PlacedHalves}
-use Rattle.mt_convert.specs.Calls.{SetFails, RowOn, SetsRowOn}
-use Rattle.mt_convert.specs.Halves.{Halves}
-use Rattle.mt_convert.specs.Holding.{RowHolds}
-use Rattle.mt_convert.specs.ListRow.{halves_of, list_row}
-use Rattle.mt_convert.specs.SecondPass.{second_pass_of}
+use Rattle.std.proofs.Common.{◌≡◌, ◌≤◌, ◌^◌, List, [], ◌++◌, take, drop, length, ap, sym, refl, ◌∙◌, arith, subst, Ok, Err, Result, All, OnOk}
+use Rattle.mt_convert.proofs.Common.{SetValue, Piece, PieceValue, piece_values, Style, Sequence, Setting, SetFault, PlacedHalves, RowOn, SetsRowOn, Halves, RowHolds, second_pass_of, IsSoundFont}
 use Rattle.mt_convert.specs.inner.Fields.{list_content}
 use Rattle.mt_convert.specs.inner.Placed.{placed_halves, HalvesOn, IsPlaced}
-use Rattle.mt_tfm.specs.Font.{IsSoundFont}
 use Rattle.mt_convert.proofs.Behind.{row_behind}
 use Rattle.mt_convert.proofs.holds.Lists.{list_row_holds}
 use Rattle.mt_convert.proofs.PutRows.{values_length}
+use Rattle.mt_convert.specs.ListRow.{halves_of, list_row}
 
 halves_are : (x y : Halves) → ◌≡◌ {A = Setting Halves} (Ok x) (Ok y) → x ≡ y
 halves_are x y e = cc

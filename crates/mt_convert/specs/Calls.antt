@@ -1,5 +1,5 @@
--- What a call answers, beside what setting answers (`SetsRow`): the same row, or the same fault. Want of memory may
--- come in its place.
+-- What a call answers, beside what setting answers (`SetsRow`): the same row, or the same fault. That memory ran out
+-- may come in its place.
 use Rattle.std.specs.Prelude.{◌≡◌, ◌++◌, List, Result, Ok, Err, ⊤}
 use Rattle.mt_box.specs.declared.piece.Piece.{Piece}
 use Rattle.mt_box.specs.Rows.{PieceValue, piece_values}

@@ -80,7 +80,7 @@ abbrev pub first_as_symbol : Symbol → ItemContents → ItemContents
 first_as_symbol symbol NoItems = NoItems
 first_as_symbol symbol (MoreItems item rest) = MoreItems (as_symbol symbol item) rest
 
--- The first of a pair that is looked up is a symbol of a text; a kern of the pair stands between the two. Where the
+-- The first of a pair that is looked up is a symbol of a text; a kern of the pair is between the two. Where the
 -- pair has a ligature of another kind, setting this atom is refused, so what follows it has no effect.
 abbrev pub pair_turn : SymbolPair → AtomContent → ItemContents → Option Pair → FrontTurn
 pair_turn p a rest None = passes (FlatAtom OrdinarySymbol a) rest

@@ -69,7 +69,7 @@ total_of (h ∷ hs) = count_of h + total_of hs
 
 -- ---- neighbours
 
--- two neighbouring atoms do not have classes that never stand side by side
+-- two neighbouring atoms do not have classes that are never side by side
 abbrev pub MayMeet : Option Class → Option Class → Type 0
 MayMeet None right = ⊤
 MayMeet (Some left) None = ⊤
@@ -82,7 +82,7 @@ AllMeet last (h ∷ hs) = MayMeet last (class_to_left h) × AllMeet (option_or (
 
 -- ---- boundaries and middles
 
--- a right boundary stands only last, a left one and a middle nowhere
+-- a right boundary is only last, a left one and a middle nowhere
 abbrev pub MayEnd : List HalfValue → Type 0
 MayEnd [] = ⊤
 MayEnd (HalfRight delim ∷ hs) = hs ≡ []
@@ -90,14 +90,14 @@ MayEnd (HalfLeft delim ∷ hs) = ⊥
 MayEnd (HalfMiddle delim ∷ hs) = ⊥
 MayEnd (h ∷ hs) = MayEnd hs
 
--- after a middle: there is a right boundary, which stands last, and a left one nowhere
+-- after a middle: there is a right boundary, which is last, and a left one nowhere
 abbrev pub MustEnd : List HalfValue → Type 0
 MustEnd [] = ⊥
 MustEnd (HalfRight delim ∷ hs) = hs ≡ []
 MustEnd (HalfLeft delim ∷ hs) = ⊥
 MustEnd (h ∷ hs) = MustEnd hs
 
--- after a left boundary: a right one stands only last, a left one nowhere, and middles only before a right one
+-- after a left boundary: a right one is only last, a left one nowhere, and middles only before a right one
 abbrev pub EndsAfterLeft : List HalfValue → Type 0
 EndsAfterLeft [] = ⊤
 EndsAfterLeft (HalfRight delim ∷ hs) = hs ≡ []
@@ -105,7 +105,7 @@ EndsAfterLeft (HalfLeft delim ∷ hs) = ⊥
 EndsAfterLeft (HalfMiddle delim ∷ hs) = MustEnd hs
 EndsAfterLeft (h ∷ hs) = EndsAfterLeft hs
 
--- a left boundary stands only first, a right one only last, and middles only between these two
+-- a left boundary is only first, a right one only last, and middles only between these two
 abbrev pub BoundariesOutside : List HalfValue → Type 0
 BoundariesOutside (HalfLeft delim ∷ hs) = EndsAfterLeft hs
 BoundariesOutside hs = MayEnd hs

@@ -8,7 +8,7 @@ pub mod Fields
 pub mod Turns
 -- one turn on a list in an arena
 pub mod Spans
--- where boundaries stand in what is left of a list
+-- where boundaries are in what is left of a list
 pub mod Boundaries
 -- the cells of a table that have a column
 pub mod Tables

@@ -6,8 +6,8 @@ use std::marker::Model;
 /// A list between the two passes: its items with their final classes, and the greatest height and
 /// depth of its atoms, in scaled points.
 ///
-/// A left boundary stands only first, a right one only last, and middles only between these two. No
-/// two neighbouring atoms have classes that never stand side by side; a middle counts as Close to its
+/// A left boundary is only first, a right one only last, and middles only between these two. No
+/// two neighbouring atoms have classes that are never side by side; a middle counts as Close to its
 /// left and as Open to its right. There are at most 2^19 items, with at most 2^20 pieces in
 /// their rows. Each number in it is at most 2^40 in size, the height and the depth are from 0 to
 /// 2^30 - 1, and boxes have a level of at most 2^16.

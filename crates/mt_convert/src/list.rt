@@ -1,13 +1,11 @@
 //! The conversion of a math list on a stack of pieces (The TeXbook, Appendix G; tex.web, sections 726 to 767).
-ghost use Rattle.std.specs.Prelude.{◌≡◌, ◌≤◌, ◌++◌, ◌^◌, All, IfErr, IfOk, OnOk};
-ghost use Rattle.std.specs.Prelude.{List, drop, length};
+ghost use Rattle.std.specs.Prelude.{◌≡◌, ◌≤◌, ◌++◌, ◌^◌, All, IfErr, IfOk, OnOk, List, drop, length};
 ghost use Rattle.mt_rules.specs.declared.class.Class.{Class};
 ghost use Rattle.mt_rules.specs.declared.kind.Kind.TheVariants.{Plain};
 ghost use Rattle.mt_box.specs.Rows.{PieceValue};
 ghost use Rattle.mt_scaled.specs.Number.{Within};
-ghost use Rattle.mt_rules.specs.AtomRow.{accent_inside, overline_part, pack_cells, pack_rows};
-ghost use Rattle.mt_rules.specs.AtomRow.{packed_field, radical_part, radical_row, script_box};
-ghost use Rattle.mt_rules.specs.AtomRow.{table_part, underline_part, vcenter_part, veil_part};
+ghost use Rattle.mt_rules.specs.AtomRow.{accent_inside, pack_cells, pack_rows, packed_field};
+ghost use Rattle.mt_rules.specs.AtomRow.{radical_row, script_box, table_part, vcenter_part, veil_part};
 ghost use Rattle.mt_rules.specs.declared.list.Look.TheVariants.{Equations};
 ghost use Rattle.mt_rules.specs.Sequence.{rows_length};
 ghost use Rattle.mt_rules.specs.Nuclei.{Content, SymbolContent, clean_field, clean_list};
@@ -15,18 +13,15 @@ ghost use Rattle.mt_arena.specs.Arena.{cell_part, grid_in, rows_in, sequence_in}
 ghost use Rattle.mt_convert.specs.Calls.{SetFails, SetsRowOn};
 ghost use Rattle.mt_convert.specs.FirstPass;
 ghost use Rattle.mt_convert.specs.ListRow.{cells_by_style, halves_of, rows_by_style};
-ghost use Rattle.mt_convert.specs.inner.Fields.{atom_row_of, field_content, fraction_row_of};
-ghost use Rattle.mt_convert.specs.inner.Fields.{list_content};
-ghost use Rattle.mt_convert.specs.inner.AtomSteps.{accent_part, class_nucleus, kind_nucleus};
-ghost use Rattle.mt_convert.specs.inner.AtomSteps.{operator_box, row_with_fields};
+ghost use Rattle.mt_convert.specs.inner.Fields.{atom_row_of, field_content, fraction_row_of, list_content};
+ghost use Rattle.mt_convert.specs.inner.AtomSteps.{accent_part, class_nucleus, kind_nucleus, operator_box, row_with_fields};
 ghost use Rattle.mt_convert.specs.inner.AtomSteps.{list_box, part_box, symbol_with_scripts, under_limits};
 ghost use Rattle.mt_convert.specs.inner.Forms.{HasDegree};
 ghost use Rattle.mt_convert.specs.inner.Modest.{IsModestGrid, IsModestRows};
 ghost use Rattle.mt_convert.specs.inner.OnPieces.{CellsOn, SetsAtomOn, SetsBoxOn, SetsBoxesOn, SetsHalfOn};
 ghost use Rattle.mt_convert.specs.inner.OnPieces.{SetsNucleusOn, SetsOperatorOn, SetsScriptOn};
 ghost use Rattle.mt_convert.specs.inner.Placed.{SetsHalvesOn};
-ghost use Rattle.mt_convert.specs.inner.Spans.{passed_in};
-ghost use Rattle.mt_convert.specs.inner.Spans.{ModestAtom, ModestCell, ModestFraction, ModestPassed, ModestSpan};
+ghost use Rattle.mt_convert.specs.inner.Spans.{passed_in, ModestAtom, ModestCell, ModestFraction, ModestPassed, ModestSpan};
 ghost use Rattle.mt_convert.specs.inner.Tables.{rows_in_columns};
 ghost use Rattle.mt_convert.specs.inner.Turns.{flat_item, role_value};
 
@@ -39,6 +34,7 @@ use crate::flat::turn::turn;
 use crate::lone::lone_atom;
 use crate::placed::{PlacedHalf, PlacedHalves, placed_after};
 use crate::second::join::join_on;
+use crate::set::answers::part_set;
 use crate::set::clean::{clean_symbol, cleaned, empty_box, find_symbol, packed, symbol_extents};
 use crate::set::form::{AtomForm, class_nucleus, form_of};
 use crate::set::lengths::{
@@ -48,8 +44,7 @@ use crate::set::nucleus::{
     big_nucleus, big_operator, part_nucleus, part_operator, symbol_nucleus, symbol_operator,
 };
 use crate::set::parts::{
-    accent, field_skew, fraction, overline, radical, root_of, skew_of, underline, vcenter, veil,
-    with_degree,
+    accent, field_skew, fraction, root_of, skew_of, vcenter, veil, with_degree,
 };
 use crate::set::row::{test_row, tested};
 use crate::set::rows::{next_cells, next_row};
@@ -109,7 +104,7 @@ pub(crate) fn first_pass_on(
             let half = set_item(pieces, context, current, &passed)?;
             reach = reach.with_pieces(pieces, first);
             push_with_kern(&mut items, half, passed.kern())?;
-            current = current.after_passed(&passed);
+            current = current.after_half(half);
         }
     }
     Ok(finish(items, reach))
@@ -348,6 +343,7 @@ fn set_nucleus(
 
 // The box of an atom of any kind but the plain one.
 #[cycle(setting)]
+#[inline(never)]
 fn set_part(
     pieces: &mut Pieces,
     context: Context<'_>,
@@ -362,10 +358,19 @@ fn set_part(
         (field_content context.entry.fonts.now context.entry.arena.now.closed field)) }
 {
     match kind {
-        Kind::Radical(sign) => set_radical(pieces, context, style, sign, field),
+        Kind::Radical(sign) => {
+            clean_field(pieces, context, style.cramped(), field)?;
+            part_set(pieces.radical(context.fonts, style, sign))
+        }
         Kind::Accent(accent) => set_accent(pieces, context, style, accent, field),
-        Kind::Over => set_overline(pieces, context, style, field),
-        Kind::Under => set_underline(pieces, context, style, field),
+        Kind::Over => {
+            clean_field(pieces, context, style.cramped(), field)?;
+            part_set(pieces.overline(context.fonts, style.size()))
+        }
+        Kind::Under => {
+            clean_field(pieces, context, style, field)?;
+            part_set(pieces.underline(context.fonts, style.size()))
+        }
         Kind::Vcenter => set_vcenter(pieces, context, style, field),
         Kind::Veil {
             width,
@@ -491,60 +496,9 @@ fn set_root(
     let root = root_of(context.arena, nucleus);
     let first = pieces.len();
     pack_field(pieces, context, Style::Ss, Cell::List(root.degree))?;
-    set_radical(pieces, context, style.uncramped(), sign, root.body)?;
+    let kind = Kind::Radical(sign);
+    set_part(pieces, context, style.uncramped(), kind, root.body)?;
     with_degree(pieces, context.fonts, style, first)
-}
-
-#[cycle(setting)]
-#[inline(never)]
-fn set_radical(
-    pieces: &mut Pieces,
-    context: Context<'_>,
-    style: Style,
-    sign: Delim,
-    field: Cell,
-) -> Result<(), SetFault>
-    requires modest { ModestCell context.arena.now.closed field }
-    ensures is { SetsBoxOn result pieces.old pieces.new
-        (radical_part context.entry.fonts.now style sign
-        (field_content context.entry.fonts.now context.entry.arena.now.closed field)) }
-{
-    clean_field(pieces, context, style.cramped(), field)?;
-    radical(pieces, context.fonts, style, sign)
-}
-
-#[cycle(setting)]
-#[inline(never)]
-fn set_overline(
-    pieces: &mut Pieces,
-    context: Context<'_>,
-    style: Style,
-    field: Cell,
-) -> Result<(), SetFault>
-    requires modest { ModestCell context.arena.now.closed field }
-    ensures is { SetsBoxOn result pieces.old pieces.new
-        (overline_part context.entry.fonts.now style
-        (field_content context.entry.fonts.now context.entry.arena.now.closed field)) }
-{
-    clean_field(pieces, context, style.cramped(), field)?;
-    overline(pieces, context.fonts, style.size())
-}
-
-#[cycle(setting)]
-#[inline(never)]
-fn set_underline(
-    pieces: &mut Pieces,
-    context: Context<'_>,
-    style: Style,
-    field: Cell,
-) -> Result<(), SetFault>
-    requires modest { ModestCell context.arena.now.closed field }
-    ensures is { SetsBoxOn result pieces.old pieces.new
-        (underline_part context.entry.fonts.now style
-        (field_content context.entry.fonts.now context.entry.arena.now.closed field)) }
-{
-    clean_field(pieces, context, style, field)?;
-    underline(pieces, context.fonts, style.size())
 }
 
 // An accent over a nucleus whose scripts belong to the whole.

@@ -1,6 +1,5 @@
 //! The rows of a list between the two passes put on a stack of pieces.
-ghost use Rattle.std.specs.Prelude.{◌≡◌, ◌^◌, ◌++◌, IfOk, Ok, OnOk};
-ghost use Rattle.mt_box.specs.Rows.{AllMeasurable, piece_values};
+ghost use Rattle.std.specs.Prelude.{◌^◌, IfOk, Ok};
 ghost use Rattle.mt_convert.specs.Halfway.{HalfFits, HalvesFit, halves_value};
 ghost use Rattle.mt_convert.specs.inner.Placed.{HalvesOn};
 ghost use Rattle.mt_convert.specs.inner.Put.{ArePut, IsPut};
@@ -8,7 +7,6 @@ ghost use Rattle.mt_convert.specs.inner.Put.{ArePut, IsPut};
 use crate::half::{Half, HalfList};
 use crate::halfway::Halfway;
 use crate::placed::{PlacedHalf, PlacedHalves, PlacedList};
-use mt_box::Row;
 use mt_pieces::Pieces;
 use mt_scaled::Length;
 use std::alloc::{AllocError, Global};
@@ -53,7 +51,7 @@ fn put_item(pieces: &mut Pieces, item: Half) -> Result<PlacedHalf, AllocError>
     match item {
         Half::Set { class, row } => {
             let count = row.len();
-            put_row(pieces, row)?;
+            pieces.put_row(row)?;
             Ok(PlacedHalf::Set { class, count })
         }
         Half::Left(delim) => Ok(PlacedHalf::Left(delim)),
@@ -63,15 +61,4 @@ fn put_item(pieces: &mut Pieces, item: Half) -> Result<PlacedHalf, AllocError>
         Half::Kern(amount) => Ok(PlacedHalf::Kern(amount)),
         Half::Space(glue) => Ok(PlacedHalf::Space(glue)),
     }
-}
-
-// The pieces of a row behind the others.
-fn put_row(pieces: &mut Pieces, row: Row) -> Result<(), AllocError>
-    requires { AllMeasurable row }
-    ensures { OnOk result (pieces.new ≡ pieces.old ++ piece_values row) }
-{
-    for piece in row.into_vec() {
-        pieces.put_piece(piece)?;
-    }
-    Ok(())
 }

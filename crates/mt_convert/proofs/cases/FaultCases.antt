@@ -1,14 +1,6 @@
 -- Lists whose setting is refused, worked.
 use Rattle.std.proofs.Common.{◌≡◌, refl, Err, Some, pos, [], ◌∷◌}
-use Rattle.mt_family.specs.declared.size.Size.TheVariants.{Text}
-use Rattle.mt_rules.specs.declared.style.Style.TheVariants.{T}
-use Rattle.mt_rules.specs.declared.class.Class.TheVariants.{Ord, Inner}
-use Rattle.mt_rules.specs.declared.kind.Kind.TheVariants.{Plain}
-use Rattle.mt_rules.specs.Sequence.{FractionElement, LeftElement, RightElement, KernElement, EmptyPart, ListPart}
-use Rattle.mt_rules.specs.Setting.{MissingFamily, MissingChar, Overflow, TooTall}
-use Rattle.mt_convert.specs.ListRow.{list_row}
-use Rattle.mt_rules.proofs.cases.ToyFonts.{toy}
-use Rattle.mt_rules.proofs.cases.Writing.{delim, no_delim}
+use Rattle.mt_convert.proofs.Common.{Text, T, Ord, Inner, Plain, FractionElement, LeftElement, RightElement, KernElement, EmptyPart, ListPart, MissingFamily, MissingChar, Overflow, TooTall, list_row, toy, delim, no_delim}
 use Rattle.mt_convert.proofs.cases.Writing.{list, atom, plain, letter, roman, group, from_top, evaluated}
 
 -- a character that its font does not have

@@ -1,11 +1,6 @@
 -- Symbols that are joined, worked.
 use Rattle.std.proofs.Common.{◌≡◌, refl, Ok, Err, pos, [], ◌∷◌}
-use Rattle.mt_family.specs.declared.size.Size.TheVariants.{Text}
-use Rattle.mt_box.specs.declared.place.Place.TheVariants.{Glyph}
-use Rattle.mt_rules.specs.declared.style.Style.TheVariants.{T}
-use Rattle.mt_rules.specs.Setting.{SmartLigature}
-use Rattle.mt_convert.specs.ListRow.{list_row}
-use Rattle.mt_rules.proofs.cases.ToyFonts.{toy}
+use Rattle.mt_convert.proofs.Common.{Text, Glyph, T, SmartLigature, list_row, toy}
 use Rattle.mt_convert.proofs.cases.Writing.{list, roman, from_top, evaluated}
 
 -- f i: a ligature takes the place of both

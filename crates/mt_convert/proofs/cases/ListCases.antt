@@ -1,13 +1,6 @@
 -- Lists of symbols, spaces, styles and choices, worked.
 use Rattle.std.proofs.Common.{◌≡◌, refl, Ok, pos, [], ◌∷◌}
-use Rattle.mt_box.specs.declared.place.Place.TheVariants.{Glyph}
-use Rattle.mt_rules.specs.declared.style.Style.TheVariants.{T, S}
-use Rattle.mt_rules.specs.declared.class.Class.TheVariants.{Ord}
-use Rattle.mt_rules.specs.declared.kind.Kind.TheVariants.{Plain}
-use Rattle.mt_rules.specs.declared.symbol.Glue.{Glue}
-use Rattle.mt_rules.specs.Sequence.{End, StyleElement, ChoiceElement, MuSpaceElement, NonscriptElement, EmptyPart, ListPart}
-use Rattle.mt_convert.specs.ListRow.{list_row}
-use Rattle.mt_rules.proofs.cases.ToyFonts.{toy}
+use Rattle.mt_convert.proofs.Common.{Glyph, T, S, Ord, Plain, Glue, End, StyleElement, ChoiceElement, MuSpaceElement, NonscriptElement, EmptyPart, ListPart, list_row, toy}
 use Rattle.mt_convert.proofs.cases.Writing.{list, symbol, atom, letter, plus, equals, from_top, evaluated}
 
 -- 3mu
@@ -44,7 +37,7 @@ style_inside : from_top (list_row toy T (list (letter 97 ∷ StyleElement S ∷ 
 unfolding evaluated
 style_inside = refl
 
--- a, a conditional space, a thin space, b: in text style the space stands
+-- a, a conditional space, a thin space, b: in text style the space is there
 nonscript_in_text : from_top (list_row toy T (list (letter 97 ∷ NonscriptElement ∷ MuSpaceElement thin ∷ letter 98 ∷ []))) ≡ Ok (Glyph 3 97 (pos 0) (pos 327680) ∷ Glyph 3 98 (pos 436904) (pos 327680) ∷ [])
 unfolding evaluated
 nonscript_in_text = refl

@@ -1,16 +1,6 @@
 -- Middles between boundaries, worked.
 use Rattle.std.proofs.Common.{◌≡◌, refl, Ok, Err, Some, None, pos, List, [], ◌∷◌}
-use Rattle.mt_family.specs.declared.size.Size.TheVariants.{Text}
-use Rattle.mt_box.specs.declared.place.Place.TheVariants.{Glyph, Rule}
-use Rattle.mt_rules.specs.declared.style.Style.TheVariants.{D, Dc, T, S, Ss}
-use Rattle.mt_rules.specs.declared.class.Class.TheVariants.{Ord, Op, Bin, Punct, Inner}
-use Rattle.mt_rules.specs.declared.kind.Kind.TheVariants.{Plain}
-use Rattle.mt_rules.specs.declared.symbol.Glue.{Glue}
-use Rattle.mt_rules.specs.Sequence.{Element, End, FractionElement, LeftElement, MiddleElement, RightElement, StyleElement, ChoiceElement, MuSpaceElement, KernElement, NonscriptElement, EmptyPart, ListPart}
-use Rattle.mt_rules.specs.Setting.{MissingFamily, Overflow, TooTall}
-use Rattle.mt_convert.specs.ListRow.{list_row}
-use Rattle.mt_rules.proofs.cases.ToyFonts.{toy}
-use Rattle.mt_rules.proofs.cases.Writing.{delim, no_delim}
+use Rattle.mt_convert.proofs.Common.{Text, Glyph, Rule, D, Dc, T, S, Ss, Ord, Op, Bin, Punct, Inner, Plain, Glue, Element, End, FractionElement, LeftElement, MiddleElement, RightElement, StyleElement, ChoiceElement, MuSpaceElement, KernElement, NonscriptElement, EmptyPart, ListPart, MissingFamily, Overflow, TooTall, list_row, toy, delim, no_delim}
 use Rattle.mt_convert.proofs.cases.Writing.{list, symbol, atom, plain, letter, plus, equals, group, from_top, evaluated}
 
 -- ( and / and )

@@ -1,14 +1,6 @@
 -- Lists with scripts, operators, fractions, roots, lines, accents and boundaries, worked.
 use Rattle.std.proofs.Common.{◌≡◌, refl, Ok, Some, None, pos, [], ◌∷◌}
-use Rattle.mt_box.specs.declared.place.Place.TheVariants.{Glyph, Rule}
-use Rattle.mt_rules.specs.declared.style.Style.TheVariants.{D, T}
-use Rattle.mt_rules.specs.declared.class.Class.TheVariants.{Ord, Op, Bin, Inner}
-use Rattle.mt_rules.specs.declared.kind.Kind.TheVariants.{Plain, Radical, Accent, Over, Under, Vcenter}
-use Rattle.mt_rules.specs.declared.kind.Limits.TheVariants.{Never}
-use Rattle.mt_rules.specs.Sequence.{Element, AtomElement, FractionElement, LeftElement, RightElement, EmptyPart, ListPart, RowsPart, NoRows, MoreRows}
-use Rattle.mt_convert.specs.ListRow.{list_row}
-use Rattle.mt_rules.proofs.cases.ToyFonts.{toy}
-use Rattle.mt_rules.proofs.cases.Writing.{delim, no_delim}
+use Rattle.mt_convert.proofs.Common.{Glyph, Rule, D, T, Ord, Op, Bin, Inner, Plain, Radical, Accent, Over, Under, Vcenter, Never, Element, AtomElement, FractionElement, LeftElement, RightElement, EmptyPart, ListPart, RowsPart, NoRows, MoreRows, list_row, toy, delim, no_delim}
 use Rattle.mt_convert.proofs.cases.Writing.{list, symbol, atom, plain, letter, roman, equals, group, from_top, evaluated}
 
 -- the root of b squared - 4 a c
@@ -31,7 +23,7 @@ a_above_b : from_top (list_row toy T (list (FractionElement (Some (pos 3)) no_de
 unfolding evaluated
 a_above_b = refl
 
--- a root of a minus that stands in a row centred on the axis: the body has a negative depth
+-- a root of a minus that is in a row centred on the axis: the body has a negative depth
 root_of_rows : from_top (list_row toy T (list (atom (Radical (delim 2 112 3 112)) (ListPart (list (atom Vcenter (RowsPart (MoreRows (list (plain Bin 2 0 ∷ [])) NoRows)) EmptyPart EmptyPart ∷ []))) EmptyPart EmptyPart ∷ []))) ≡ Ok (Glyph 6 112 (pos 0) (pos 81920) ∷ Rule (pos 327680) (pos 81920) (pos 40960) (pos 327680) ∷ Glyph 6 0 (pos 327680) (pos 455680) ∷ [])
 unfolding evaluated
 root_of_rows = refl

@@ -1,18 +1,6 @@
 -- Roots, phantoms and big delimiters, worked.
 use Rattle.std.proofs.Common.{◌≡◌, refl, ℕ, Bool, true, false, Ok, Err, None, pos, List, [], ◌∷◌}
-use Rattle.mt_family.specs.declared.size.Size.TheVariants.{Text, Scriptscript}
-use Rattle.mt_box.specs.declared.place.Place.TheVariants.{Glyph, Rule}
-use Rattle.mt_rules.specs.declared.style.Style.TheVariants.{D, Dc, T, S, Sc}
-use Rattle.mt_rules.specs.declared.class.Class.{Class}
-use Rattle.mt_rules.specs.declared.class.Class.TheVariants.{Ord, Op, Rel, Open, Close, Inner}
-use Rattle.mt_rules.specs.declared.kind.Kind.TheVariants.{Plain, Radical, Over, Veil}
-use Rattle.mt_rules.specs.declared.kind.Limits.TheVariants.{Always}
-use Rattle.mt_rules.specs.declared.symbol.Delim.{Delim}
-use Rattle.mt_rules.specs.Sequence.{Element, Part, AtomElement, FractionElement, LeftElement, RightElement, KernElement, EmptyPart, ListPart, RootPart, BigPart}
-use Rattle.mt_rules.specs.Setting.{MissingFamily, Overflow}
-use Rattle.mt_convert.specs.ListRow.{list_row}
-use Rattle.mt_rules.proofs.cases.ToyFonts.{toy}
-use Rattle.mt_rules.proofs.cases.Writing.{neg, delim, no_delim}
+use Rattle.mt_convert.proofs.Common.{Text, Scriptscript, Glyph, Rule, D, Dc, T, S, Sc, Class, Ord, Op, Rel, Open, Close, Inner, Plain, Radical, Over, Veil, Always, Delim, Element, Part, AtomElement, FractionElement, LeftElement, RightElement, KernElement, EmptyPart, ListPart, RootPart, BigPart, MissingFamily, Overflow, list_row, toy, neg, delim, no_delim}
 use Rattle.mt_convert.proofs.cases.Writing.{list, symbol, atom, plain, letter, roman, plus, equals, group, from_top, evaluated}
 
 abbrev root : List Element → Part → Element
@@ -137,7 +125,7 @@ sum_with_a_phantom : from_top (list_row toy T (list (letter 97 ∷ plus ∷ phan
 unfolding evaluated
 sum_with_a_phantom = refl
 
--- it is not joined with what stands before it
+-- it is not joined with what is before it
 no_ligature : from_top (list_row toy T (list (roman 102 ∷ phantom (symbol 0 105) ∷ []))) ≡ Ok (Glyph 0 102 (pos 0) (pos 327680) ∷ [])
 unfolding evaluated
 no_ligature = refl

@@ -1,18 +1,6 @@
--- Tables, worked: each stands behind an empty atom, between spaces of 3mu.
+-- Tables, worked: each is behind an empty atom, between spaces of 3mu.
 use Rattle.std.proofs.Common.{◌≡◌, refl, ℕ, Ok, Err, pos, List, [], ◌∷◌}
-use Rattle.mt_family.specs.declared.size.Size.TheVariants.{Text}
-use Rattle.mt_box.specs.declared.place.Place.TheVariants.{Glyph}
-use Rattle.mt_rules.specs.declared.style.Style.TheVariants.{D, T, S}
-use Rattle.mt_rules.specs.declared.class.Class.TheVariants.{Ord}
-use Rattle.mt_rules.specs.declared.kind.Kind.TheVariants.{Plain, Vcenter}
-use Rattle.mt_rules.specs.declared.list.Look.{Look}
-use Rattle.mt_rules.specs.declared.list.Look.TheVariants.{Matrix, Equations}
-use Rattle.mt_rules.specs.declared.symbol.Glue.{Glue}
-use Rattle.mt_rules.specs.Sequence.{Sequence, Element, Rows, TableGrid, MuSpaceElement, KernElement, EmptyPart, TablePart, NoRows, MoreRows, NoTableRows, MoreTableRows}
-use Rattle.mt_rules.specs.Setting.{MissingFamily, Overflow}
-use Rattle.mt_convert.specs.ListRow.{list_row}
-use Rattle.mt_rules.proofs.cases.ToyFonts.{toy}
-use Rattle.mt_rules.proofs.cases.Writing.{neg}
+use Rattle.mt_convert.proofs.Common.{Text, Glyph, D, T, S, Ord, Plain, Vcenter, Look, Matrix, Equations, Glue, Sequence, Element, Rows, TableGrid, MuSpaceElement, KernElement, EmptyPart, TablePart, NoRows, MoreRows, NoTableRows, MoreTableRows, MissingFamily, Overflow, list_row, toy, neg}
 use Rattle.mt_convert.proofs.cases.Writing.{list, atom, plain, letter, plus, equals, group, from_top, evaluated}
 
 abbrev letters : List ℕ → List Element

@@ -1,23 +1,17 @@
 -- Short forms for worked lists, and what evaluating them unfolds.
-use Rattle.std.specs.Prelude.{ℕ, pos, List, [], ◌∷◌, Ok, ⊤}
+use Rattle.std.proofs.Common.{ℕ, pos, List, [], ◌∷◌, Ok}
+use Rattle.mt_convert.proofs.Common.{PieceValue, pack, Class, Ord, Bin, Rel, Kind, Plain, Default, Sequence, Element, Part, End, More, AtomElement, EmptyPart, SymbolPart, ListPart, Setting, ◌>>=◌}
+use Rattle.std.specs.Prelude.{⊤}
 use Rattle.mt_box.specs.declared.place.Place.{Place}
 use Rattle.mt_box.specs.Placing.{all_lowered}
-use Rattle.mt_box.specs.Rows.{PieceValue, pack}
-use Rattle.mt_rules.specs.declared.class.Class.{Class}
-use Rattle.mt_rules.specs.declared.class.Class.TheVariants.{Ord, Bin, Rel}
-use Rattle.mt_rules.specs.declared.kind.Kind.{Kind}
-use Rattle.mt_rules.specs.declared.kind.Kind.TheVariants.{Plain}
-use Rattle.mt_rules.specs.declared.kind.Limits.TheVariants.{Default}
-use Rattle.mt_rules.specs.Sequence.{Sequence, Element, Part, End, More, AtomElement, EmptyPart, SymbolPart, ListPart}
-use Rattle.mt_rules.specs.Setting.{Setting, ◌>>=◌}
-use Rattle.mt_rules.specs.Tables.{matrix_table, equations_table}
+use Rattle.mt_rules.proofs.cases.Writing as rules
 use Rattle.mt_rules.specs.Veils.{veil_layout}
+use Rattle.mt_rules.specs.Tables.{matrix_table, equations_table}
 use Rattle.mt_rules.specs.Roots.{root_row}
 use Rattle.mt_rules.specs.BigDelimiters.{big_delimiter}
-use Rattle.mt_convert.specs.FirstPass.{first_pass_of}
 use Rattle.mt_convert.specs.SecondPass.{second_pass_of}
 use Rattle.mt_convert.specs.ListRow.{halves_of, list_row}
-use Rattle.mt_rules.proofs.cases.Writing as rules
+use Rattle.mt_convert.specs.FirstPass.{first_pass_of}
 
 -- ---- lists
 

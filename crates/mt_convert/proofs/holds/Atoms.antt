@@ -1,37 +1,9 @@
 -- The row of an atom, and that of a fraction, hold where the rows of the lists inside them do.
-use Rattle.std.proofs.Common.{pos, List, [], ◌∷◌, Some, None, unwrap_or, Bool, true, false, if◌then◌else◌}
-use Rattle.std.specs.Prelude.{IfOk, Ok, not, ◌&&◌}
-use Rattle.mt_family.specs.SetValue.{SetValue}
-use Rattle.mt_box.specs.Layout.{Layout}
-use Rattle.mt_box.specs.Rows.{PieceBox}
-use Rattle.mt_rules.specs.declared.class.Class.{Class}
+use Rattle.std.proofs.Common.{pos, List, [], ◌∷◌, Some, None, unwrap_or, Bool, true, false, if◌then◌else◌, IfOk, Ok, not, ◌&&◌}
+use Rattle.mt_convert.proofs.Common.{SetValue, Layout, PieceBox, Class, Kind, Plain, Radical, Accent, Over, Under, Vcenter, Veil, Look, Matrix, Equations, Symbol, Delim, Style, T, Ss, size_of, sup_of, sub_of, cramped_of, uncramped_of, num_of, den_of, Setting, ◌>>=◌, make_row, pack_row, default_rule_thickness, find_symbol, row_with_scripts, limits, fraction, vcenter, matrix_table, equations_table, root_row, veil_layout, accent, RowByStyle, Content, NoContent, SymbolContent, ListContent, RowsContent, TableContent, RootContent, BigContent, is_empty, SymbolRole, OrdinarySymbol, Nucleus, nucleus_row, make_clean, clean_field, clean_list, uses_limits, AtomContent, script_box, some_box, nucleus_with_scripts, box_nucleus, part_with_scripts, row_of_list, nucleus_under_limits, operator_with_limits, nucleus_beside_scripts, operator_without_limits, operator_by_limits, ordinary_row, class_row, radical_part, packed_field, radical_with_degree, radical_row, veil_part, overline_part, underline_part, pack_rows, vcenter_rows, cells_in_columns, pack_cells, table_strut, table_part, vcenter_part, content_skew, accent_outside, accent_inside, accent_by_scripts, is_symbol, accent_row, kind_row, FractionContent, LayoutHolds, RowHolds}
 use Rattle.mt_rules.specs.declared.class.Class.TheVariants as classes
-use Rattle.mt_rules.specs.declared.kind.Kind.{Kind}
-use Rattle.mt_rules.specs.declared.kind.Kind.TheVariants.{Plain, Radical, Accent, Over, Under, Vcenter, Veil}
-use Rattle.mt_rules.specs.declared.list.Look.{Look}
-use Rattle.mt_rules.specs.declared.list.Look.TheVariants.{Matrix, Equations}
-use Rattle.mt_rules.specs.declared.symbol.Symbol.{Symbol}
-use Rattle.mt_rules.specs.declared.symbol.Delim.{Delim}
-use Rattle.mt_rules.specs.declared.style.Style.{Style}
-use Rattle.mt_rules.specs.declared.style.Style.TheVariants.{T, Ss}
-use Rattle.mt_rules.specs.Styles.{size_of, sup_of, sub_of, cramped_of, uncramped_of, num_of, den_of}
-use Rattle.mt_rules.specs.Setting.{Setting, ◌>>=◌, make_row, pack_row}
-use Rattle.mt_rules.specs.Parameters.{default_rule_thickness}
-use Rattle.mt_rules.specs.Symbols.{find_symbol}
-use Rattle.mt_rules.specs.Scripts.{row_with_scripts}
-use Rattle.mt_rules.specs.Limits.{limits}
-use Rattle.mt_rules.specs.Fractions.{fraction}
 use Rattle.mt_rules.specs.Radicals.{radical}
 use Rattle.mt_rules.specs.Lines.{overline, underline}
-use Rattle.mt_rules.specs.Vcenter.{vcenter}
-use Rattle.mt_rules.specs.Tables.{matrix_table, equations_table}
-use Rattle.mt_rules.specs.Roots.{root_row}
-use Rattle.mt_rules.specs.Veils.{veil_layout}
-use Rattle.mt_rules.specs.Accents.{accent}
-use Rattle.mt_rules.specs.Nuclei.{RowByStyle, Content, NoContent, SymbolContent, ListContent, RowsContent, TableContent, RootContent, BigContent, is_empty, SymbolRole, OrdinarySymbol, Nucleus, nucleus_row, make_clean, clean_field, clean_list}
-use Rattle.mt_rules.specs.Operators.{uses_limits}
-use Rattle.mt_rules.specs.AtomRow.{AtomContent, script_box, some_box, nucleus_with_scripts, box_nucleus, part_with_scripts, row_of_list, nucleus_under_limits, operator_with_limits, nucleus_beside_scripts, operator_without_limits, operator_by_limits, ordinary_row, class_row, radical_part, packed_field, radical_with_degree, radical_row, veil_part, overline_part, underline_part, pack_rows, vcenter_rows, cells_in_columns, pack_cells, table_strut, table_part, vcenter_part, content_skew, accent_outside, accent_inside, accent_by_scripts, is_symbol, accent_row, kind_row, atom_row, FractionContent, fraction_row}
-use Rattle.mt_convert.specs.Holding.{LayoutHolds, RowHolds}
 use Rattle.mt_convert.proofs.holds.Steps.{step_holds, next_holds, row_made}
 use Rattle.mt_convert.proofs.holds.Boxes.{packed_row, clean_box, SomeLayoutHolds, LayoutsHold}
 use Rattle.mt_convert.proofs.holds.Glyphs.{ExistsIn, symbol_found, accent_holds}
@@ -40,6 +12,7 @@ use Rattle.mt_convert.proofs.holds.Nuclei.{ListHolds, ListsHold, CellListsHold, 
 use Rattle.mt_convert.proofs.holds.Scripts.{scripts_hold, limits_hold}
 use Rattle.mt_convert.proofs.holds.Parts.{fraction_holds, radical_holds, root_row_holds, veil_holds, overline_holds, underline_holds, vcenter_holds}
 use Rattle.mt_convert.proofs.holds.Tables.{CellsHold, matrix_holds, equations_hold}
+use Rattle.mt_rules.specs.AtomRow.{atom_row, fraction_row}
 
 module _ (fonts : SetValue) where
   -- ---- scripts
@@ -78,13 +51,10 @@ module _ (fonts : SetValue) where
       step_holds (RowHolds fonts) (NucleusHolds fonts) (list style) (λ row. Ok (record { row = row; delta = pos 0 })) (h style) (λ row k. k)
 
   under_limits : (style : Style) (field : Content) → AreSound fonts → ContentHolds fonts field → IfOk (nucleus_under_limits fonts style field) (NucleusHolds fonts)
-  under_limits style NoContent sound h = tt
   under_limits style (SymbolContent symbol) sound h = operator_nucleus_holds fonts style symbol false
   under_limits style (ListContent list) sound h = list_nucleus list style h
-  under_limits style (RowsContent rows) sound h = tt
-  under_limits style (TableContent look rows) sound h = tt
-  under_limits style (RootContent degree body) sound h = tt
   under_limits style (BigContent delim level) sound h = big_nucleus_holds fonts delim level sound
+  under_limits style _ sound h = tt
 
   limits_row_holds : (style : Style) (field sup sub : Content) → AreSound fonts → ContentHolds fonts field → ContentHolds fonts sup → ContentHolds fonts sub → IfOk (operator_with_limits fonts style field sup sub) (RowHolds fonts)
   limits_row_holds style field sup sub sound h a b =
@@ -106,13 +76,10 @@ module _ (fonts : SetValue) where
       (λ all z. row_made (RowHolds fonts) (PieceBox (pos 0) all ∷ []) (z, tt))))))
 
   beside_scripts : (style : Style) (field : Content) (subscript : Bool) → AreSound fonts → ContentHolds fonts field → IfOk (nucleus_beside_scripts fonts style field subscript) (NucleusHolds fonts)
-  beside_scripts style NoContent subscript sound h = tt
   beside_scripts style (SymbolContent symbol) subscript sound h = operator_nucleus_holds fonts style symbol subscript
   beside_scripts style (ListContent list) subscript sound h = packed_list_holds fonts list style h
-  beside_scripts style (RowsContent rows) subscript sound h = tt
-  beside_scripts style (TableContent look rows) subscript sound h = tt
-  beside_scripts style (RootContent degree body) subscript sound h = tt
   beside_scripts style (BigContent delim level) subscript sound h = big_nucleus_holds fonts delim level sound
+  beside_scripts style _ subscript sound h = tt
 
   no_limits_row_holds : (style : Style) (field sup sub : Content) → AreSound fonts → ContentHolds fonts field → ContentHolds fonts sup → ContentHolds fonts sub → IfOk (operator_without_limits fonts style field sup sub) (RowHolds fonts)
   no_limits_row_holds style field sup sub sound h a b =
@@ -136,13 +103,7 @@ module _ (fonts : SetValue) where
 
   class_holds : (class : Class) (style : Style) (role : SymbolRole) (a : AtomContent) → AreSound fonts → ContentHolds fonts a.nucleus → ContentHolds fonts a.sup → ContentHolds fonts a.sub → IfOk (class_row class fonts style role a) (RowHolds fonts)
   class_holds classes.Op style role a sound h i j = operator_by (uses_limits a.limits style) style a.nucleus a.sup a.sub sound h i j
-  class_holds classes.Ord style role a sound h i j = ordinary_holds style role a.nucleus a.sup a.sub sound h i j
-  class_holds classes.Bin style role a sound h i j = ordinary_holds style role a.nucleus a.sup a.sub sound h i j
-  class_holds classes.Rel style role a sound h i j = ordinary_holds style role a.nucleus a.sup a.sub sound h i j
-  class_holds classes.Open style role a sound h i j = ordinary_holds style role a.nucleus a.sup a.sub sound h i j
-  class_holds classes.Close style role a sound h i j = ordinary_holds style role a.nucleus a.sup a.sub sound h i j
-  class_holds classes.Punct style role a sound h i j = ordinary_holds style role a.nucleus a.sup a.sub sound h i j
-  class_holds classes.Inner style role a sound h i j = ordinary_holds style role a.nucleus a.sup a.sub sound h i j
+  class_holds _ style role a sound h i j = ordinary_holds style role a.nucleus a.sup a.sub sound h i j
 
   -- ---- parts round a nucleus
 
@@ -172,13 +133,8 @@ module _ (fonts : SetValue) where
       (λ row z. row_made (RowHolds fonts) row z)))
 
   radical_row_holds : (style : Style) (sign : Delim) (nucleus sup sub : Content) → AreSound fonts → ContentHolds fonts nucleus → ContentHolds fonts sup → ContentHolds fonts sub → IfOk (radical_row fonts style sign nucleus sup sub) (RowHolds fonts)
-  radical_row_holds style sign NoContent sup sub sound h a b = part_holds style (radical_part fonts style sign NoContent) sup sub (radical_part_holds style sign NoContent sound h) a b
-  radical_row_holds style sign (SymbolContent symbol) sup sub sound h a b = part_holds style (radical_part fonts style sign (SymbolContent symbol)) sup sub (radical_part_holds style sign (SymbolContent symbol) sound h) a b
-  radical_row_holds style sign (ListContent list) sup sub sound h a b = part_holds style (radical_part fonts style sign (ListContent list)) sup sub (radical_part_holds style sign (ListContent list) sound h) a b
-  radical_row_holds style sign (RowsContent rows) sup sub sound h a b = part_holds style (radical_part fonts style sign (RowsContent rows)) sup sub (radical_part_holds style sign (RowsContent rows) sound h) a b
-  radical_row_holds style sign (TableContent look rows) sup sub sound h a b = part_holds style (radical_part fonts style sign (TableContent look rows)) sup sub (radical_part_holds style sign (TableContent look rows) sound h) a b
   radical_row_holds style sign (RootContent degree body) sup sub sound h a b = degree_holds style sign degree body sound h.0 h.1
-  radical_row_holds style sign (BigContent delim level) sup sub sound h a b = part_holds style (radical_part fonts style sign (BigContent delim level)) sup sub (radical_part_holds style sign (BigContent delim level) sound h) a b
+  radical_row_holds style sign other sup sub sound h a b = part_holds style (radical_part fonts style sign other) sup sub (radical_part_holds style sign other sound h) a b
 
   veil_part_holds : (style : Style) (width height marks : Bool) (nucleus : Content) → AreSound fonts → ContentHolds fonts nucleus → IfOk (veil_part fonts style width height marks nucleus) (LayoutHolds fonts)
   veil_part_holds style width height marks nucleus sound h =
@@ -235,13 +191,9 @@ module _ (fonts : SetValue) where
       (cells_hold Equations rows h) (λ cells k. equations_hold fonts (size_of style) cells k)
 
   vcenter_part_holds : (style : Style) (nucleus : Content) → ContentHolds fonts nucleus → IfOk (vcenter_part fonts style nucleus) (LayoutHolds fonts)
-  vcenter_part_holds style NoContent h = vcenter_rows_hold style [] tt
-  vcenter_part_holds style (SymbolContent symbol) h = vcenter_rows_hold style [] tt
-  vcenter_part_holds style (ListContent list) h = vcenter_rows_hold style [] tt
   vcenter_part_holds style (RowsContent rows) h = vcenter_rows_hold style rows h
   vcenter_part_holds style (TableContent look rows) h = table_part_holds style look rows h
-  vcenter_part_holds style (RootContent degree body) h = vcenter_rows_hold style [] tt
-  vcenter_part_holds style (BigContent delim level) h = vcenter_rows_hold style [] tt
+  vcenter_part_holds style _ h = vcenter_rows_hold style [] tt
 
   -- ---- accents
 

@@ -1,20 +1,8 @@
 -- Places, boxes and rows put together: they hold where their parts do.
-use Rattle.std.proofs.Common.{◌≡◌, ℤ, pos, ◌+ℤ◌, ◌-ℤ◌, List, [], ◌∷◌, ◌++◌, refl, Option, Some, None, Bool, true, false, if◌then◌else◌, arith, All}
-use Rattle.std.proofs.lemmas.Int.{ints}
-use Rattle.std.specs.Prelude.{IfOk, int_lt, ⊤}
-use Rattle.std.proofs.lemmas.List.Elements.{All-nil, All-cons}
-use Rattle.std.specs.Int.{int_max}
-use Rattle.std.specs.Ordering.{int_eq}
-use Rattle.mt_scaled.specs.Number.{Within, max_dimen, half_of}
-use Rattle.mt_family.specs.SetValue.{SetValue}
+use Rattle.std.proofs.Common.{◌≡◌, ℤ, pos, ◌+ℤ◌, ◌-ℤ◌, List, [], ◌∷◌, ◌++◌, refl, Option, Some, None, Bool, true, false, if◌then◌else◌, arith, All, IfOk, int_lt}
+use Rattle.mt_convert.proofs.Common.{ints, All-nil, All-cons, int_max, int_eq, Within, max_dimen, half_of, SetValue, Glyph, Rule, Layout, all_moved, rule_places, PieceValue, PieceGlyph, PieceBox, piece_width, piece_places, row_places, pack, rebox, is_unraised, clean_one, clean_row, pack_row, layout_or_empty, make_clean, PlaceHolds, PlacesHold, LayoutHolds, PieceHolds, RowHolds}
+use Rattle.std.specs.Prelude.{⊤}
 use Rattle.mt_box.specs.declared.place.Place.{Place}
-use Rattle.mt_box.specs.declared.place.Place.TheVariants.{Glyph, Rule}
-use Rattle.mt_box.specs.Layout.{Layout, all_moved, rule_places}
-use Rattle.mt_box.specs.Rows.{PieceValue, PieceGlyph, PieceBox, PieceKern, PieceSpace, piece_width, piece_places, row_places, pack}
-use Rattle.mt_box.specs.Boxes.{rebox, is_unraised, clean_one, clean_row}
-use Rattle.mt_rules.specs.Setting.{pack_row, layout_or_empty}
-use Rattle.mt_rules.specs.Nuclei.{make_clean}
-use Rattle.mt_convert.specs.Holding.{PlaceHolds, PlacesHold, LayoutHolds, PieceHolds, RowHolds}
 use Rattle.mt_convert.proofs.holds.Steps.{box_made}
 
 module _ (fonts : SetValue) where
@@ -51,8 +39,7 @@ module _ (fonts : SetValue) where
   piece_hold : (x : ℤ) (p : PieceValue) → PieceHolds fonts p → PlacesHold fonts (piece_places x p)
   piece_hold x (PieceGlyph font code e) h = (h.0, tt)
   piece_hold x (PieceBox raise body) h = moved_hold x raise body.places h
-  piece_hold x (PieceKern amount) h = tt
-  piece_hold x (PieceSpace width shrink) h = tt
+  piece_hold x _ h = tt
 
   -- the places of a row that begins at x
   pub placed_hold : (ps : List PieceValue) (x : ℤ) → RowHolds fonts ps → PlacesHold fonts (row_places x ps)
@@ -75,8 +62,7 @@ module _ (fonts : SetValue) where
   clean_one_holds : (p : PieceValue) → PieceHolds fonts p → LayoutHolds fonts (clean_one p)
   clean_one_holds (PieceGlyph font code e) h = pack_holds (PieceGlyph font code e ∷ []) (h, tt)
   clean_one_holds (PieceBox raise body) h = clean_if (is_unraised raise) raise body h
-  clean_one_holds (PieceKern amount) h = tt
-  clean_one_holds (PieceSpace width shrink) h = tt
+  clean_one_holds _ h = tt
 
   clean_holds : (ps : List PieceValue) → RowHolds fonts ps → LayoutHolds fonts (clean_row ps)
   clean_holds [] h = tt

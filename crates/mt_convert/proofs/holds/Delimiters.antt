@@ -1,29 +1,17 @@
 -- The box of a delimiter holds: a candidate exists, and so do the pieces of an extensible character.
-use Rattle.std.proofs.Common.{◌≡◌, ℕ, zero, suc, ℤ, ◌+ℤ◌, ◌-ℤ◌, List, [], ◌∷◌, ◌++◌, All, replicate, min, refl, subst, Option, Some, None, Bool, true, false, if◌then◌else◌, slice_get, unwrap_or, arith}
-use Rattle.std.specs.Prelude.{IfOk, IsTrue, ◌==◌, ◌&&◌, ◌||◌, int_lt, ⊤}
-use Rattle.std.specs.Option.{option_or}
-use Rattle.std.proofs.lemmas.List.Elements.{All-nil}
+use Rattle.std.proofs.Common.{◌≡◌, ℕ, zero, suc, ℤ, ◌+ℤ◌, ◌-ℤ◌, List, [], ◌∷◌, ◌++◌, All, replicate, min, refl, subst, Option, Some, None, Bool, true, false, if◌then◌else◌, slice_get, unwrap_or, arith, IfOk, IsTrue, ◌==◌, ◌&&◌, ◌||◌, int_lt}
+use Rattle.mt_convert.proofs.Common.{option_or, All-nil, Metrics, IsSoundFont, exists, larger_of, has_recipe, char_at, width_of, italic_of, Size, Text, Script, Scriptscript, SetValue, number_in, Layout, pack, Symbol, Delim, Setting, ◌>>◌, test_extents, make_box, empty_font, font_of_number, extents_without_italic, height_plus_depth, DelimiterVariant, NoVariant, delimiter_variant, null_delimiter, layout_by_recipe, candidate_layout, piece_on_axis, big_height, big_wanted, without_null_width, at_least_high, GlyphHolds, PlacesHold, LayoutHolds}
+use Rattle.std.specs.Prelude.{⊤}
 use Rattle.mt_tfm.specs.declared.recipe.Recipe.{Recipe}
 use Rattle.mt_tfm.specs.Checks.{PiecesExist, piece_fits}
-use Rattle.mt_tfm.specs.Font.{Metrics, IsSoundFont, exists, larger_of, has_recipe, char_at, width_of, italic_of}
 use Rattle.mt_tfm.proofs.ChainLemmas.{at_index}
-use Rattle.mt_family.specs.declared.size.Size.{Size}
-use Rattle.mt_family.specs.declared.size.Size.TheVariants.{Text, Script, Scriptscript}
-use Rattle.mt_family.specs.SetValue.{SetValue, number_in}
-use Rattle.mt_box.specs.Layout.{Layout}
-use Rattle.mt_box.specs.Rows.{pack}
-use Rattle.mt_rules.specs.declared.symbol.Symbol.{Symbol}
-use Rattle.mt_rules.specs.declared.symbol.Delim.{Delim}
-use Rattle.mt_rules.specs.Setting.{Setting, ◌>>◌, test_extents, make_box}
-use Rattle.mt_rules.specs.Symbols.{empty_font, font_of_number, extents_without_italic, height_plus_depth}
 use Rattle.mt_rules.specs.Candidates.{Candidate, candidate, chain_candidates, font_candidates, candidates_at, candidates_from, is_no_symbol, symbol_candidates, candidates, fits, first_fit, total_or_zero, tallest_candidate, chosen_candidate}
 use Rattle.mt_rules.specs.Extensibles.{repeats, test_repeats, recipe_piece, recipe_pieces, glyphs_places, first_height, glyphs_layout, test_glyphs, extensible_layout}
-use Rattle.mt_rules.specs.Delimiters.{DelimiterVariant, NoVariant, CharVariant, ExtensibleVariant, delimiter_variant, null_delimiter, layout_by_recipe, candidate_layout, piece_on_axis, delimiter}
-use Rattle.mt_rules.specs.BigDelimiters.{big_height, big_wanted, without_null_width, at_least_high, big_delimiter}
-use Rattle.mt_convert.specs.Holding.{GlyphHolds, PlacesHold, LayoutHolds}
 use Rattle.mt_convert.proofs.holds.Steps.{step_holds, next_holds, after_extents, two_tests, box_made}
 use Rattle.mt_convert.proofs.holds.Boxes.{pack_holds}
 use Rattle.mt_convert.proofs.holds.Glyphs.{ExistsIn, glyph_holds, character_holds}
+use Rattle.mt_rules.specs.Delimiters.{delimiter}
+use Rattle.mt_rules.specs.BigDelimiters.{big_delimiter}
 
 -- the facts of each font
 abbrev pub AreSound : SetValue → Type 0
@@ -256,8 +244,7 @@ module _ (fonts : SetValue) where
 
   without_null : (variant : DelimiterVariant) (l : Layout) → LayoutHolds fonts l → LayoutHolds fonts (without_null_width variant l)
   without_null NoVariant l h = h
-  without_null (CharVariant font code) l h = h
-  without_null (ExtensibleVariant font code n) l h = h
+  without_null _ l h = h
 
   pub big_holds : (delim : Delim) (level : ℕ) → AreSound fonts → IfOk (big_delimiter fonts delim level) (LayoutHolds fonts)
   unfolding big_delimiter

@@ -1,33 +1,13 @@
 -- The items of a list hold where the rows of the lists inside them do: along the flat list, and through the first pass.
-use Rattle.std.proofs.Common.{ℕ, zero, suc, ℤ, List, [], ◌∷◌, ◌++◌, Option, Some, None, Bool, true, false, if◌then◌else◌}
-use Rattle.std.specs.Prelude.{IfOk, Ok, ⊤}
-use Rattle.mt_tfm.specs.declared.pair.Pair.{Pair}
-use Rattle.mt_tfm.specs.declared.pair.Pair.TheVariants.{None as NoPair, Kern as KernPair, Join as JoinPair, Smart as RefusedPair}
-use Rattle.mt_family.specs.declared.size.Size.{Size}
-use Rattle.mt_family.specs.SetValue.{SetValue}
-use Rattle.mt_rules.specs.declared.class.Class.{Class}
-use Rattle.mt_rules.specs.declared.class.Class.TheVariants.{Inner}
-use Rattle.mt_rules.specs.declared.style.Style.{Style}
-use Rattle.mt_rules.specs.declared.style.Style.TheVariants.{D, Dc, T, Tc, S, Sc, Ss, Ssc}
-use Rattle.mt_rules.specs.declared.symbol.Symbol.{Symbol}
-use Rattle.mt_rules.specs.declared.symbol.Glue.{Glue}
-use Rattle.mt_rules.specs.Styles.{size_of, is_display_or_text}
-use Rattle.mt_rules.specs.Classes.{kind_class, forward_of}
-use Rattle.mt_rules.specs.Setting.{◌>>=◌, ◌>>◌, test_value}
-use Rattle.mt_rules.specs.AtomRow.{AtomContent, atom_row, fraction_row}
-use Rattle.mt_convert.specs.declared.flat.current.Current.{Current}
-use Rattle.mt_convert.specs.Current.{opening}
-use Rattle.mt_convert.specs.Contents.{ItemContent, AtomItem, FractionItem, LeftItem, MiddleItem, RightItem, StyleItem, ChoiceItem, MuSpaceItem, SpaceItem, MuKernItem, KernItem, NonscriptItem, ItemContents, NoItems, MoreItems, append_items}
-use Rattle.mt_convert.specs.declared.flat.joining.SymbolPair.{SymbolPair}
-use Rattle.mt_convert.specs.Joining.{pair_with_next, pair_of_fonts}
-use Rattle.mt_convert.specs.Flat.{FlatItem, FlatAtom, FlatFraction, FlatLeft, FlatMiddle, FlatRight, FlatStyle, FlatMuSpace, FlatSpace, FlatMuKern, FlatKern, current_after_item, FrontTurn, Passes, Rewrites, as_symbol, first_as_symbol, pair_turn, atom_turn, list_for, is_space_or_kern, without_space, turn, current_after_items, flat_by, flat}
-use Rattle.mt_convert.specs.Halves.{HalfValue, HalfAtom, HalfLeft, HalfMiddle, HalfRight, HalfStyle, HalfKern, HalfSpace, Halves, next_class, settled_half, settled_halves, settle}
-use Rattle.mt_rules.specs.MathUnits.{in_points}
-use Rattle.mt_convert.specs.FirstPass.{glue_in_points, make_space, make_kern, set_item, set_items, first_pass_of}
-use Rattle.mt_convert.specs.Holding.{RowHolds}
+use Rattle.std.proofs.Common.{ℕ, zero, suc, ℤ, List, [], ◌∷◌, ◌++◌, Option, Some, None, Bool, true, false, if◌then◌else◌, IfOk, Ok}
+use Rattle.mt_convert.proofs.Common.{Pair, Size, SetValue, Class, Inner, Style, Symbol, Glue, size_of, is_display_or_text, kind_class, forward_of, ◌>>=◌, ◌>>◌, test_value, AtomContent, atom_row, fraction_row, Current, opening, ItemContent, AtomItem, FractionItem, ChoiceItem, NonscriptItem, ItemContents, NoItems, MoreItems, append_items, SymbolPair, pair_with_next, pair_of_fonts, FlatItem, FlatAtom, FlatFraction, FlatLeft, FlatMiddle, FlatRight, FlatStyle, FlatMuSpace, FlatSpace, FlatMuKern, FlatKern, current_after_item, FrontTurn, Passes, Rewrites, as_symbol, first_as_symbol, pair_turn, atom_turn, list_for, is_space_or_kern, without_space, turn, current_after_items, flat_by, flat, HalfValue, HalfAtom, HalfLeft, HalfMiddle, HalfRight, HalfStyle, HalfKern, HalfSpace, Halves, next_class, settled_half, settled_halves, settle, in_points, glue_in_points, make_space, make_kern, set_item, set_items, RowHolds}
+use Rattle.std.specs.Prelude.{⊤}
+use Rattle.mt_tfm.specs.declared.pair.Pair.TheVariants.{Kern as KernPair, Join as JoinPair}
 use Rattle.mt_convert.proofs.holds.Steps.{step_holds, after_value}
 use Rattle.mt_convert.proofs.holds.Delimiters.{AreSound}
 use Rattle.mt_convert.proofs.holds.Atoms.{AtomHolds, FractionHolds, atom_row_holds, fraction_row_holds}
+use Rattle.mt_convert.proofs.Choosing.{one_of_four}
+use Rattle.mt_convert.specs.FirstPass.{first_pass_of}
 
 module _ (fonts : SetValue) where
   -- ---- items
@@ -36,16 +16,8 @@ module _ (fonts : SetValue) where
     pub ItemHolds : ItemContent → Type 0
     ItemHolds (AtomItem a) = AtomHolds fonts a
     ItemHolds (FractionItem f) = FractionHolds fonts f
-    ItemHolds (LeftItem delim) = ⊤
-    ItemHolds (MiddleItem delim) = ⊤
-    ItemHolds (RightItem delim) = ⊤
-    ItemHolds (StyleItem style) = ⊤
     ItemHolds (ChoiceItem display text script small) = ItemsHold display × ItemsHold text × ItemsHold script × ItemsHold small
-    ItemHolds (MuSpaceItem glue) = ⊤
-    ItemHolds (SpaceItem glue) = ⊤
-    ItemHolds (MuKernItem amount) = ⊤
-    ItemHolds (KernItem amount) = ⊤
-    ItemHolds NonscriptItem = ⊤
+    ItemHolds _ = ⊤
 
     pub ItemsHold : ItemContents → Type 0
     ItemsHold NoItems = ⊤
@@ -85,42 +57,20 @@ module _ (fonts : SetValue) where
 
   as_symbol_holds : (symbol : Symbol) (item : ItemContent) → ItemHolds item → ItemHolds (as_symbol symbol item)
   as_symbol_holds symbol (AtomItem a) h = (tt, h.1, h.2)
-  as_symbol_holds symbol (FractionItem f) h = h
-  as_symbol_holds symbol (LeftItem delim) h = h
-  as_symbol_holds symbol (MiddleItem delim) h = h
-  as_symbol_holds symbol (RightItem delim) h = h
-  as_symbol_holds symbol (StyleItem style) h = h
-  as_symbol_holds symbol (ChoiceItem display text script small) h = h
-  as_symbol_holds symbol (MuSpaceItem glue) h = h
-  as_symbol_holds symbol (SpaceItem glue) h = h
-  as_symbol_holds symbol (MuKernItem amount) h = h
-  as_symbol_holds symbol (KernItem amount) h = h
-  as_symbol_holds symbol NonscriptItem h = h
+  as_symbol_holds symbol _ h = h
 
   first_as_symbol_holds : (symbol : Symbol) (items : ItemContents) → ItemsHold items → ItemsHold (first_as_symbol symbol items)
   first_as_symbol_holds symbol NoItems h = h
   first_as_symbol_holds symbol (MoreItems item items) h = (as_symbol_holds symbol item h.0, h.1)
 
   pair_turn_holds : (p : SymbolPair) (a : AtomContent) (rest : ItemContents) (pair : Option Pair) → AtomHolds fonts a → ItemsHold rest → TurnHolds (pair_turn p a rest pair)
-  pair_turn_holds p a rest None h k = ((h, tt), k)
-  pair_turn_holds p a rest (Some NoPair) h k = ((h, tt), k)
   pair_turn_holds p a rest (Some (KernPair amount)) h k = ((h, (tt, tt)), k)
   pair_turn_holds p a rest (Some (JoinPair code)) h k = first_as_symbol_holds (record { fam = p.fam; code = code }) rest k
-  pair_turn_holds p a rest (Some RefusedPair) h k = ((h, tt), k)
+  pair_turn_holds p a rest _ h k = ((h, tt), k)
 
   atom_turn_holds : (size : Size) (a : AtomContent) (rest : ItemContents) (pair : Option SymbolPair) → AtomHolds fonts a → ItemsHold rest → TurnHolds (atom_turn fonts size a rest pair)
   atom_turn_holds size a rest None h k = ((h, tt), k)
   atom_turn_holds size a rest (Some p) h k = pair_turn_holds p a rest (pair_of_fonts fonts size p) h k
-
-  list_for_holds : (style : Style) (display text script small : ItemContents) → ItemsHold display → ItemsHold text → ItemsHold script → ItemsHold small → ItemsHold (list_for style display text script small)
-  list_for_holds D display text script small d t c m = d
-  list_for_holds Dc display text script small d t c m = d
-  list_for_holds T display text script small d t c m = t
-  list_for_holds Tc display text script small d t c m = t
-  list_for_holds S display text script small d t c m = c
-  list_for_holds Sc display text script small d t c m = c
-  list_for_holds Ss display text script small d t c m = m
-  list_for_holds Ssc display text script small d t c m = m
 
   space_by : (b : Bool) (item : ItemContent) (rest : ItemContents) → ItemHolds item → ItemsHold rest → ItemsHold (if b then rest else MoreItems item rest)
   space_by true item rest h k = k
@@ -137,17 +87,10 @@ module _ (fonts : SetValue) where
   turn_holds : (current : Current) (item : ItemContent) (rest : ItemContents) → ItemHolds item → ItemsHold rest → TurnHolds (turn fonts current item rest)
   turn_holds current (AtomItem a) rest h k = atom_turn_holds (size_of current.style) a rest (pair_with_next current.last a rest) h k
   turn_holds current (FractionItem f) rest h k = ((h, tt), k)
-  turn_holds current (LeftItem delim) rest h k = ((tt, tt), k)
-  turn_holds current (MiddleItem delim) rest h k = ((tt, tt), k)
-  turn_holds current (RightItem delim) rest h k = ((tt, tt), k)
-  turn_holds current (StyleItem style) rest h k = ((tt, tt), k)
   turn_holds current (ChoiceItem display text script small) rest h k =
-      (tt, items_append (list_for current.style display text script small) rest (list_for_holds current.style display text script small h.0 h.1 h.2 h.3) k)
-  turn_holds current (MuSpaceItem glue) rest h k = ((tt, tt), k)
-  turn_holds current (SpaceItem glue) rest h k = ((tt, tt), k)
-  turn_holds current (MuKernItem amount) rest h k = ((tt, tt), k)
-  turn_holds current (KernItem amount) rest h k = ((tt, tt), k)
+      (tt, items_append (list_for current.style display text script small) rest (one_of_four ItemsHold current.style display text script small h.0 h.1 h.2 h.3) k)
   turn_holds current NonscriptItem rest h k = ((tt, tt), nonscript_by (is_display_or_text current.style) rest k)
+  turn_holds current _ rest h k = ((tt, tt), k)
 
   -- ---- turn by turn
 
@@ -192,14 +135,11 @@ module _ (fonts : SetValue) where
   item_set current (FlatFraction f) sound h =
       step_holds (RowHolds fonts) HalfHolds (fraction_row fonts current.style f) (λ row. Ok (HalfAtom Inner row))
       (fraction_row_holds fonts current.style f sound h) (λ row k. k)
-  item_set current (FlatLeft delim) sound h = tt
-  item_set current (FlatMiddle delim) sound h = tt
-  item_set current (FlatRight delim) sound h = tt
-  item_set current (FlatStyle style) sound h = tt
   item_set current (FlatMuSpace glue) sound h = space_holds (glue_in_points fonts current.style glue)
   item_set current (FlatSpace glue) sound h = space_holds glue
   item_set current (FlatMuKern amount) sound h = kern_holds (in_points fonts current.style amount)
   item_set current (FlatKern amount) sound h = kern_holds amount
+  item_set current _ sound h = tt
 
   items_set : (items : List FlatItem) (current : Current) → AreSound fonts → FlatsHold items → IfOk (set_items fonts current items) HalvesHold
   items_set [] current sound h = tt
@@ -212,12 +152,7 @@ module _ (fonts : SetValue) where
 
   settled_half_holds : (half : HalfValue) (after : Option Class) → HalfHolds half → HalfHolds (settled_half half after)
   settled_half_holds (HalfAtom class row) after h = h
-  settled_half_holds (HalfLeft delim) after h = h
-  settled_half_holds (HalfMiddle delim) after h = h
-  settled_half_holds (HalfRight delim) after h = h
-  settled_half_holds (HalfStyle style) after h = h
-  settled_half_holds (HalfKern amount) after h = h
-  settled_half_holds (HalfSpace glue) after h = h
+  settled_half_holds _ after h = h
 
   settled_hold : (halves : List HalfValue) → HalvesHold halves → HalvesHold (settled_halves halves)
   settled_hold [] h = tt

@@ -1,21 +1,9 @@
 -- Characters that are found exist in a font of the set, and their glyphs are tested.
-use Rattle.std.proofs.Common.{◌≡◌, ℕ, zero, suc, ℤ, refl, Option, Some, None, Bool, true, false, if◌then◌else◌, slice_get, unwrap_or, nat_le}
-use Rattle.std.specs.Prelude.{Ok, Err, IfOk, ◌&&◌, int_le, ◌==◌, not}
+use Rattle.std.proofs.Common.{◌≡◌, ℕ, zero, suc, ℤ, refl, Option, Some, None, Bool, true, false, if◌then◌else◌, slice_get, unwrap_or, nat_le, Ok, Err, IfOk, ◌&&◌, int_le, ◌==◌, not}
+use Rattle.mt_convert.proofs.Common.{Metrics, exists, width_of, larger_of, param_of, Size, SetValue, number_in, Extents, ExtentsInRange, Layout, glyph_layout, Symbol, Setting, MissingChar, make_box, empty_font, font_of_number, font_with_symbol, find_symbol, extents_without_italic, extents_with_italic, character_layout, widest_within, accent_code, accent_layout, accent_by_code, GlyphHolds, LayoutHolds}
 use Rattle.mt_tfm.specs.Chars.{blank}
-use Rattle.mt_tfm.specs.Font.{Metrics, exists, width_of, larger_of, param_of}
-use Rattle.mt_family.specs.declared.size.Size.{Size}
-use Rattle.mt_family.specs.SetValue.{SetValue, number_in}
-use Rattle.mt_box.specs.declared.extents.Extents.{Extents}
-use Rattle.mt_box.specs.Extents.{ExtentsInRange}
-use Rattle.mt_box.specs.Layout.{Layout}
-use Rattle.mt_box.specs.Boxes.{glyph_layout}
-use Rattle.mt_rules.specs.declared.symbol.Symbol.{Symbol}
-use Rattle.mt_rules.specs.Setting.{Setting, MissingChar, make_box}
-use Rattle.mt_rules.specs.Symbols.{empty_font, font_of_number, font_with_symbol, find_symbol, extents_without_italic, extents_with_italic}
-use Rattle.mt_rules.specs.Delimiters.{character_layout}
-use Rattle.mt_rules.specs.Accents.{widest_within, accent_code, accent_layout, accent_by_code, accent}
-use Rattle.mt_convert.specs.Holding.{GlyphHolds, LayoutHolds}
 use Rattle.mt_convert.proofs.holds.Steps.{after_extents, box_made}
+use Rattle.mt_rules.specs.Accents.{accent}
 
 -- the font that a number stands for has this character
 abbrev pub ExistsIn : SetValue → ℕ → ℕ → Type 0

@@ -1,25 +1,11 @@
 -- Each row that a math list is set to has glyphs that exist in their fonts and rules that mark something (`list_row_holds`).
-use Rattle.std.proofs.Common.{◌≡◌, ℕ, List, All}
-use Rattle.std.specs.Prelude.{Result, IfOk, Ok, Err}
-use Rattle.mt_tfm.specs.Font.{IsSoundFont}
-use Rattle.mt_family.specs.SetValue.{SetValue}
-use Rattle.mt_box.specs.declared.piece.Piece.{Piece}
-use Rattle.mt_box.specs.Rows.{PieceValue, piece_values}
-use Rattle.mt_rules.specs.declared.style.Style.{Style}
-use Rattle.mt_rules.specs.Setting.{◌>>=◌}
-use Rattle.mt_rules.specs.Sequence.{Sequence, Element, Part, Rows, End, More, AtomElement, FractionElement, LeftElement, MiddleElement, RightElement, StyleElement, ChoiceElement, MuSpaceElement, SpaceElement, MuKernElement, KernElement, NonscriptElement, EmptyPart, SymbolPart, ListPart, RowsPart, TablePart, RootPart, BigPart, TableGrid, NoTableRows, MoreTableRows, NoRows, MoreRows, sequence_size}
-use Rattle.mt_convert.specs.declared.fault.SetFault.{SetFault}
-use Rattle.mt_convert.specs.Calls.{SetsRow}
-use Rattle.mt_convert.specs.Contents.{ItemContents}
-use Rattle.mt_convert.specs.Halves.{Halves}
-use Rattle.mt_convert.specs.FirstPass.{first_pass_of}
-use Rattle.mt_convert.specs.SecondPass.{second_pass_of}
-use Rattle.mt_convert.specs.ListRow.{items_of, item_of, content_of, rows_by_style, cells_by_style, halves_of, list_row}
-use Rattle.mt_convert.specs.Holding.{RowHolds}
+use Rattle.std.proofs.Common.{◌≡◌, ℕ, List, All, IfOk, Ok}
+use Rattle.mt_convert.proofs.Common.{IsSoundFont, SetValue, PieceValue, Style, ◌>>=◌, Sequence, Element, Part, Rows, End, More, AtomElement, FractionElement, LeftElement, MiddleElement, RightElement, StyleElement, ChoiceElement, MuSpaceElement, SpaceElement, MuKernElement, KernElement, NonscriptElement, ListPart, RowsPart, TablePart, RootPart, TableGrid, NoTableRows, MoreTableRows, NoRows, MoreRows, sequence_size, ItemContents, Halves, first_pass_of, second_pass_of, items_of, item_of, content_of, rows_by_style, cells_by_style, RowHolds}
 use Rattle.mt_convert.proofs.holds.Steps.{step_holds, answer_holds}
 use Rattle.mt_convert.proofs.holds.Nuclei.{ListsHold, CellListsHold, ContentHolds}
 use Rattle.mt_convert.proofs.holds.FirstPass.{ItemHolds, ItemsHold, HalvesHold, first_pass_holds}
 use Rattle.mt_convert.proofs.holds.SecondPass.{second_pass_holds}
+use Rattle.mt_convert.specs.ListRow.{halves_of, list_row}
 
 module _ (fonts : SetValue) (sound : All IsSoundFont fonts.fonts) where
   two_passes : (turns : ℕ) (style : Style) (items : ItemContents) → ItemsHold fonts items → IfOk (first_pass_of fonts turns style items >>= (λ halves. second_pass_of fonts style halves)) (RowHolds fonts)
@@ -53,13 +39,11 @@ module _ (fonts : SetValue) (sound : All IsSoundFont fonts.fonts) where
     item_holds NonscriptElement = tt
 
     content_holds : (part : Part) → ContentHolds fonts (content_of fonts part)
-    content_holds EmptyPart = tt
-    content_holds (SymbolPart symbol) = tt
     content_holds (ListPart list) = λ style. two_passes (sequence_size list) style (items_of fonts list) (items_hold list)
     content_holds (RowsPart rows) = each_row_holds rows
     content_holds (TablePart look grid) = each_cell_holds grid
     content_holds (RootPart degree body) = (λ style. two_passes (sequence_size degree) style (items_of fonts degree) (items_hold degree), content_holds body)
-    content_holds (BigPart delim level) = tt
+    content_holds _ = tt
 
     each_row_holds : (rows : Rows) → ListsHold fonts (rows_by_style fonts rows)
     each_row_holds NoRows = tt
@@ -76,8 +60,3 @@ module _ (fonts : SetValue) (sound : All IsSoundFont fonts.fonts) where
 -- the row of a list
 pub list_row_holds : (fonts : SetValue) → All IsSoundFont fonts.fonts → (style : Style) (list : Sequence) (row : List PieceValue) → list_row fonts style list ≡ Ok row → RowHolds fonts row
 list_row_holds fonts sound style list row e = answer_holds (RowHolds fonts) (list_row fonts style list) row (setting_holds fonts sound style list) e
-
--- what a call answers that sets a list
-pub call_holds : (fonts : SetValue) → All IsSoundFont fonts.fonts → (style : Style) (list : Sequence) (r : Result (List Piece) SetFault) → SetsRow r (list_row fonts style list) → IfOk r (λ row. RowHolds fonts (piece_values row))
-call_holds fonts sound style list (Ok row) e = list_row_holds fonts sound style list (piece_values row) e
-call_holds fonts sound style list (Err fault) e = tt

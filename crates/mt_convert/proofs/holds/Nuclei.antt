@@ -1,27 +1,13 @@
 -- Clean boxes, nuclei and large operators hold where the rows of the lists inside them do.
-use Rattle.std.proofs.Common.{ℕ, ℤ, pos, List, [], ◌∷◌, Bool, true, false, if◌then◌else◌}
-use Rattle.std.specs.Prelude.{IfOk, Ok, ⊤}
-use Rattle.std.specs.Ordering.{int_eq}
-use Rattle.mt_tfm.specs.Font.{Metrics, italic_of}
-use Rattle.mt_family.specs.declared.size.Size.{Size}
-use Rattle.mt_family.specs.SetValue.{SetValue}
-use Rattle.mt_box.specs.Layout.{Layout}
-use Rattle.mt_box.specs.Rows.{PieceValue, PieceGlyph, PieceBox, PieceKern}
-use Rattle.mt_rules.specs.declared.symbol.Symbol.{Symbol}
-use Rattle.mt_rules.specs.declared.symbol.Delim.{Delim}
-use Rattle.mt_rules.specs.declared.style.Style.{Style}
-use Rattle.mt_rules.specs.Styles.{size_of}
-use Rattle.mt_rules.specs.Setting.{◌>>=◌, ◌>>◌, make_box, make_row, pack_row}
-use Rattle.mt_rules.specs.Symbols.{font_of_number, find_symbol, extents_without_italic}
-use Rattle.mt_rules.specs.Delimiters.{piece_on_axis}
-use Rattle.mt_rules.specs.BigDelimiters.{big_delimiter}
-use Rattle.mt_rules.specs.Nuclei.{RowByStyle, Content, NoContent, SymbolContent, ListContent, RowsContent, TableContent, RootContent, BigContent, SymbolRole, OrdinarySymbol, Nucleus, test_role, role_italic, nucleus_with_italic, glyph_nucleus, symbol_nucleus, make_clean, clean_symbol, clean_list, clean_field, packed_list, big_nucleus, nucleus_row}
-use Rattle.mt_rules.specs.Operators.{operator_code, box_without_italic, nucleus_on_axis, operator_nucleus}
-use Rattle.mt_convert.specs.Holding.{LayoutHolds, RowHolds}
+use Rattle.std.proofs.Common.{ℕ, ℤ, pos, List, [], ◌∷◌, Bool, true, false, if◌then◌else◌, IfOk, Ok}
+use Rattle.mt_convert.proofs.Common.{int_eq, Metrics, italic_of, Size, SetValue, Layout, PieceValue, PieceGlyph, PieceBox, PieceKern, Symbol, Delim, Style, size_of, ◌>>=◌, ◌>>◌, make_box, make_row, pack_row, font_of_number, find_symbol, extents_without_italic, piece_on_axis, big_delimiter, RowByStyle, Content, NoContent, SymbolContent, ListContent, RowsContent, TableContent, RootContent, BigContent, SymbolRole, OrdinarySymbol, Nucleus, test_role, role_italic, nucleus_with_italic, glyph_nucleus, symbol_nucleus, make_clean, clean_symbol, clean_list, packed_list, big_nucleus, operator_code, box_without_italic, nucleus_on_axis, LayoutHolds, RowHolds}
+use Rattle.std.specs.Prelude.{⊤}
 use Rattle.mt_convert.proofs.holds.Steps.{step_holds, next_holds, after_extents, box_made, row_made}
 use Rattle.mt_convert.proofs.holds.Boxes.{packed_row, clean_box}
 use Rattle.mt_convert.proofs.holds.Delimiters.{AreSound, big_holds}
 use Rattle.mt_convert.proofs.holds.Glyphs.{ExistsIn, glyph_holds, symbol_found}
+use Rattle.mt_rules.specs.Operators.{operator_nucleus}
+use Rattle.mt_rules.specs.Nuclei.{clean_field, nucleus_row}
 
 module _ (fonts : SetValue) where
   -- ---- what holds of a field
@@ -94,13 +80,9 @@ module _ (fonts : SetValue) where
 
   pub clean_field_holds : (style : Style) (field : Content) → ContentHolds field → IfOk (clean_field fonts style field) (LayoutHolds fonts)
   unfolding clean_field
-  clean_field_holds style NoContent h = tt
   clean_field_holds style (SymbolContent symbol) h = clean_symbol_holds style symbol
   clean_field_holds style (ListContent list) h = clean_list_holds list style h
-  clean_field_holds style (RowsContent rows) h = tt
-  clean_field_holds style (TableContent look rows) h = tt
-  clean_field_holds style (RootContent degree body) h = tt
-  clean_field_holds style (BigContent delim level) h = tt
+  clean_field_holds style _ h = tt
 
   -- ---- nuclei
 
@@ -119,13 +101,10 @@ module _ (fonts : SetValue) where
 
   pub nucleus_row_holds : (style : Style) (field : Content) (role : SymbolRole) (subscript : Bool) → AreSound fonts → ContentHolds field → IfOk (nucleus_row fonts style field role subscript) NucleusHolds
   unfolding nucleus_row
-  nucleus_row_holds style NoContent role subscript sound h = tt
   nucleus_row_holds style (SymbolContent symbol) role subscript sound h = symbol_nucleus_holds (size_of style) symbol role subscript
   nucleus_row_holds style (ListContent list) role subscript sound h = packed_list_holds list style h
-  nucleus_row_holds style (RowsContent rows) role subscript sound h = tt
-  nucleus_row_holds style (TableContent look rows) role subscript sound h = tt
-  nucleus_row_holds style (RootContent degree body) role subscript sound h = tt
   nucleus_row_holds style (BigContent delim level) role subscript sound h = big_nucleus_holds delim level sound
+  nucleus_row_holds style _ role subscript sound h = tt
 
   -- ---- large operators
 

@@ -1,31 +1,15 @@
 -- The boxes of fractions, radicals, lines and rows hold where their bodies do.
-use Rattle.std.proofs.Common.{ℤ, pos, negsuc, neg_ℤ, ◌+ℤ◌, ◌-ℤ◌, ◌*ℤ◌, List, [], ◌∷◌, ◌++◌, Bool, true, false, if◌then◌else◌}
-use Rattle.std.specs.Prelude.{IfOk, Ok}
-use Rattle.std.specs.Int.{int_max}
-use Rattle.std.specs.Ordering.{int_eq}
-use Rattle.mt_scaled.specs.Number.{Within, max_dimen, half_of}
-use Rattle.mt_family.specs.declared.size.Size.{Size}
-use Rattle.mt_family.specs.SetValue.{SetValue}
-use Rattle.mt_box.specs.Layout.{Layout, all_moved, rule_places}
-use Rattle.mt_box.specs.Rows.{PieceBox, PieceKern}
-use Rattle.mt_box.specs.Boxes.{rebox}
-use Rattle.mt_rules.specs.declared.symbol.Delim.{Delim}
-use Rattle.mt_rules.specs.declared.style.Style.{Style}
-use Rattle.mt_rules.specs.Styles.{size_of}
-use Rattle.mt_rules.specs.Setting.{◌>>=◌, ◌>>◌, make_box, pack_row, test_rule, test_value}
-use Rattle.mt_rules.specs.Parameters.{axis_height, default_rule_thickness}
-use Rattle.mt_rules.specs.Delimiters.{delimiter, piece_on_axis}
-use Rattle.mt_rules.specs.Fractions.{shifts_without_rule, shifts_with_rule, layout_without_rule, layout_with_rule, box_with_rule, fraction_body, fraction_delimiter_size, fraction}
+use Rattle.std.proofs.Common.{ℤ, pos, negsuc, neg_ℤ, ◌+ℤ◌, ◌-ℤ◌, ◌*ℤ◌, List, [], ◌∷◌, ◌++◌, Bool, true, false, if◌then◌else◌, IfOk, Ok}
+use Rattle.mt_convert.proofs.Common.{int_max, int_eq, Within, max_dimen, half_of, Size, SetValue, Layout, all_moved, rule_places, PieceBox, PieceKern, rebox, Delim, Style, size_of, ◌>>=◌, ◌>>◌, make_box, pack_row, test_rule, test_value, axis_height, default_rule_thickness, delimiter, piece_on_axis, shifts_without_rule, shifts_with_rule, layout_without_rule, layout_with_rule, box_with_rule, fraction_body, fraction_delimiter_size, in_points, degree_raise, line_gap, places_after, lines_total, lines_places, vcenter_layout, PlacesHold, LayoutHolds, RowHolds}
 use Rattle.mt_rules.specs.Radicals.{sign_size, clearance, under_rule, radical}
-use Rattle.mt_rules.specs.MathUnits.{in_points}
-use Rattle.mt_rules.specs.Roots.{degree_raise, root_row}
-use Rattle.mt_rules.specs.Veils.{veil_layout}
 use Rattle.mt_rules.specs.Lines.{overline_layout, overline, underline_layout, underline}
-use Rattle.mt_rules.specs.Vcenter.{line_gap, places_after, lines_total, lines_places, vcenter_layout, vcenter}
-use Rattle.mt_convert.specs.Holding.{PlacesHold, LayoutHolds, RowHolds}
 use Rattle.mt_convert.proofs.holds.Steps.{step_holds, after_rule_test, after_value, box_made}
 use Rattle.mt_convert.proofs.holds.Boxes.{moved_hold, places_hold_append, rule_holds, packed_row, rebox_holds, LayoutsHold}
 use Rattle.mt_convert.proofs.holds.Delimiters.{AreSound, delimiter_holds}
+use Rattle.mt_rules.specs.Veils.{veil_layout}
+use Rattle.mt_rules.specs.Vcenter.{vcenter}
+use Rattle.mt_rules.specs.Roots.{root_row}
+use Rattle.mt_rules.specs.Fractions.{fraction}
 
 module _ (fonts : SetValue) where
   -- ---- fractions

@@ -1,20 +1,10 @@
 -- Scripts hold where nucleus and scripts do: beside a nucleus, and above and below one.
-use Rattle.std.proofs.Common.{ℤ, neg_ℤ, ◌+ℤ◌, List, [], ◌∷◌, ◌++◌, Option, Some, None}
-use Rattle.std.specs.Prelude.{IfOk, Ok}
-use Rattle.std.specs.Int.{int_max}
-use Rattle.mt_scaled.specs.Number.{half_of}
-use Rattle.mt_family.specs.declared.size.Size.{Size}
-use Rattle.mt_family.specs.SetValue.{SetValue}
-use Rattle.mt_box.specs.Layout.{Layout, all_moved}
-use Rattle.mt_box.specs.Rows.{PieceValue, PieceBox}
-use Rattle.mt_box.specs.Boxes.{rebox}
-use Rattle.mt_rules.specs.declared.style.Style.{Style}
-use Rattle.mt_rules.specs.Setting.{◌>>=◌, make_box, layout_or_empty}
-use Rattle.mt_rules.specs.Scripts.{widened_script, both_scripts, shifts_beside, row_with_scripts}
-use Rattle.mt_rules.specs.Limits.{gap_above, gap_below, limits_layout, rebox_some, limits}
-use Rattle.mt_convert.specs.Holding.{LayoutHolds, RowHolds}
+use Rattle.std.proofs.Common.{ℤ, neg_ℤ, ◌+ℤ◌, List, [], ◌∷◌, ◌++◌, Option, Some, None, IfOk, Ok}
+use Rattle.mt_convert.proofs.Common.{int_max, half_of, Size, SetValue, Layout, all_moved, PieceValue, PieceBox, rebox, Style, ◌>>=◌, make_box, layout_or_empty, widened_script, both_scripts, shifts_beside, gap_above, gap_below, limits_layout, rebox_some, LayoutHolds, RowHolds}
 use Rattle.mt_convert.proofs.holds.Steps.{step_holds, box_made}
 use Rattle.mt_convert.proofs.holds.Boxes.{moved_hold, places_hold_append, row_holds_append, rebox_holds, SomeLayoutHolds, or_empty}
+use Rattle.mt_rules.specs.Scripts.{row_with_scripts}
+use Rattle.mt_rules.specs.Limits.{limits}
 
 module _ (fonts : SetValue) where
   -- ---- beside the nucleus

@@ -1,33 +1,17 @@
 -- The second pass: the row of a list holds where the rows of its items do.
-use Rattle.std.proofs.Common.{ℤ, List, [], ◌∷◌, ◌++◌, Option, Some, None}
-use Rattle.std.specs.Prelude.{IfOk, Ok}
-use Rattle.mt_family.specs.declared.size.Size.{Size}
-use Rattle.mt_family.specs.SetValue.{SetValue}
-use Rattle.mt_rules.specs.declared.class.Class.{Class}
-use Rattle.mt_rules.specs.declared.class.Class.TheVariants.{Open, Close}
-use Rattle.mt_rules.specs.declared.style.Style.{Style}
-use Rattle.mt_rules.specs.declared.symbol.Delim.{Delim}
-use Rattle.mt_rules.specs.Styles.{size_of}
-use Rattle.mt_rules.specs.Spaces.{Spacing, NoSpacing, ThinSpacing, MediumSpacing, ThickSpacing, spacing}
-use Rattle.mt_rules.specs.Setting.{◌>>=◌, make_row}
-use Rattle.mt_rules.specs.Delimiters.{delimiter, piece_on_axis, boundary_size}
-use Rattle.mt_convert.specs.declared.flat.current.Current.{Current}
-use Rattle.mt_convert.specs.Current.{opening}
-use Rattle.mt_convert.specs.Halves.{HalfValue, HalfAtom, HalfLeft, HalfMiddle, HalfRight, HalfStyle, HalfKern, HalfSpace, Halves}
-use Rattle.mt_rules.specs.MathUnits.{math_unit}
-use Rattle.mt_convert.specs.SecondPass.{spacing_pieces, pieces_between, space_before, current_after_half, boundary_piece, boundary_pieces, half_pieces, all_pieces, row_of_halves, second_pass_of}
-use Rattle.mt_convert.specs.Holding.{LayoutHolds, PieceHolds, RowHolds}
+use Rattle.std.proofs.Common.{ℤ, List, [], ◌∷◌, ◌++◌, Option, Some, None, IfOk, Ok}
+use Rattle.mt_convert.proofs.Common.{Size, SetValue, Class, Open, Close, Style, Delim, size_of, ◌>>=◌, make_row, delimiter, piece_on_axis, boundary_size, Current, opening, HalfValue, HalfAtom, HalfLeft, HalfMiddle, HalfRight, HalfStyle, Halves, math_unit, spacing_pieces, pieces_between, space_before, current_after_half, boundary_piece, boundary_pieces, half_pieces, all_pieces, row_of_halves, LayoutHolds, PieceHolds, RowHolds}
+use Rattle.mt_rules.specs.Spaces.{Spacing, NoSpacing, spacing}
 use Rattle.mt_convert.proofs.holds.Steps.{step_holds, row_made}
 use Rattle.mt_convert.proofs.holds.Boxes.{row_holds_append}
 use Rattle.mt_convert.proofs.holds.Delimiters.{AreSound, delimiter_holds}
 use Rattle.mt_convert.proofs.holds.FirstPass.{HalfHolds, HalvesHold}
+use Rattle.mt_convert.specs.SecondPass.{second_pass_of}
 
 module _ (fonts : SetValue) where
   spacing_hold : (s : Spacing) (unit : ℤ) → RowHolds fonts (spacing_pieces s unit)
   spacing_hold NoSpacing unit = tt
-  spacing_hold ThinSpacing unit = (tt, tt)
-  spacing_hold MediumSpacing unit = (tt, tt)
-  spacing_hold ThickSpacing unit = (tt, tt)
+  spacing_hold _ unit = (tt, tt)
 
   between_holds : (style : Style) (left : Option Class) (right : Class) → RowHolds fonts (pieces_between fonts style left right)
   between_holds style None right = tt
@@ -50,8 +34,7 @@ module _ (fonts : SetValue) where
   half_row size wanted current (HalfMiddle delim) sound h = boundary_row size wanted current Close delim sound
   half_row size wanted current (HalfRight delim) sound h = boundary_row size wanted current Close delim sound
   half_row size wanted current (HalfStyle style) sound h = tt
-  half_row size wanted current (HalfKern amount) sound h = (tt, tt)
-  half_row size wanted current (HalfSpace glue) sound h = (tt, tt)
+  half_row size wanted current _ sound h = (tt, tt)
 
   all_hold : (halves : List HalfValue) (size : Size) (wanted : ℤ) (current : Current) → AreSound fonts → HalvesHold fonts halves → IfOk (all_pieces fonts size wanted current halves) (RowHolds fonts)
   all_hold [] size wanted current sound h = tt

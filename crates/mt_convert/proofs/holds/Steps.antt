@@ -1,13 +1,7 @@
 -- What holds of each value that setting answers, step by step.
-use Rattle.std.proofs.Common.{◌≡◌, ℤ, List, refl, subst, Option, Some, None, Bool, true, false, if◌then◌else◌}
-use Rattle.std.specs.Prelude.{Ok, Err, IfOk, ⊤}
-use Rattle.mt_scaled.specs.Number.{Within, is_in_range, max_dimen}
-use Rattle.mt_box.specs.declared.extents.Extents.{Extents}
-use Rattle.mt_box.specs.Extents.{ExtentsInRange, first_out}
-use Rattle.mt_box.specs.Layout.{Layout}
-use Rattle.mt_box.specs.Rows.{PieceValue, pack}
-use Rattle.mt_rules.specs.Setting.{Setting, Overflow, ◌>>=◌, ◌>>◌, pass_unless, test_value, test_extents, test_rule, make_box, make_row}
-use Rattle.mt_rules.proofs.Answering.{in_range, extents_in_range}
+use Rattle.std.proofs.Common.{◌≡◌, ℤ, List, refl, subst, Option, Some, None, Bool, true, false, if◌then◌else◌, Ok, Err, IfOk}
+use Rattle.mt_convert.proofs.Common.{Within, is_in_range, max_dimen, Extents, ExtentsInRange, first_out, Layout, PieceValue, pack, Setting, Overflow, ◌>>=◌, ◌>>◌, pass_unless, test_value, test_extents, test_rule, make_box, make_row, in_range, extents_in_range}
+use Rattle.std.specs.Prelude.{⊤}
 
 -- what a step answers, and what the steps after it do with it
 pub step_holds : {A B : Type 0} (P : A → Type 0) (Q : B → Type 0) (s : Setting A) (next : A → Setting B) → IfOk s P → ((a : A) → P a → IfOk (next a) Q) → IfOk (s >>= next) Q

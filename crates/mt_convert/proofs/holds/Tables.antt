@@ -1,19 +1,11 @@
 -- The boxes of tables hold where their cells do.
-use Rattle.std.proofs.Common.{ℤ, pos, ◌+ℤ◌, ◌-ℤ◌, List, [], ◌∷◌}
-use Rattle.std.specs.Prelude.{IfOk, Ok, ⊤}
-use Rattle.mt_scaled.specs.Number.{half_of}
-use Rattle.mt_family.specs.declared.size.Size.{Size}
-use Rattle.mt_family.specs.SetValue.{SetValue}
+use Rattle.std.proofs.Common.{ℤ, pos, ◌+ℤ◌, ◌-ℤ◌, List, [], ◌∷◌, IfOk, Ok}
+use Rattle.mt_convert.proofs.Common.{half_of, Size, SetValue, Extents, Layout, all_moved, ◌>>=◌, make_box, axis_height, line_gap, Cells, column_widths, column_width, make_rows, rows_places, with_struts, columns_width, centred_places, matrix_rows, strut_drop, matrix_drop, matrix_layout, open_gap, open_drop, open_places, sides_places, equations_rows, equations_layout, PlacesHold, LayoutHolds}
+use Rattle.std.specs.Prelude.{⊤}
 use Rattle.mt_family.specs.Sets.{units_of}
-use Rattle.mt_box.specs.declared.extents.Extents.{Extents}
-use Rattle.mt_box.specs.Layout.{Layout, all_moved}
-use Rattle.mt_rules.specs.Setting.{◌>>=◌, make_box}
-use Rattle.mt_rules.specs.Parameters.{axis_height}
-use Rattle.mt_rules.specs.Vcenter.{line_gap}
-use Rattle.mt_rules.specs.Tables.{Cells, column_widths, column_width, make_rows, rows_places, with_struts, columns_width, centred_places, matrix_rows, strut_drop, matrix_drop, matrix_layout, matrix_table, open_gap, open_drop, open_places, sides_places, equations_rows, equations_layout, equations_table}
-use Rattle.mt_convert.specs.Holding.{PlacesHold, LayoutHolds}
 use Rattle.mt_convert.proofs.holds.Steps.{step_holds, box_made}
 use Rattle.mt_convert.proofs.holds.Boxes.{moved_hold, places_hold_append, LayoutsHold}
+use Rattle.mt_rules.specs.Tables.{matrix_table, equations_table}
 
 module _ (fonts : SetValue) where
   abbrev pub CellsHold : List Cells → Type 0

@@ -1,24 +1,10 @@
 -- Accents, set step by step.
-use Rattle.std.proofs.Common.{◌≡◌, ℕ, ℤ, ap, sym, ◌∙◌, subst, refl, Bool, List, [], ◌∷◌}
-use Rattle.std.specs.Prelude.{Ok, Err, IsOk, not, pos}
-use Rattle.mt_family.specs.SetValue.{SetValue}
-use Rattle.mt_family.specs.declared.size.Size.{Size}
-use Rattle.mt_box.specs.declared.extents.Extents.{Extents}
-use Rattle.mt_box.specs.Layout.{Layout}
-use Rattle.mt_box.specs.Rows.{PieceValue, PieceBox}
-use Rattle.mt_rules.specs.declared.style.Style.{Style}
-use Rattle.mt_rules.specs.declared.symbol.Symbol.{Symbol}
-use Rattle.mt_rules.specs.Styles.{size_of, cramped_of}
-use Rattle.mt_rules.specs.Setting.{Setting, ◌>>=◌, make_row, pack_row}
-use Rattle.mt_rules.specs.Symbols.{find_symbol}
-use Rattle.mt_rules.specs.Nuclei.{Content, SymbolContent, OrdinarySymbol, is_empty, clean_symbol, clean_field, nucleus_row, symbol_nucleus}
-use Rattle.mt_rules.specs.Accents.{accent}
-use Rattle.mt_rules.specs.AtomRow.{accent_inside, content_skew}
-use Rattle.mt_convert.specs.declared.fault.SetFault.{SetFault}
-use Rattle.mt_convert.specs.Calls.{SetFails}
+use Rattle.std.proofs.Common.{◌≡◌, ℕ, ℤ, ap, sym, ◌∙◌, subst, refl, Bool, List, [], ◌∷◌, Ok, Err, IsOk, not, pos}
+use Rattle.mt_convert.proofs.Common.{SetValue, Size, Extents, Layout, PieceValue, PieceBox, Style, Symbol, size_of, cramped_of, Setting, ◌>>=◌, make_row, pack_row, find_symbol, Content, SymbolContent, OrdinarySymbol, is_empty, clean_symbol, symbol_nucleus, accent, accent_inside, content_skew, SetFault, SetFails}
 use Rattle.mt_convert.specs.inner.AtomSteps.{accent_part, row_with_fields, symbol_with_scripts}
 use Rattle.mt_convert.proofs.Appending.{fails_then}
 use Rattle.mt_convert.proofs.kinds.Chains.{first_made, joined}
+use Rattle.mt_rules.specs.Nuclei.{clean_field, nucleus_row}
 
 -- ---- an accent over a nucleus
 

@@ -1,30 +1,13 @@
 -- Whole atoms: the row of each form, and accents.
-use Rattle.std.proofs.Common.{◌≡◌, ℤ, ap, sym, ◌∙◌, refl, false, true, Bool, List}
-use Rattle.std.specs.Prelude.{Ok, Err, ◌&&◌, if◌then◌else◌, not}
-use Rattle.mt_family.specs.SetValue.{SetValue}
-use Rattle.mt_box.specs.Layout.{Layout}
-use Rattle.mt_box.specs.Rows.{PieceValue}
-use Rattle.mt_rules.specs.declared.class.Class.TheVariants.{Ord, Op, Bin, Rel, Open, Close, Punct, Inner}
-use Rattle.mt_rules.specs.declared.kind.Kind.{Kind}
-use Rattle.mt_rules.specs.declared.kind.Kind.TheVariants.{Plain, Radical, Accent, Over, Under, Vcenter, Veil}
-use Rattle.mt_rules.specs.declared.kind.Limits.{Limits}
-use Rattle.mt_rules.specs.declared.style.Style.{Style}
-use Rattle.mt_rules.specs.declared.symbol.Symbol.{Symbol}
-use Rattle.mt_rules.specs.Styles.{size_of, cramped_of}
-use Rattle.mt_rules.specs.Setting.{Setting, ◌>>=◌}
-use Rattle.mt_rules.specs.Symbols.{find_symbol}
-use Rattle.mt_rules.specs.Sequence.{Part, EmptyPart, SymbolPart, ListPart, RowsPart, TablePart, RootPart, BigPart}
-use Rattle.mt_rules.specs.Nuclei.{Content, SymbolContent, SymbolRole, Nucleus, is_empty, clean_field, make_clean}
-use Rattle.mt_rules.specs.Operators.{uses_limits}
-use Rattle.mt_rules.specs.Accents.{accent}
-use Rattle.mt_rules.specs.AtomRow.{accent_by_scripts, accent_inside, atom_row, box_nucleus, content_skew, nucleus_under_limits, operator_by_limits}
+use Rattle.std.proofs.Common.{◌≡◌, ℤ, ap, sym, ◌∙◌, refl, false, true, Bool, List, Ok, Err, ◌&&◌, if◌then◌else◌, not}
+use Rattle.mt_convert.proofs.Common.{SetValue, Layout, PieceValue, Op, Kind, Plain, Radical, Accent, Over, Under, Vcenter, Veil, Limits, Style, Symbol, size_of, cramped_of, Setting, ◌>>=◌, find_symbol, Part, EmptyPart, SymbolPart, RootPart, Content, SymbolContent, SymbolRole, Nucleus, is_empty, clean_field, make_clean, uses_limits, accent, accent_by_scripts, accent_inside, box_nucleus, content_skew, nucleus_under_limits, operator_by_limits, content_of}
 use Rattle.mt_convert.specs.declared.set.form.AtomForm.TheVariants as form
-use Rattle.mt_convert.specs.ListRow.{content_of}
 use Rattle.mt_convert.specs.inner.Fields.{atom_content}
 use Rattle.mt_convert.specs.inner.Forms.{form_of}
 use Rattle.mt_convert.specs.inner.AtomSteps.{BoxWithItalic, as_nucleus, kind_nucleus, row_with_fields, row_with_limits, under_limits}
 use Rattle.mt_convert.specs.inner.Turns.{is_empty_part}
 use Rattle.mt_convert.proofs.Turning.{same_empty}
+use Rattle.mt_rules.specs.AtomRow.{atom_row}
 
 -- ---- the same steps, with a name for a part of them
 
@@ -64,31 +47,11 @@ never_limits a s false e = cc
 pub limits_row : (fonts : SetValue) (style : Style) (role : SymbolRole) (kind : Kind) (limits : Limits) (p q r : Part) → form.Limits ≡ form_of style kind limits p q r → atom_row fonts style role (atom_content fonts kind limits p q r) ≡ under_limits fonts style (content_of fonts p) (content_of fonts q) (content_of fonts r)
 unfolding atom_row
 limits_row fonts style role (Plain Op) limits p q r e = by_limits (uses_limits limits style) fonts style (content_of fonts p) (content_of fonts q) (content_of fonts r) e
-limits_row fonts style role (Plain Ord) limits p q r e = absurd (cc)
-limits_row fonts style role (Plain Bin) limits p q r e = absurd (cc)
-limits_row fonts style role (Plain Rel) limits p q r e = absurd (cc)
-limits_row fonts style role (Plain Open) limits p q r e = absurd (cc)
-limits_row fonts style role (Plain Close) limits p q r e = absurd (cc)
-limits_row fonts style role (Plain Punct) limits p q r e = absurd (cc)
-limits_row fonts style role (Plain Inner) limits p q r e = absurd (cc)
 limits_row fonts style role (Radical sign) limits EmptyPart q r e = absurd (cc)
-limits_row fonts style role (Radical sign) limits (SymbolPart s) q r e = absurd (cc)
-limits_row fonts style role (Radical sign) limits (ListPart l) q r e = absurd (cc)
-limits_row fonts style role (Radical sign) limits (RowsPart rows) q r e = absurd (cc)
-limits_row fonts style role (Radical sign) limits (TablePart look grid) q r e = absurd (cc)
-limits_row fonts style role (Radical sign) limits (RootPart degree body) q r e = absurd (cc)
-limits_row fonts style role (Radical sign) limits (BigPart delim level) q r e = absurd (cc)
-limits_row fonts style role (Accent a) limits EmptyPart q r e = absurd (cc)
+limits_row fonts style role (Radical sign) limits _ q r e = absurd (cc)
 limits_row fonts style role (Accent a) limits (SymbolPart s) q r e = absurd (never_limits a s (is_empty_part q && is_empty_part r) e)
-limits_row fonts style role (Accent a) limits (ListPart l) q r e = absurd (cc)
-limits_row fonts style role (Accent a) limits (RowsPart rows) q r e = absurd (cc)
-limits_row fonts style role (Accent a) limits (TablePart look grid) q r e = absurd (cc)
-limits_row fonts style role (Accent a) limits (RootPart degree body) q r e = absurd (cc)
-limits_row fonts style role (Accent a) limits (BigPart delim level) q r e = absurd (cc)
-limits_row fonts style role Over limits p q r e = absurd (cc)
-limits_row fonts style role Under limits p q r e = absurd (cc)
-limits_row fonts style role Vcenter limits p q r e = absurd (cc)
-limits_row fonts style role (Veil width height marks) limits p q r e = absurd (cc)
+limits_row fonts style role (Accent a) limits _ q r e = absurd (cc)
+limits_row fonts style role _ limits p q r e = absurd (cc)
 
 -- ---- scripts beside a nucleus
 
@@ -114,33 +77,17 @@ by_accent false fonts style role a s sup sub e = absurd (cc)
 beside_content : (fonts : SetValue) (style : Style) (role : SymbolRole) (kind : Kind) (limits : Limits) (p q r : Part) → form.Beside ≡ form_of style kind limits p q r → atom_row fonts style role (atom_content fonts kind limits p q r) ≡ beside kind fonts style role (content_of fonts p) (not (is_empty (content_of fonts r))) (content_of fonts q) (content_of fonts r)
 unfolding atom_row
 beside_content fonts style role (Plain Op) limits p q r e = by_beside (uses_limits limits style) fonts style role (content_of fonts p) (content_of fonts q) (content_of fonts r) e
-beside_content fonts style role (Plain Ord) limits p q r e = refl
-beside_content fonts style role (Plain Bin) limits p q r e = refl
-beside_content fonts style role (Plain Rel) limits p q r e = refl
-beside_content fonts style role (Plain Open) limits p q r e = refl
-beside_content fonts style role (Plain Close) limits p q r e = refl
-beside_content fonts style role (Plain Punct) limits p q r e = refl
-beside_content fonts style role (Plain Inner) limits p q r e = refl
-beside_content fonts style role (Radical sign) limits EmptyPart q r e = part_kept _ (λ n. row_with_fields fonts style n (content_of fonts q) (content_of fonts r))
-beside_content fonts style role (Radical sign) limits (SymbolPart s) q r e = part_kept _ (λ n. row_with_fields fonts style n (content_of fonts q) (content_of fonts r))
-beside_content fonts style role (Radical sign) limits (ListPart l) q r e = part_kept _ (λ n. row_with_fields fonts style n (content_of fonts q) (content_of fonts r))
-beside_content fonts style role (Radical sign) limits (RowsPart rows) q r e = part_kept _ (λ n. row_with_fields fonts style n (content_of fonts q) (content_of fonts r))
-beside_content fonts style role (Radical sign) limits (TablePart look grid) q r e = part_kept _ (λ n. row_with_fields fonts style n (content_of fonts q) (content_of fonts r))
 beside_content fonts style role (Radical sign) limits (RootPart degree body) q r e = absurd (cc)
-beside_content fonts style role (Radical sign) limits (BigPart delim level) q r e = part_kept _ (λ n. row_with_fields fonts style n (content_of fonts q) (content_of fonts r))
-beside_content fonts style role (Accent a) limits EmptyPart q r e = over_nucleus fonts style role a (content_of fonts EmptyPart) (content_of fonts q) (content_of fonts r)
+beside_content fonts style role (Radical sign) limits _ q r e = part_kept _ (λ n. row_with_fields fonts style n (content_of fonts q) (content_of fonts r))
 beside_content fonts style role (Accent a) limits (SymbolPart s) q r e =
     ap (λ b. accent_by_scripts (not b) fonts style a (SymbolContent s) (content_of fonts q) (content_of fonts r)) (both_same fonts q r)
     ∙ by_accent (is_empty_part q && is_empty_part r) fonts style role a s (content_of fonts q) (content_of fonts r) e
-beside_content fonts style role (Accent a) limits (ListPart l) q r e = over_nucleus fonts style role a (content_of fonts (ListPart l)) (content_of fonts q) (content_of fonts r)
-beside_content fonts style role (Accent a) limits (RowsPart rows) q r e = over_nucleus fonts style role a (content_of fonts (RowsPart rows)) (content_of fonts q) (content_of fonts r)
-beside_content fonts style role (Accent a) limits (TablePart look grid) q r e = over_nucleus fonts style role a (content_of fonts (TablePart look grid)) (content_of fonts q) (content_of fonts r)
-beside_content fonts style role (Accent a) limits (RootPart degree body) q r e = over_nucleus fonts style role a (content_of fonts (RootPart degree body)) (content_of fonts q) (content_of fonts r)
-beside_content fonts style role (Accent a) limits (BigPart delim level) q r e = over_nucleus fonts style role a (content_of fonts (BigPart delim level)) (content_of fonts q) (content_of fonts r)
+beside_content fonts style role (Accent a) limits part q r e = over_nucleus fonts style role a (content_of fonts part) (content_of fonts q) (content_of fonts r)
 beside_content fonts style role Over limits p q r e = part_kept _ (λ n. row_with_fields fonts style n (content_of fonts q) (content_of fonts r))
 beside_content fonts style role Under limits p q r e = part_kept _ (λ n. row_with_fields fonts style n (content_of fonts q) (content_of fonts r))
 beside_content fonts style role Vcenter limits p q r e = part_kept _ (λ n. row_with_fields fonts style n (content_of fonts q) (content_of fonts r))
 beside_content fonts style role (Veil width height marks) limits p q r e = part_kept _ (λ n. row_with_fields fonts style n (content_of fonts q) (content_of fonts r))
+beside_content fonts style role _ limits p q r e = refl
 
 pub beside_row : (fonts : SetValue) (style : Style) (role : SymbolRole) (kind : Kind) (limits : Limits) (p q r : Part) (no_subscript : Bool) → no_subscript ≡ is_empty_part r → form.Beside ≡ form_of style kind limits p q r → atom_row fonts style role (atom_content fonts kind limits p q r) ≡ beside kind fonts style role (content_of fonts p) (not no_subscript) (content_of fonts q) (content_of fonts r)
 beside_row fonts style role kind limits p q r no_subscript g e =
@@ -163,30 +110,10 @@ limits_or_not false a s e = cc
 pub inside_row : (fonts : SetValue) (style : Style) (role : SymbolRole) (kind : Kind) (limits : Limits) (p q r : Part) (a s : Symbol) → form.AccentInside a s ≡ form_of style kind limits p q r → atom_row fonts style role (atom_content fonts kind limits p q r) ≡ accent_inside fonts style a (SymbolContent s) (content_of fonts q) (content_of fonts r)
 unfolding atom_row
 inside_row fonts style role (Plain Op) limits p q r a s e = absurd (limits_or_not (uses_limits limits style) a s e)
-inside_row fonts style role (Plain Ord) limits p q r a s e = absurd (cc)
-inside_row fonts style role (Plain Bin) limits p q r a s e = absurd (cc)
-inside_row fonts style role (Plain Rel) limits p q r a s e = absurd (cc)
-inside_row fonts style role (Plain Open) limits p q r a s e = absurd (cc)
-inside_row fonts style role (Plain Close) limits p q r a s e = absurd (cc)
-inside_row fonts style role (Plain Punct) limits p q r a s e = absurd (cc)
-inside_row fonts style role (Plain Inner) limits p q r a s e = absurd (cc)
 inside_row fonts style role (Radical sign) limits EmptyPart q r a s e = absurd (cc)
-inside_row fonts style role (Radical sign) limits (SymbolPart t) q r a s e = absurd (cc)
-inside_row fonts style role (Radical sign) limits (ListPart l) q r a s e = absurd (cc)
-inside_row fonts style role (Radical sign) limits (RowsPart rows) q r a s e = absurd (cc)
-inside_row fonts style role (Radical sign) limits (TablePart look grid) q r a s e = absurd (cc)
-inside_row fonts style role (Radical sign) limits (RootPart degree body) q r a s e = absurd (cc)
-inside_row fonts style role (Radical sign) limits (BigPart delim level) q r a s e = absurd (cc)
-inside_row fonts style role (Accent b) limits EmptyPart q r a s e = absurd (cc)
+inside_row fonts style role (Radical sign) limits _ q r a s e = absurd (cc)
 inside_row fonts style role (Accent b) limits (SymbolPart t) q r a s e =
     ap (λ x. accent_by_scripts (not x) fonts style b (SymbolContent t) (content_of fonts q) (content_of fonts r)) (both_same fonts q r)
     ∙ by_inside (is_empty_part q && is_empty_part r) fonts style b a t s (content_of fonts q) (content_of fonts r) e
-inside_row fonts style role (Accent b) limits (ListPart l) q r a s e = absurd (cc)
-inside_row fonts style role (Accent b) limits (RowsPart rows) q r a s e = absurd (cc)
-inside_row fonts style role (Accent b) limits (TablePart look grid) q r a s e = absurd (cc)
-inside_row fonts style role (Accent b) limits (RootPart degree body) q r a s e = absurd (cc)
-inside_row fonts style role (Accent b) limits (BigPart delim level) q r a s e = absurd (cc)
-inside_row fonts style role Over limits p q r a s e = absurd (cc)
-inside_row fonts style role Under limits p q r a s e = absurd (cc)
-inside_row fonts style role Vcenter limits p q r a s e = absurd (cc)
-inside_row fonts style role (Veil width height marks) limits p q r a s e = absurd (cc)
+inside_row fonts style role (Accent b) limits _ q r a s e = absurd (cc)
+inside_row fonts style role _ limits p q r a s e = absurd (cc)

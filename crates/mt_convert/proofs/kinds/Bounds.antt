@@ -1,20 +1,9 @@
 -- What the parts of a modest list keep.
-use Rattle.std.proofs.Common.{◌≡◌, ◌≤◌, ℕ, suc, List, [], ◌∷◌, length, take, drop, arith, refl, sym, subst, Option}
-use Rattle.std.specs.Prelude.{ℤ}
-use Rattle.mt_rules.specs.declared.kind.Kind.{Kind}
-use Rattle.mt_rules.specs.declared.kind.Limits.{Limits}
-use Rattle.mt_rules.specs.declared.list.Look.{Look}
-use Rattle.mt_rules.specs.declared.symbol.Delim.{Delim}
-use Rattle.mt_rules.specs.Sequence.{Sequence, Part, Rows, End, AtomElement, FractionElement, EmptyPart, ListPart, RowsPart, TablePart, RootPart, MoreRows, TableGrid, MoreTableRows}
-use Rattle.mt_rules.specs.Modest.{IsModestList, ThicknessAmount}
-use Rattle.mt_arena.specs.declared.thing.Cell.{Cell}
+use Rattle.std.proofs.Common.{◌≡◌, ◌≤◌, ℕ, suc, List, [], ◌∷◌, length, take, drop, arith, refl, sym, subst, Option, ℤ}
+use Rattle.mt_convert.proofs.Common.{Kind, Limits, Look, Delim, Sequence, Part, Rows, End, AtomElement, FractionElement, EmptyPart, ListPart, RowsPart, TablePart, RootPart, MoreRows, TableGrid, MoreTableRows, IsModestList, ThicknessAmount, Cell, Noad, Span, Held, RootHeld, as_root, cell_end, cell_part, root_in, sequence_in, KeptList, PartLists}
 use Rattle.mt_arena.specs.declared.thing.Cell.TheVariants.{List as OfList}
 use Rattle.mt_arena.specs.declared.thing.FractionNoad.{FractionNoad}
-use Rattle.mt_arena.specs.declared.thing.Noad.{Noad}
-use Rattle.mt_arena.specs.declared.thing.Span.{Span}
 use Rattle.mt_arena.specs.declared.thing.RootParts.{RootParts}
-use Rattle.mt_arena.specs.Arena.{Held, ItemHeld, RowHeld, CellsHeld, RootHeld, as_root, cell_end, cell_part, root_in, sequence_in}
-use Rattle.mt_arena.specs.Keeping.{KeptList, PartLists}
 use Rattle.mt_convert.specs.inner.Spans.{ModestAtom, ModestCell, ModestFraction, ModestSpan}
 use Rattle.mt_convert.specs.inner.Modest.{IsModestElement, IsModestGrid, IsModestPart, IsModestRows}
 
@@ -75,10 +64,8 @@ pub record IsRoot (p : Part) : Type 0 where
 
 root_among : (hs : List Held) → IsRoot (as_root hs)
 root_among [] = record { degree = End; body = EmptyPart; is = refl }
-root_among (ItemHeld e ∷ hs) = record { degree = End; body = EmptyPart; is = refl }
-root_among (RowHeld s ∷ hs) = record { degree = End; body = EmptyPart; is = refl }
-root_among (CellsHeld r ∷ hs) = record { degree = End; body = EmptyPart; is = refl }
 root_among (RootHeld d b ∷ hs) = record { degree = d; body = b; is = refl }
+root_among (_ ∷ hs) = record { degree = End; body = EmptyPart; is = refl }
 
 pub a_root : (es : List Held) (at : ℕ) → IsRoot (root_in es at)
 a_root es at = root_among (drop at (take (suc at) es))

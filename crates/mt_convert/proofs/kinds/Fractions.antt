@@ -1,24 +1,11 @@
 -- Fractions, set step by step.
-use Rattle.std.proofs.Common.{◌≡◌, ℤ, ap, sym, ◌∙◌, subst, refl, List, Option}
-use Rattle.std.specs.Prelude.{Ok, unwrap_or}
-use Rattle.mt_family.specs.SetValue.{SetValue}
-use Rattle.mt_box.specs.Layout.{Layout}
-use Rattle.mt_box.specs.Rows.{PieceValue}
-use Rattle.mt_rules.specs.declared.style.Style.{Style}
-use Rattle.mt_rules.specs.declared.symbol.Delim.{Delim}
-use Rattle.mt_rules.specs.Styles.{size_of, num_of, den_of}
-use Rattle.mt_rules.specs.Parameters.{default_rule_thickness}
-use Rattle.mt_rules.specs.Fractions.{fraction}
-use Rattle.mt_rules.specs.Nuclei.{clean_list}
-use Rattle.mt_rules.specs.Sequence.{Sequence}
-use Rattle.mt_rules.specs.Setting.{Setting, ◌>>=◌}
-use Rattle.mt_rules.specs.AtomRow.{fraction_row}
-use Rattle.mt_convert.specs.declared.fault.SetFault.{SetFault}
-use Rattle.mt_convert.specs.Calls.{SetFails}
+use Rattle.std.proofs.Common.{◌≡◌, ℤ, ap, sym, ◌∙◌, subst, refl, List, Option, Ok, unwrap_or}
+use Rattle.mt_convert.proofs.Common.{SetValue, Layout, PieceValue, Style, Delim, size_of, num_of, den_of, default_rule_thickness, fraction, clean_list, Sequence, Setting, ◌>>=◌, SetFault, SetFails}
 use Rattle.mt_convert.specs.inner.Fields.{fraction_content, list_content}
 use Rattle.mt_convert.specs.inner.AtomSteps.{lone_box}
 use Rattle.mt_convert.proofs.Appending.{fails_then}
 use Rattle.mt_convert.proofs.kinds.Chains.{first_made}
+use Rattle.mt_rules.specs.AtomRow.{fraction_row}
 
 abbrev with_lists : SetValue → Style → Option ℤ → Delim → Delim → Layout → Layout → Setting (List PieceValue)
 with_lists fonts style thickness left right num den = lone_box (fraction fonts style (unwrap_or thickness (default_rule_thickness fonts (size_of style))) left right num den)

@@ -1,26 +1,9 @@
 -- Items of the flat list, set.
-use Rattle.std.proofs.Common.{◌≡◌, ℕ, ◌-◌, ◌≤ℤ◌, ℤ, pos, List, [], length, take, ap, sym, ◌∙◌, subst, refl, arith, length-append, Option, false}
-use Rattle.std.specs.Prelude.{Ok, Err, Result, IfOk}
+use Rattle.std.proofs.Common.{◌≡◌, ℕ, ◌-◌, ◌≤ℤ◌, ℤ, pos, List, [], length, take, ap, sym, ◌∙◌, subst, refl, arith, length-append, Option, false, Ok, Err, Result, IfOk}
+use Rattle.mt_convert.proofs.Common.{ints, max_dimen, SetValue, Class, Noad, Held, Inner, kind_class, forward_of, Setting, ◌>>=◌, PieceValue, row_height, row_depth, Glue, Current, SetFault, SetFails, set_item, HalfValue, HalfAtom, PlacedHalf}
 use Rattle.std.proofs.Math.Seq.{take-length}
-use Rattle.std.proofs.lemmas.Int.{ints}
-use Rattle.mt_scaled.specs.Number.{max_dimen}
-use Rattle.mt_family.specs.SetValue.{SetValue}
-use Rattle.mt_rules.specs.declared.class.Class.{Class}
-use Rattle.mt_arena.specs.declared.thing.Noad.{Noad}
 use Rattle.mt_arena.specs.declared.thing.FractionNoad.{FractionNoad}
-use Rattle.mt_arena.specs.Arena.{Held}
-use Rattle.mt_rules.specs.declared.class.Class.TheVariants.{Inner}
-use Rattle.mt_rules.specs.Classes.{kind_class, forward_of}
-use Rattle.mt_rules.specs.Setting.{Setting, ◌>>=◌}
-use Rattle.mt_box.specs.Rows.{PieceValue, row_height, row_depth}
-use Rattle.mt_rules.specs.declared.symbol.Glue.{Glue}
-use Rattle.mt_convert.specs.declared.flat.current.Current.{Current}
-use Rattle.mt_convert.specs.declared.fault.SetFault.{SetFault}
 use Rattle.mt_convert.specs.declared.flat.passed.JoiningRole.{JoiningRole}
-use Rattle.mt_convert.specs.Calls.{SetFails}
-use Rattle.mt_convert.specs.FirstPass.{set_item}
-use Rattle.mt_convert.specs.Halves.{HalfValue, HalfAtom}
-use Rattle.mt_convert.specs.declared.placed.PlacedHalf.{PlacedHalf}
 use Rattle.mt_convert.specs.declared.placed.PlacedHalf.TheVariants as placed
 use Rattle.mt_convert.specs.inner.LoneAtoms.{is_set_atom}
 use Rattle.mt_convert.specs.inner.OnPieces.{AtomOn, HalfOn, SetsHalfOn, SetsPlaced}
@@ -74,12 +57,7 @@ atom_placed class first half old new s setting f e a k =
 -- an item that has no pieces
 pub alone : (half : PlacedHalf) (old : List PieceValue) (setting : Setting HalfValue) → is_set_atom half ≡ false → PlacedFits half → setting ≡ Ok (placed_value half []) → HalfOn half old old setting
 alone (placed.Set class count) old setting n f e = absurd (cc)
-alone (placed.Left delim) old setting n f e = record { row = []; is = e; stays = nil_right old; count = refl; few = omega arith; fits = f; height = omega (arith, ints); depth = omega (arith, ints) }
-alone (placed.Middle delim) old setting n f e = record { row = []; is = e; stays = nil_right old; count = refl; few = omega arith; fits = f; height = omega (arith, ints); depth = omega (arith, ints) }
-alone (placed.Right delim) old setting n f e = record { row = []; is = e; stays = nil_right old; count = refl; few = omega arith; fits = f; height = omega (arith, ints); depth = omega (arith, ints) }
-alone (placed.Style style) old setting n f e = record { row = []; is = e; stays = nil_right old; count = refl; few = omega arith; fits = f; height = omega (arith, ints); depth = omega (arith, ints) }
-alone (placed.Kern amount) old setting n f e = record { row = []; is = e; stays = nil_right old; count = refl; few = omega arith; fits = f; height = omega (arith, ints); depth = omega (arith, ints) }
-alone (placed.Space glue) old setting n f e = record { row = []; is = e; stays = nil_right old; count = refl; few = omega arith; fits = f; height = omega (arith, ints); depth = omega (arith, ints) }
+alone _ old setting n f e = record { row = []; is = e; stays = nil_right old; count = refl; few = omega arith; fits = f; height = omega (arith, ints); depth = omega (arith, ints) }
 
 pub space_placed : (r : Result PlacedHalf SetFault) (old : List PieceValue) (setting : Setting HalfValue) (glue : Glue) → SetsPlaced r setting → IfOk r PlacedFits → IfOk r (λ h. h ≡ placed.Space glue) → SetsHalfOn r old old setting
 space_placed (Ok h) old setting glue e f g = alone h old setting (ap is_set_atom g) f e

@@ -1,29 +1,8 @@
 -- Boxes, scripts and nuclei, set step by step.
-use Rattle.std.proofs.Common.{◌≡◌, ℕ, [], arith, ap, sym, ◌∙◌, subst, refl, Option, Some, None, false, true, Bool}
-use Rattle.std.specs.Prelude.{Ok, Err, List, if◌then◌else◌, pos, ⊤}
-use Rattle.std.proofs.lemmas.Int.{ints}
-use Rattle.mt_family.specs.SetValue.{SetValue}
-use Rattle.mt_box.specs.Layout.{Layout}
-use Rattle.mt_box.specs.Rows.{PieceValue}
-use Rattle.mt_rules.specs.declared.class.Class.{Class}
-use Rattle.mt_rules.specs.declared.class.Class.TheVariants.{Ord, Op, Bin, Rel, Open, Close, Punct, Inner}
-use Rattle.mt_rules.specs.declared.kind.Kind.{Kind}
-use Rattle.mt_rules.specs.declared.kind.Kind.TheVariants.{Plain, Radical, Accent, Over, Under, Vcenter, Veil}
-use Rattle.mt_rules.specs.declared.style.Style.{Style}
-use Rattle.mt_rules.specs.declared.symbol.Symbol.{Symbol}
-use Rattle.mt_rules.specs.Styles.{size_of, sup_of, sub_of}
-use Rattle.mt_rules.specs.Setting.{Setting, ◌>>=◌, pack_row, empty_layout}
-use Rattle.mt_arena.specs.declared.thing.Cell.{Cell}
-use Rattle.mt_arena.specs.declared.thing.Cell.TheVariants.{Empty, Sym, List as OfList, Rows as OfRows, Table as OfTable, Root as OfRoot, Big as OfBig}
-use Rattle.mt_arena.specs.declared.thing.Span.{Span}
-use Rattle.mt_arena.specs.Arena.{Held, cell_part}
-use Rattle.mt_rules.specs.declared.symbol.Delim.{Delim}
-use Rattle.mt_rules.specs.Sequence.{Sequence, Part, EmptyPart, SymbolPart, ListPart, RowsPart, TablePart, RootPart, BigPart}
-use Rattle.mt_rules.specs.Nuclei.{RowByStyle, Content, SymbolContent, BigContent, SymbolRole, Nucleus, clean_symbol, clean_list, clean_field, make_clean, packed_list, big_nucleus, nucleus_row, empty_nucleus, symbol_nucleus}
-use Rattle.mt_rules.specs.AtomRow.{box_nucleus, nucleus_beside_scripts, script_box, some_box}
-use Rattle.mt_convert.specs.declared.fault.SetFault.{SetFault}
-use Rattle.mt_convert.specs.Calls.{SetFails}
-use Rattle.mt_convert.specs.ListRow.{list_row, halves_of, content_of}
+use Rattle.std.proofs.Common.{◌≡◌, ℕ, [], arith, ap, sym, ◌∙◌, subst, refl, Option, Some, None, false, true, Bool, Ok, Err, List, if◌then◌else◌, pos}
+use Rattle.mt_convert.proofs.Common.{ints, SetValue, Layout, PieceValue, Class, Ord, Op, Kind, Plain, Style, Symbol, size_of, sup_of, sub_of, Setting, ◌>>=◌, pack_row, empty_layout, Cell, Sym, Span, Held, cell_part, Delim, Sequence, Part, SymbolPart, ListPart, BigPart, RowByStyle, Content, SymbolContent, BigContent, SymbolRole, Nucleus, clean_symbol, clean_list, make_clean, packed_list, big_nucleus, empty_nucleus, symbol_nucleus, box_nucleus, nucleus_beside_scripts, script_box, some_box, SetFault, SetFails, content_of}
+use Rattle.std.specs.Prelude.{⊤}
+use Rattle.mt_arena.specs.declared.thing.Cell.TheVariants.{List as OfList, Root as OfRoot, Big as OfBig}
 use Rattle.mt_convert.specs.inner.Fields.{list_content}
 use Rattle.mt_convert.specs.inner.Forms.{as_operator}
 use Rattle.mt_convert.specs.inner.AtomSteps.{BoxWithItalic, as_nucleus, class_nucleus, kind_nucleus, list_box, operator_box, part_box, row_beside, row_with_fields}
@@ -34,12 +13,9 @@ use Rattle.mt_convert.proofs.Behind.{nil_right}
 use Rattle.mt_convert.proofs.Turning.{same_empty}
 use Rattle.mt_convert.proofs.kinds.Bounds.{a_root}
 use Rattle.mt_convert.proofs.kinds.Chains.{first_made, joined}
+use Rattle.mt_rules.specs.Nuclei.{clean_field, nucleus_row}
 
 -- ---- a list
-
-pub content_is : (fonts : SetValue) (list : Sequence) (style : Style) → list_content fonts list style ≡ list_row fonts style list
-unfolding list_row halves_of
-content_is fonts list style = refl
 
 -- ---- a clean box
 
@@ -59,22 +35,15 @@ HasNoBox _ = ⊤
 
 pub clean_empty_is : (fonts : SetValue) (style : Style) (p : Part) → HasNoBox p → clean_field fonts style (content_of fonts p) ≡ Ok empty_layout
 unfolding clean_field
-clean_empty_is fonts style EmptyPart h = refl
 clean_empty_is fonts style (SymbolPart symbol) h = absurd h
 clean_empty_is fonts style (ListPart list) h = absurd h
-clean_empty_is fonts style (RowsPart rows) h = refl
-clean_empty_is fonts style (TablePart look grid) h = refl
-clean_empty_is fonts style (RootPart degree body) h = refl
-clean_empty_is fonts style (BigPart delim level) h = refl
+clean_empty_is fonts style _ h = refl
 
 pub has_no_box : (es : List Held) (f : Cell) → ((symbol : Symbol) → f ≡ Sym symbol → ⊥) → ((list : Span) → f ≡ OfList list → ⊥) → HasNoBox (cell_part es f)
-has_no_box es Empty s l = tt
 has_no_box es (Sym symbol) s l = absurd (s symbol refl)
 has_no_box es (OfList list) s l = absurd (l list refl)
-has_no_box es (OfRows rows) s l = tt
-has_no_box es (OfTable look rows) s l = tt
 has_no_box es (OfRoot at) s l = subst HasNoBox (sym (a_root es at).is) tt
-has_no_box es (OfBig delim level) s l = tt
+has_no_box es _ s l = tt
 
 -- ---- a script
 
@@ -132,13 +101,7 @@ packed_is list style = joined (list style) pack_row (λ box. Ok (box_nucleus box
 class_of_list : (class : Class) (fonts : SetValue) (style : Style) (role : SymbolRole) (list : Sequence) (has_subscript : Bool) → class_nucleus class fonts style role (content_of fonts (ListPart list)) has_subscript ≡ packed_list (list_content fonts list) style
 unfolding nucleus_row
 class_of_list Ord fonts style role list has_subscript = refl
-class_of_list Op fonts style role list has_subscript = refl
-class_of_list Bin fonts style role list has_subscript = refl
-class_of_list Rel fonts style role list has_subscript = refl
-class_of_list Open fonts style role list has_subscript = refl
-class_of_list Close fonts style role list has_subscript = refl
-class_of_list Punct fonts style role list has_subscript = refl
-class_of_list Inner fonts style role list has_subscript = refl
+class_of_list _ fonts style role list has_subscript = refl
 
 pub list_nucleus_is : (class : Class) (fonts : SetValue) (style : Style) (role : SymbolRole) (p : Part) (list : Sequence) (has_subscript : Bool) → p ≡ ListPart list → class_nucleus class fonts style role (content_of fonts p) has_subscript ≡ as_nucleus (list_box (list_content fonts list) style)
 list_nucleus_is class fonts style role p list has_subscript e =
@@ -157,53 +120,33 @@ HasNoNucleus (BigPart delim level) = ⊥
 HasNoNucleus _ = ⊤
 
 pub has_no_nucleus : (es : List Held) (f : Cell) → ((symbol : Symbol) → f ≡ Sym symbol → ⊥) → ((list : Span) → f ≡ OfList list → ⊥) → ((delim : Delim) (level : ℕ) → f ≡ OfBig delim level → ⊥) → HasNoNucleus (cell_part es f)
-has_no_nucleus es Empty s l b = tt
 has_no_nucleus es (Sym symbol) s l b = absurd (s symbol refl)
 has_no_nucleus es (OfList list) s l b = absurd (l list refl)
-has_no_nucleus es (OfRows rows) s l b = tt
-has_no_nucleus es (OfTable look rows) s l b = tt
 has_no_nucleus es (OfRoot at) s l b = subst HasNoNucleus (sym (a_root es at).is) tt
 has_no_nucleus es (OfBig delim level) s l b = absurd (b delim level refl)
+has_no_nucleus es _ s l b = tt
 
 empty_row_is : (fonts : SetValue) (style : Style) (role : SymbolRole) (p : Part) (has_subscript : Bool) → HasNoNucleus p → nucleus_row fonts style (content_of fonts p) role has_subscript ≡ Ok empty_nucleus
 unfolding nucleus_row
-empty_row_is fonts style role EmptyPart has_subscript h = refl
 empty_row_is fonts style role (SymbolPart symbol) has_subscript h = absurd h
 empty_row_is fonts style role (ListPart list) has_subscript h = absurd h
-empty_row_is fonts style role (RowsPart rows) has_subscript h = refl
-empty_row_is fonts style role (TablePart look grid) has_subscript h = refl
-empty_row_is fonts style role (RootPart degree body) has_subscript h = refl
 empty_row_is fonts style role (BigPart delim level) has_subscript h = absurd h
+empty_row_is fonts style role _ has_subscript h = refl
 
 empty_beside_is : (fonts : SetValue) (style : Style) (p : Part) (has_subscript : Bool) → HasNoNucleus p → nucleus_beside_scripts fonts style (content_of fonts p) has_subscript ≡ Ok empty_nucleus
-empty_beside_is fonts style EmptyPart has_subscript h = refl
 empty_beside_is fonts style (SymbolPart symbol) has_subscript h = absurd h
 empty_beside_is fonts style (ListPart list) has_subscript h = absurd h
-empty_beside_is fonts style (RowsPart rows) has_subscript h = refl
-empty_beside_is fonts style (TablePart look grid) has_subscript h = refl
-empty_beside_is fonts style (RootPart degree body) has_subscript h = refl
 empty_beside_is fonts style (BigPart delim level) has_subscript h = absurd h
+empty_beside_is fonts style _ has_subscript h = refl
 
 pub empty_nucleus_is : (class : Class) (fonts : SetValue) (style : Style) (role : SymbolRole) (p : Part) (has_subscript : Bool) → HasNoNucleus p → class_nucleus class fonts style role (content_of fonts p) has_subscript ≡ Ok empty_nucleus
-empty_nucleus_is Ord fonts style role p has_subscript h = empty_row_is fonts style role p has_subscript h
 empty_nucleus_is Op fonts style role p has_subscript h = empty_beside_is fonts style p has_subscript h
-empty_nucleus_is Bin fonts style role p has_subscript h = empty_row_is fonts style role p has_subscript h
-empty_nucleus_is Rel fonts style role p has_subscript h = empty_row_is fonts style role p has_subscript h
-empty_nucleus_is Open fonts style role p has_subscript h = empty_row_is fonts style role p has_subscript h
-empty_nucleus_is Close fonts style role p has_subscript h = empty_row_is fonts style role p has_subscript h
-empty_nucleus_is Punct fonts style role p has_subscript h = empty_row_is fonts style role p has_subscript h
-empty_nucleus_is Inner fonts style role p has_subscript h = empty_row_is fonts style role p has_subscript h
+empty_nucleus_is _ fonts style role p has_subscript h = empty_row_is fonts style role p has_subscript h
 
 class_of_big : (class : Class) (fonts : SetValue) (style : Style) (role : SymbolRole) (delim : Delim) (level : ℕ) (has_subscript : Bool) → class_nucleus class fonts style role (BigContent delim level) has_subscript ≡ big_nucleus fonts delim level
 unfolding nucleus_row
 class_of_big Ord fonts style role delim level has_subscript = refl
-class_of_big Op fonts style role delim level has_subscript = refl
-class_of_big Bin fonts style role delim level has_subscript = refl
-class_of_big Rel fonts style role delim level has_subscript = refl
-class_of_big Open fonts style role delim level has_subscript = refl
-class_of_big Close fonts style role delim level has_subscript = refl
-class_of_big Punct fonts style role delim level has_subscript = refl
-class_of_big Inner fonts style role delim level has_subscript = refl
+class_of_big _ fonts style role delim level has_subscript = refl
 
 pub big_nucleus_is : (class : Class) (fonts : SetValue) (style : Style) (role : SymbolRole) (p : Part) (delim : Delim) (level : ℕ) (has_subscript : Bool) → p ≡ BigPart delim level → class_nucleus class fonts style role (content_of fonts p) has_subscript ≡ big_nucleus fonts delim level
 big_nucleus_is class fonts style role p delim level has_subscript e = ap (λ q. class_nucleus class fonts style role (content_of fonts q) has_subscript) e ∙ class_of_big class fonts style role delim level has_subscript
@@ -230,34 +173,20 @@ pub big_operator_is : (fonts : SetValue) (style : Style) (p : Part) (delim : Del
 big_operator_is fonts style p delim level e = ap (λ q. operator_box fonts style (content_of fonts q)) e
 
 pub empty_operator_is : (fonts : SetValue) (style : Style) (p : Part) → HasNoNucleus p → operator_box fonts style (content_of fonts p) ≡ as_operator (Ok empty_layout)
-empty_operator_is fonts style EmptyPart h = refl
 empty_operator_is fonts style (SymbolPart symbol) h = absurd h
 empty_operator_is fonts style (ListPart list) h = absurd h
-empty_operator_is fonts style (RowsPart rows) h = refl
-empty_operator_is fonts style (TablePart look grid) h = refl
-empty_operator_is fonts style (RootPart degree body) h = refl
 empty_operator_is fonts style (BigPart delim level) h = absurd h
+empty_operator_is fonts style _ h = refl
 
 -- ---- a symbol in an atom that is no operator
 
 pub other_symbol_is : (class : Class) (fonts : SetValue) (style : Style) (role : SymbolRole) (symbol : Symbol) (has_subscript : Bool) → (class ≡ Op → ⊥) → class_nucleus class fonts style role (SymbolContent symbol) has_subscript ≡ symbol_nucleus fonts (size_of style) symbol role has_subscript
 unfolding nucleus_row
-other_symbol_is Ord fonts style role symbol has_subscript h = refl
 other_symbol_is Op fonts style role symbol has_subscript h = absurd (h refl)
-other_symbol_is Bin fonts style role symbol has_subscript h = refl
-other_symbol_is Rel fonts style role symbol has_subscript h = refl
-other_symbol_is Open fonts style role symbol has_subscript h = refl
-other_symbol_is Close fonts style role symbol has_subscript h = refl
-other_symbol_is Punct fonts style role symbol has_subscript h = refl
-other_symbol_is Inner fonts style role symbol has_subscript h = refl
+other_symbol_is _ fonts style role symbol has_subscript h = refl
 
 -- ---- an atom of any kind but the plain one
 
 pub part_nucleus_is : (kind : Kind) (fonts : SetValue) (style : Style) (role : SymbolRole) (field : Content) (has_subscript : Bool) → ((class : Class) → kind ≡ Plain class → ⊥) → kind_nucleus kind fonts style role field has_subscript ≡ as_nucleus (part_box kind fonts style field)
 part_nucleus_is (Plain class) fonts style role field has_subscript n = absurd (n class refl)
-part_nucleus_is (Radical sign) fonts style role field has_subscript n = refl
-part_nucleus_is (Accent symbol) fonts style role field has_subscript n = refl
-part_nucleus_is Over fonts style role field has_subscript n = refl
-part_nucleus_is Under fonts style role field has_subscript n = refl
-part_nucleus_is Vcenter fonts style role field has_subscript n = refl
-part_nucleus_is (Veil width height marks) fonts style role field has_subscript n = refl
+part_nucleus_is _ fonts style role field has_subscript n = refl

@@ -1,34 +1,14 @@
 -- Fields packed as ordinary atoms, phantoms, and radicals with a degree, set step by step.
-use Rattle.std.proofs.Common.{◌≡◌, ap, sym, ◌∙◌, subst, refl, Bool, true, false}
-use Rattle.std.specs.Prelude.{Ok, List, None, if◌then◌else◌, ◌&&◌}
-use Rattle.mt_family.specs.SetValue.{SetValue}
-use Rattle.mt_box.specs.Layout.{Layout}
-use Rattle.mt_box.specs.Rows.{PieceValue}
-use Rattle.mt_rules.specs.declared.class.Class.TheVariants.{Ord, Op, Bin, Rel, Open, Close, Punct, Inner}
-use Rattle.mt_rules.specs.declared.kind.Kind.{Kind}
-use Rattle.mt_rules.specs.declared.kind.Kind.TheVariants.{Plain, Radical, Accent, Over, Under, Vcenter, Veil}
-use Rattle.mt_rules.specs.declared.kind.Limits.{Limits}
-use Rattle.mt_rules.specs.declared.style.Style.{Style}
-use Rattle.mt_rules.specs.declared.style.Style.TheVariants.{Ss}
-use Rattle.mt_rules.specs.declared.symbol.Delim.{Delim}
-use Rattle.mt_rules.specs.declared.symbol.Symbol.{Symbol}
-use Rattle.mt_rules.specs.Styles.{uncramped_of}
-use Rattle.mt_rules.specs.Setting.{Setting, ◌>>=◌, pack_row}
-use Rattle.mt_rules.specs.Sequence.{Sequence, Part, EmptyPart, SymbolPart, ListPart, RowsPart, TablePart, RootPart, BigPart}
-use Rattle.mt_rules.specs.Nuclei.{RowByStyle, Content, NoContent, ListContent, OrdinarySymbol, SymbolRole, Nucleus, nucleus_row}
-use Rattle.mt_rules.specs.Operators.{uses_limits}
-use Rattle.mt_rules.specs.Veils.{veil_layout}
-use Rattle.mt_rules.specs.AtomRow.{atom_row, ordinary_row, packed_field, radical_part, radical_row, radical_with_degree, veil_part}
-use Rattle.mt_convert.specs.declared.fault.SetFault.{SetFault}
+use Rattle.std.proofs.Common.{◌≡◌, ap, sym, ◌∙◌, subst, Bool, true, false, Ok, List, None, if◌then◌else◌, ◌&&◌}
+use Rattle.mt_convert.proofs.Common.{SetValue, Layout, PieceValue, Op, Kind, Plain, Radical, Accent, Limits, Style, Ss, Delim, Symbol, uncramped_of, Setting, ◌>>=◌, pack_row, Sequence, Part, SymbolPart, RootPart, RowByStyle, Content, NoContent, ListContent, OrdinarySymbol, SymbolRole, Nucleus, nucleus_row, uses_limits, veil_layout, ordinary_row, packed_field, radical_part, radical_row, radical_with_degree, veil_part, SetFault, SetFails, content_of}
 use Rattle.mt_convert.specs.declared.set.form.AtomForm.TheVariants as form
-use Rattle.mt_convert.specs.Calls.{SetFails}
-use Rattle.mt_convert.specs.ListRow.{content_of}
 use Rattle.mt_convert.specs.inner.Fields.{atom_content, list_content}
 use Rattle.mt_convert.specs.inner.Forms.{HasDegree, form_of}
 use Rattle.mt_convert.specs.inner.AtomSteps.{row_beside, row_of_root}
 use Rattle.mt_convert.specs.inner.Turns.{is_empty_part}
 use Rattle.mt_convert.proofs.Appending.{fails_then}
 use Rattle.mt_convert.proofs.kinds.Chains.{first_made}
+use Rattle.mt_rules.specs.AtomRow.{atom_row}
 
 -- ---- a field as an ordinary atom, packed
 
@@ -105,30 +85,10 @@ of_sign fonts style sign s p q r e = ap (λ x. radical_row fonts style x (conten
 pub root_form : (fonts : SetValue) (style : Style) (role : SymbolRole) (kind : Kind) (limits : Limits) (p q r : Part) (sign : Delim) → form.Root sign ≡ form_of style kind limits p q r → RootForm fonts style role kind limits p q r sign
 unfolding atom_row
 root_form fonts style role (Plain Op) limits p q r sign e = absurd (no_limits (uses_limits limits style) sign e)
-root_form fonts style role (Plain Ord) limits p q r sign e = absurd (cc)
-root_form fonts style role (Plain Bin) limits p q r sign e = absurd (cc)
-root_form fonts style role (Plain Rel) limits p q r sign e = absurd (cc)
-root_form fonts style role (Plain Open) limits p q r sign e = absurd (cc)
-root_form fonts style role (Plain Close) limits p q r sign e = absurd (cc)
-root_form fonts style role (Plain Punct) limits p q r sign e = absurd (cc)
-root_form fonts style role (Plain Inner) limits p q r sign e = absurd (cc)
-root_form fonts style role (Radical s) limits EmptyPart q r sign e = absurd (cc)
-root_form fonts style role (Radical s) limits (SymbolPart x) q r sign e = absurd (cc)
-root_form fonts style role (Radical s) limits (ListPart l) q r sign e = absurd (cc)
-root_form fonts style role (Radical s) limits (RowsPart rows) q r sign e = absurd (cc)
-root_form fonts style role (Radical s) limits (TablePart look grid) q r sign e = absurd (cc)
 root_form fonts style role (Radical s) limits (RootPart degree body) q r sign e =
     let f : sign ≡ s = cc in
     record { is = of_sign fonts style sign s (RootPart degree body) q r f; degree = tt }
-root_form fonts style role (Radical s) limits (BigPart delim level) q r sign e = absurd (cc)
-root_form fonts style role (Accent a) limits EmptyPart q r sign e = absurd (cc)
+root_form fonts style role (Radical s) limits _ q r sign e = absurd (cc)
 root_form fonts style role (Accent a) limits (SymbolPart s) q r sign e = absurd (no_inside (is_empty_part q && is_empty_part r) sign a s e)
-root_form fonts style role (Accent a) limits (ListPart l) q r sign e = absurd (cc)
-root_form fonts style role (Accent a) limits (RowsPart rows) q r sign e = absurd (cc)
-root_form fonts style role (Accent a) limits (TablePart look grid) q r sign e = absurd (cc)
-root_form fonts style role (Accent a) limits (RootPart degree body) q r sign e = absurd (cc)
-root_form fonts style role (Accent a) limits (BigPart delim level) q r sign e = absurd (cc)
-root_form fonts style role Over limits p q r sign e = absurd (cc)
-root_form fonts style role Under limits p q r sign e = absurd (cc)
-root_form fonts style role Vcenter limits p q r sign e = absurd (cc)
-root_form fonts style role (Veil width height marks) limits p q r sign e = absurd (cc)
+root_form fonts style role (Accent a) limits _ q r sign e = absurd (cc)
+root_form fonts style role _ limits p q r sign e = absurd (cc)

@@ -1,30 +1,9 @@
 -- Rows of a vcenter atom and of a table, packed one by one.
-use Rattle.std.proofs.Common.{◌≡◌, ℕ, zero, suc, ◌+◌, ◌≤◌, ◌^◌, List, [], ◌∷◌, ◌++◌, length, true, false, ap, sym, ◌∙◌, refl, subst, arith, append_assoc}
-use Rattle.std.specs.Prelude.{Ok, Err, nat_lt, pos, ⊤}
+use Rattle.std.proofs.Common.{◌≡◌, ℕ, zero, suc, ◌+◌, ◌≤◌, ◌^◌, List, [], ◌∷◌, ◌++◌, length, true, false, ap, sym, ◌∙◌, refl, subst, arith, append_assoc, Ok, Err, nat_lt, pos}
+use Rattle.mt_convert.proofs.Common.{SetValue, Layout, PieceValue, PieceBox, T, Setting, ◌>>=◌, pack_row, Size, Style, size_of, vcenter, Look, Matrix, Equations, Cell, Span, Held, cell_part, Part, RowsPart, TablePart, Sequence, Rows, NoRows, MoreRows, rows_length, rows_size, sequence_size, IsModestList, rows_items, RowByStyle, pack_rows, vcenter_part, unraised_boxes, SetFault, SetFails, content_of, rows_by_style}
+use Rattle.std.specs.Prelude.{⊤}
 use Rattle.std.proofs.lemmas.Bool.{ltb_from_iff}
-use Rattle.mt_family.specs.SetValue.{SetValue}
-use Rattle.mt_box.specs.Layout.{Layout}
-use Rattle.mt_box.specs.Rows.{PieceValue, PieceBox}
-use Rattle.mt_rules.specs.declared.style.Style.TheVariants.{T}
-use Rattle.mt_rules.specs.Setting.{Setting, ◌>>=◌, pack_row}
-use Rattle.mt_family.specs.declared.size.Size.{Size}
-use Rattle.mt_rules.specs.declared.style.Style.{Style}
-use Rattle.mt_rules.specs.Styles.{size_of}
-use Rattle.mt_rules.specs.Vcenter.{vcenter}
-use Rattle.mt_rules.specs.declared.list.Look.{Look}
-use Rattle.mt_rules.specs.declared.list.Look.TheVariants.{Matrix, Equations}
-use Rattle.mt_arena.specs.declared.thing.Cell.{Cell}
-use Rattle.mt_arena.specs.declared.thing.Cell.TheVariants.{Empty, Sym, List as OfList, Rows as OfRows, Table as OfTable, Root as OfRoot, Big as OfBig}
-use Rattle.mt_arena.specs.declared.thing.Span.{Span}
-use Rattle.mt_arena.specs.Arena.{Held, cell_part}
-use Rattle.mt_rules.specs.Sequence.{Part, EmptyPart, SymbolPart, ListPart, RowsPart, TablePart, RootPart, BigPart, Sequence, Rows, NoRows, MoreRows, rows_length, rows_size, sequence_size}
-use Rattle.mt_rules.specs.Modest.{IsModestList, rows_items}
-use Rattle.mt_rules.specs.Nuclei.{RowByStyle}
-use Rattle.mt_rules.specs.AtomRow.{pack_rows, vcenter_part}
-use Rattle.mt_pieces.specs.Putting.{unraised_boxes}
-use Rattle.mt_convert.specs.declared.fault.SetFault.{SetFault}
-use Rattle.mt_convert.specs.Calls.{SetFails}
-use Rattle.mt_convert.specs.ListRow.{content_of, rows_by_style}
+use Rattle.mt_arena.specs.declared.thing.Cell.TheVariants.{Rows as OfRows, Table as OfTable, Root as OfRoot}
 use Rattle.mt_convert.specs.inner.Appending.{appended_to}
 use Rattle.mt_convert.specs.inner.AtomSteps.{list_box}
 use Rattle.mt_convert.specs.inner.Fields.{list_content}
@@ -197,17 +176,10 @@ HasNoRows _ = ⊤
 pub vcenter_empty : (P : Setting Layout → Type 0) (fonts : SetValue) (style : Style) (size : Size) (p : Part) (boxes : List Layout) → HasNoRows p → size ≡ size_of style → boxes ≡ [] → P (vcenter fonts size boxes) → P (vcenter_part fonts style (content_of fonts p))
 vcenter_empty P fonts style size (RowsPart rows) boxes n e g h = absurd n
 vcenter_empty P fonts style size (TablePart look grid) boxes n e g h = absurd n
-vcenter_empty P fonts style size EmptyPart boxes n e g h = subst (λ b. P (vcenter fonts (size_of style) b)) g (subst (λ t. P (vcenter fonts t boxes)) e h)
-vcenter_empty P fonts style size (SymbolPart symbol) boxes n e g h = subst (λ b. P (vcenter fonts (size_of style) b)) g (subst (λ t. P (vcenter fonts t boxes)) e h)
-vcenter_empty P fonts style size (ListPart list) boxes n e g h = subst (λ b. P (vcenter fonts (size_of style) b)) g (subst (λ t. P (vcenter fonts t boxes)) e h)
-vcenter_empty P fonts style size (RootPart degree body) boxes n e g h = subst (λ b. P (vcenter fonts (size_of style) b)) g (subst (λ t. P (vcenter fonts t boxes)) e h)
-vcenter_empty P fonts style size (BigPart delim level) boxes n e g h = subst (λ b. P (vcenter fonts (size_of style) b)) g (subst (λ t. P (vcenter fonts t boxes)) e h)
+vcenter_empty P fonts style size _ boxes n e g h = subst (λ b. P (vcenter fonts (size_of style) b)) g (subst (λ t. P (vcenter fonts t boxes)) e h)
 
 pub without_rows : (es : List Held) (f : Cell) → ((rows : Span) → f ≡ OfRows rows → ⊥) → ((look : Look) (rows : Span) → f ≡ OfTable look rows → ⊥) → HasNoRows (cell_part es f)
-without_rows es Empty n m = tt
-without_rows es (Sym symbol) n m = tt
-without_rows es (OfList list) n m = tt
 without_rows es (OfRows rows) n m = n rows refl
 without_rows es (OfTable look rows) n m = m look rows refl
 without_rows es (OfRoot at) n m = subst HasNoRows (sym (a_root es at).is) tt
-without_rows es (OfBig delim level) n m = tt
+without_rows es _ n m = tt

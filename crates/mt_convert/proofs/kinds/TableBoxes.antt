@@ -1,23 +1,7 @@
 -- The cells of a table, set and packed row by row, and then its box.
-use Rattle.std.proofs.Common.{◌≡◌, ℕ, ◌+◌, ◌≤◌, ◌^◌, List, [], ◌∷◌, ◌++◌, length, All, ap, sym, ◌∙◌, refl, subst, arith, append_assoc}
-use Rattle.std.specs.Prelude.{Ok, map}
-use Rattle.std.proofs.lemmas.List.Elements.{All-append, All-cons}
-use Rattle.mt_family.specs.SetValue.{SetValue}
-use Rattle.mt_box.specs.Layout.{Layout}
-use Rattle.mt_box.specs.Rows.{PieceValue}
-use Rattle.mt_rules.specs.declared.list.Look.{Look}
-use Rattle.mt_rules.specs.declared.list.Look.TheVariants.{Matrix, Equations}
-use Rattle.mt_rules.specs.declared.style.Style.{Style}
-use Rattle.mt_rules.specs.Setting.{Setting, ◌>>=◌}
-use Rattle.mt_rules.specs.Tables.{Cells}
-use Rattle.mt_rules.specs.Sequence.{Rows, NoRows, MoreRows, TableGrid, NoTableRows, MoreTableRows, Part, TablePart, rows_length, rows_size, grid_size}
-use Rattle.mt_rules.specs.Modest.{grid_items}
-use Rattle.mt_rules.specs.AtomRow.{cells_in_columns, pack_rows, pack_cells, table_part, vcenter_part}
+use Rattle.std.proofs.Common.{◌≡◌, ℕ, ◌+◌, ◌≤◌, ◌^◌, List, [], ◌∷◌, ◌++◌, length, All, ap, sym, ◌∙◌, refl, subst, arith, append_assoc, Ok, map}
+use Rattle.mt_convert.proofs.Common.{All-append, All-cons, SetValue, Layout, PieceValue, Look, Matrix, Equations, Style, Setting, ◌>>=◌, Cells, Rows, NoRows, MoreRows, TableGrid, NoTableRows, MoreTableRows, Part, TablePart, rows_length, rows_size, grid_size, grid_items, cells_in_columns, pack_rows, pack_cells, table_part, vcenter_part, unraised_boxes, SetFault, SetFails, content_of, rows_by_style, cells_by_style}
 use Rattle.mt_pieces.specs.Celled.{cell_pieces, flat_box}
-use Rattle.mt_pieces.specs.Putting.{unraised_boxes}
-use Rattle.mt_convert.specs.declared.fault.SetFault.{SetFault}
-use Rattle.mt_convert.specs.Calls.{SetFails}
-use Rattle.mt_convert.specs.ListRow.{content_of, rows_by_style, cells_by_style}
 use Rattle.mt_convert.specs.inner.Appending.{appended_to}
 use Rattle.mt_convert.specs.inner.Modest.{IsModestRows, IsModestGrid}
 use Rattle.mt_convert.specs.inner.OnPieces.{BoxesOn, CellsOn}

@@ -1,5 +1,5 @@
 -- What the calls inside the crate answer, beside what setting answers (`SetsExtents`, `SetsNumber`): the same value, or the same fault.
--- Want of memory may come in its place.
+-- That memory ran out may come in its place.
 use Rattle.std.specs.Prelude.{◌≡◌, ℕ, Result, Ok, Err}
 use Rattle.mt_box.specs.declared.extents.Extents.{Extents}
 use Rattle.mt_rules.specs.Setting.{Setting}

@@ -1,4 +1,4 @@
--- Where boundaries and middles stand in what is left of a list (`Remains`), beside the items that are set so far.
+-- Where boundaries and middles are in what is left of a list (`Remains`), beside the items that are set so far.
 use Rattle.std.specs.Prelude.{◌≡◌, ⊤, Bool, true, false, List, [], ◌∷◌, Option, Some, None}
 use Rattle.mt_rules.specs.declared.symbol.Delim.{Delim}
 use Rattle.mt_rules.specs.Facts.{NoBoundary}
@@ -7,7 +7,7 @@ use Rattle.mt_convert.specs.Halves.{HalfValue, HalfLeft, HalfMiddle, HalfRight}
 use Rattle.mt_convert.specs.Halfway.{BoundariesOutside}
 use Rattle.mt_convert.specs.inner.Turns.{PassedElement, element_of_passed}
 
--- After a left boundary (`enclosed`) middles and a right boundary, which stands last; without one neither. A left one
+-- After a left boundary (`enclosed`) middles and a right boundary, which is last; without one neither. A left one
 -- nowhere, and none of these in the lists of a choice.
 abbrev pub RestOfList : Bool → Sequence → Type 0
 RestOfList enclosed End = enclosed ≡ false

@@ -9,7 +9,7 @@ pub record IsModestElement (element : Element) : Type 0 where
   pub items : element_items element ≤ 2 ^ 18
   pub amounts : ElementAmounts element
 
--- a list in it stands in another list
+-- a list in it is in another list
 pub record IsModestPart (part : Part) : Type 0 where
   pub nesting : part_nesting part ≤ 319
   pub items : part_items part ≤ 2 ^ 18

@@ -1,5 +1,5 @@
 -- What the calls leave that put rows and boxes behind the pieces that are there (`SetsAtomOn`, `SetsBoxOn`, `SetsNucleusOn`,
--- `SetsOperatorOn`, `SetsScriptOn`, `SetsBoxesOn`): what is made, or the first fault. Want of memory may come in its place.
+-- `SetsOperatorOn`, `SetsScriptOn`, `SetsBoxesOn`): what is made, or the first fault. That memory ran out may come in its place.
 use Rattle.std.specs.Prelude.{◌≡◌, ◌≤◌, ◌≤ℤ◌, ◌^◌, ℕ, ℤ, pos, is_some, length, map, Bool, List, [], ◌∷◌, ◌++◌, Option, Result, Ok, Err}
 use Rattle.mt_scaled.specs.Number.{Within, max_dimen}
 use Rattle.mt_scaled.specs.declared.length.Length.{Length}

@@ -35,7 +35,7 @@ CanFollow None right = ⊤
 CanFollow (Some left) None = ⊤
 CanFollow (Some left) (Some right) = CanMeet left right
 
--- each atom can stand after the atom before it; the first class is that of the last atom before
+-- each atom can be after the atom before it; the first class is that of the last atom before
 abbrev pub AllCanFollow : Option Class → List HalfValue → Type 0
 AllCanFollow last [] = ⊤
 AllCanFollow last (h ∷ hs) = CanFollow last (class_to_left h) × AllCanFollow (option_or (class_to_right h) last) hs

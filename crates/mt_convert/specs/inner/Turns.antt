@@ -6,7 +6,7 @@ use Rattle.mt_tfm.specs.declared.pair.Pair.TheVariants.{None as NoPair, Kern as 
 use Rattle.mt_family.specs.declared.size.Size.{Size}
 use Rattle.mt_family.specs.SetValue.{SetValue}
 use Rattle.mt_rules.specs.declared.class.Class.{Class}
-use Rattle.mt_rules.specs.declared.class.Class.TheVariants.{Ord, Open, Close, Inner}
+use Rattle.mt_rules.specs.declared.class.Class.TheVariants.{Ord}
 use Rattle.mt_rules.specs.declared.kind.Kind.{Kind}
 use Rattle.mt_rules.specs.declared.kind.Kind.TheVariants.{Plain}
 use Rattle.mt_rules.specs.declared.kind.Limits.{Limits}
@@ -15,7 +15,6 @@ use Rattle.mt_rules.specs.declared.symbol.Symbol.{Symbol}
 use Rattle.mt_rules.specs.declared.symbol.Delim.{Delim}
 use Rattle.mt_rules.specs.declared.symbol.Glue.{Glue}
 use Rattle.mt_rules.specs.Styles.{size_of, is_display_or_text}
-use Rattle.mt_rules.specs.Classes.{kind_class, forward_of}
 use Rattle.mt_rules.specs.Nuclei.{SymbolRole, OrdinarySymbol, TextSymbol, SmartPair}
 use Rattle.mt_rules.specs.Sequence.{Sequence, Element, Part, End, More, AtomElement, FractionElement, LeftElement, MiddleElement, RightElement, StyleElement, ChoiceElement, MuSpaceElement, SpaceElement, MuKernElement, KernElement, NonscriptElement, EmptyPart, SymbolPart}
 use Rattle.mt_arena.specs.Rest.{append_list}
@@ -91,27 +90,6 @@ flat_item fonts (PassedKern amount) = FlatKern amount
 
 abbrev pub flat_items : SetValue → PassedElement → List FlatItem
 flat_items fonts p = flat_item fonts p ∷ kern_items (kern_of p)
-
--- what it changes for those after it
-abbrev pub style_after_passed : Style → Style → PassedElement → Style
-style_after_passed initial style (PassedStyle next) = next
-style_after_passed initial style (PassedMiddle delim) = initial
-style_after_passed initial style _ = style
-
-abbrev pub class_after_passed : Option Class → PassedElement → Option Class
-class_after_passed last (PassedAtom kind limits nucleus sup sub role kern) = Some (forward_of last (kind_class kind))
-class_after_passed last (PassedFraction thickness left right num den) = Some Inner
-class_after_passed last (PassedLeft delim) = Some Open
-class_after_passed last (PassedMiddle delim) = Some Open
-class_after_passed last (PassedRight delim) = Some Close
-class_after_passed last _ = last
-
-abbrev pub current_after_passed : Current → PassedElement → Current
-current_after_passed current p = record {
-  initial = current.initial;
-  style = style_after_passed current.initial current.style p;
-  last = class_after_passed current.last p;
-}
 
 -- ---- one turn
 

@@ -1,15 +1,13 @@
 //! Where a list has come to.
 ghost use Rattle.std.specs.Prelude.{◌≡◌, List};
 ghost use Rattle.mt_rules.specs.Classes.{kind_class};
-ghost use Rattle.mt_arena.specs.Arena.{Held};
+ghost use Rattle.mt_box.specs.Rows.{PieceValue};
 ghost use Rattle.mt_convert.specs.Current.{opening as opening_of};
-ghost use Rattle.mt_convert.specs.inner.Spans.{passed_in};
-ghost use Rattle.mt_convert.specs.inner.Turns.{class_after_passed, current_after_passed};
-ghost use Rattle.mt_convert.specs.inner.Turns.{style_after_passed};
+ghost use Rattle.mt_convert.specs.SecondPass.{current_after_half, style_after_half};
+ghost use Rattle.mt_convert.specs.inner.Placed.{placed_value};
 
-use crate::flat::passed::Passed;
+use crate::placed::PlacedHalf;
 use mt_rules::{Class, Kind, Style};
-use mt_spacing::forward;
 
 /// Where a list has come to.
 #[derive(Clone, Copy)]
@@ -36,37 +34,25 @@ impl Current {
         }
     }
 
-    // Where the list has come to after this item.
-    pub(crate) fn after_passed(self, passed: &Passed) -> Current
-        ensures { (es : List Held) → result ≡ current_after_passed self (passed_in es passed.now) }
+    // Where the list has come to after an item that is set.
+    pub(crate) fn after_half(self, half: PlacedHalf) -> Current
+        ensures { (row : List PieceValue) → result ≡ current_after_half self (placed_value half row) }
     {
         Current {
             initial: self.initial,
-            style: style_after_passed(self.initial, self.style, passed),
-            last: class_after_passed(self.last, passed),
+            style: style_after_half(self.initial, self.style, half),
+            last: half.class_to_right().or(self.last),
         }
     }
 }
 
-fn style_after_passed(initial: Style, style: Style, passed: &Passed) -> Style
-    ensures { (es : List Held) → result ≡ style_after_passed initial style (passed_in es passed.now) }
+fn style_after_half(initial: Style, style: Style, half: PlacedHalf) -> Style
+    ensures { (row : List PieceValue) → result ≡ style_after_half initial style (placed_value half row) }
 {
-    match passed {
-        Passed::Style(next) => *next,
-        Passed::Middle(_) => initial,
+    match half {
+        PlacedHalf::Style(next) => next,
+        PlacedHalf::Middle(_) => initial,
         _ => style,
-    }
-}
-
-fn class_after_passed(last: Option<Class>, passed: &Passed) -> Option<Class>
-    ensures { (es : List Held) → result ≡ class_after_passed last (passed_in es passed.now) }
-{
-    match passed {
-        Passed::Atom { noad, .. } => Some(forward(last, kind_class(noad.kind))),
-        Passed::Fraction(_) => Some(Class::Inner),
-        Passed::Left(_) | Passed::Middle(_) => Some(Class::Open),
-        Passed::Right(_) => Some(Class::Close),
-        _ => last,
     }
 }
 

@@ -18,6 +18,12 @@ use mt_rules::Symbol;
 use mt_tfm::Pair;
 use std::alloc::AllocError;
 
+// A space without a size.
+const NO_SPACE: ShortGlue = ShortGlue {
+    width: 0,
+    shrink: 0,
+};
+
 // Passes the front, which was just taken off the rest, on to be set, or rewrites the rest, which is then looked at
 // again.
 pub(crate) fn turn(
@@ -48,10 +54,7 @@ pub(crate) fn turn(
             if current.style.size() != Size::Text && begins_with_space(arena, rest) {
                 rest.pop(arena);
             }
-            Passed::Space(ShortGlue {
-                width: 0,
-                shrink: 0,
-            })
+            Passed::Space(NO_SPACE)
         }
         Thing::Fraction(fraction) => Passed::Fraction(fraction),
         Thing::Left(delim) => Passed::Left(delim),

@@ -1,14 +1,12 @@
 //! The second pass in place: the pieces of the items become the row of the list.
-ghost use Rattle.std.specs.Prelude.{◌≡◌, ◌≤◌, ◌^◌, List, None, OnOk, drop, length, take};
+ghost use Rattle.std.specs.Prelude.{◌≡◌, ◌≤◌, ◌^◌, None, OnOk, drop, length, take};
 ghost use Rattle.mt_scaled.specs.Number.{Within};
-ghost use Rattle.mt_box.specs.Rows.{PieceValue};
 ghost use Rattle.mt_convert.specs.Current.{opening};
 ghost use Rattle.mt_convert.specs.Halfway.{AllMeet};
-ghost use Rattle.mt_convert.specs.SecondPass.{all_pieces, current_after_half, row_of_halves};
-ghost use Rattle.mt_convert.specs.SecondPass.{second_pass_of, style_after_half};
+ghost use Rattle.mt_convert.specs.SecondPass.{all_pieces, row_of_halves, second_pass_of};
 ghost use Rattle.mt_convert.specs.inner.LoneAtoms.{is_lone_atom};
 ghost use Rattle.mt_convert.specs.Calls.{SetsRowOn};
-ghost use Rattle.mt_convert.specs.inner.Placed.{IsPlaced, PlacesIn, placed_halves, placed_value, placed_values};
+ghost use Rattle.mt_convert.specs.inner.Placed.{IsPlaced, PlacesIn, placed_halves, placed_values};
 
 use crate::SetFault;
 use crate::flat::current::Current;
@@ -107,28 +105,7 @@ fn put_halves(
     let mut current = Current::opening(style);
     for item in items {
         from = put_half(pieces, fonts, frame, current, *item, from)?;
-        current = after_half(current, *item);
+        current = current.after_half(*item);
     }
     Ok(())
-}
-
-// Where a list has come to after an item.
-fn after_half(current: Current, half: PlacedHalf) -> Current
-    ensures { (row : List PieceValue) → result ≡ current_after_half current (placed_value half row) }
-{
-    Current {
-        initial: current.initial,
-        style: style_after_half(current.initial, current.style, half),
-        last: half.class_to_right().or(current.last),
-    }
-}
-
-fn style_after_half(initial: Style, style: Style, half: PlacedHalf) -> Style
-    ensures { (row : List PieceValue) → result ≡ style_after_half initial style (placed_value half row) }
-{
-    match half {
-        PlacedHalf::Style(next) => next,
-        PlacedHalf::Middle(_) => initial,
-        _ => style,
-    }
 }

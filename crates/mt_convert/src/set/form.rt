@@ -40,7 +40,7 @@ pub enum AtomForm {
     Beside,
 }
 
-// Whether the scripts of an operator stand above and below it.
+// Whether the scripts of an operator are above and below it.
 fn uses_limits(limits: Limits, style: Style) -> bool
     ensures { result ≡ uses_limits limits style }
 {
@@ -76,7 +76,7 @@ fn accent_form(accent: Symbol, nucleus: Cell, sup: Cell, sub: Cell) -> AtomForm
     }
 }
 
-// The form of a radical: a degree stands beside it.
+// The form of a radical: a degree is beside it.
 fn radical_form(sign: Delim, nucleus: Cell) -> AtomForm
     ensures { (es : List Held) → result ≡ radical_form sign (cell_part es nucleus) }
 {

@@ -7,7 +7,6 @@ ghost use Rattle.mt_tfm.specs.Font.{exists};
 ghost use Rattle.mt_box.specs.Extents.{ExtentsInRange};
 ghost use Rattle.mt_box.specs.Layout.{Layout};
 ghost use Rattle.mt_box.specs.Rows.{PieceBox, PieceGlyph, PieceValue};
-ghost use Rattle.mt_rules.specs.Delimiters.{piece_on_axis};
 ghost use Rattle.mt_rules.specs.Nuclei;
 ghost use Rattle.mt_rules.specs.Nuclei.{BigContent, SymbolContent};
 ghost use Rattle.mt_rules.specs.Operators;
@@ -24,8 +23,7 @@ use crate::flat::passed::JoiningRole;
 use crate::set::answers::part_set;
 use crate::set::clean::{clean_symbol, cleaned, find_symbol, italic_length};
 use mt_box::{Extents, first_out};
-use mt_delim::raise_of;
-use mt_family::{FontSet, Size};
+use mt_family::FontSet;
 use mt_pieces::Pieces;
 use mt_rules::{Delim, Style, Symbol, extents_without_italic};
 use mt_scaled::Length;
@@ -134,7 +132,7 @@ fn put_italic(pieces: &mut Pieces, italic: Length, has_subscript: bool) -> Resul
 // ---- a large operator
 
 // The nucleus of an operator that is a symbol: its clean box on the axis, and its italic
-// correction, which the box does not have where a subscript stands beside it.
+// correction, which the box does not have where a subscript is beside it.
 #[tactic(auto, unfolding(mt_rules::specs::Operators::operator_nucleus))]
 #[inline(never)]
 pub(crate) fn operator_nucleus(
@@ -159,7 +157,7 @@ pub(crate) fn operator_nucleus(
     };
     clean_symbol(pieces, fonts, style, symbol)?;
     box_beside(pieces, italic, beside_subscript)?;
-    raise_onto_axis(pieces, fonts, style.size());
+    pieces.raise_onto_axis(fonts, style.size());
     Ok(italic)
 }
 
@@ -219,15 +217,6 @@ fn narrowed(extents: Extents, by: Length) -> Extents
         width: width.sp,
         ..extents
     }
-}
-
-// The last box with its middle on the axis.
-fn raise_onto_axis(pieces: &mut Pieces, fonts: &FontSet, size: Size)
-    ensures { (old : List PieceValue) (l : Layout) → pieces.old ≡ old ++ PieceBox (pos 0) l ∷ []
-        → pieces.new ≡ old ++ piece_on_axis fonts.now size l ∷ [] }
-{
-    let raise = raise_of(fonts, size, pieces.last_extents());
-    pieces.raise_last(raise);
 }
 
 // An operator under limits that is a symbol: its clean box, and the italic correction that the box does not have.

@@ -8,10 +8,8 @@ ghost use Rattle.mt_box.specs.Rows.{PieceBox, PieceValue};
 ghost use Rattle.mt_rules.specs.Accents;
 ghost use Rattle.mt_rules.specs.AtomRow.{content_skew, skew_in};
 ghost use Rattle.mt_rules.specs.Fractions;
-ghost use Rattle.mt_rules.specs.Lines;
 ghost use Rattle.mt_rules.specs.Modest.{ThicknessAmount};
 ghost use Rattle.mt_rules.specs.Parameters;
-ghost use Rattle.mt_rules.specs.Radicals;
 ghost use Rattle.mt_rules.specs.Sequence.{EmptyPart, End, RootPart};
 ghost use Rattle.mt_rules.specs.Styles.{size_of};
 ghost use Rattle.mt_rules.specs.Symbols.{find_symbol};
@@ -38,19 +36,6 @@ use mt_rules::parameters::default_rule_thickness;
 use mt_rules::{Delim, Style, Symbol};
 use mt_scaled::Length;
 use std::alloc::Global;
-
-#[inline(never)]
-pub(crate) fn radical(
-    pieces: &mut Pieces,
-    fonts: &FontSet,
-    style: Style,
-    sign: Delim,
-) -> Result<(), SetFault>
-    ensures { (rest : List PieceValue) (l : Layout) → pieces.old ≡ rest ++ PieceBox (pos 0) l ∷ []
-        → SetsBoxOn result rest pieces.new (Radicals.radical fonts.now style sign l) }
-{
-    part_set(pieces.radical(fonts, style, sign))
-}
 
 // The degree and the body of a field that is a root.
 pub(crate) fn root_of(arena: &Arena, field: Cell) -> RootParts
@@ -106,22 +91,6 @@ pub(crate) fn with_degree(
 {
     part_set(pieces.root(fonts, style))?;
     test_row(pieces, first)
-}
-
-#[inline(never)]
-pub(crate) fn overline(pieces: &mut Pieces, fonts: &FontSet, size: Size) -> Result<(), SetFault>
-    ensures { (rest : List PieceValue) (l : Layout) → pieces.old ≡ rest ++ PieceBox (pos 0) l ∷ []
-        → SetsBoxOn result rest pieces.new (Lines.overline fonts.now size l) }
-{
-    part_set(pieces.overline(fonts, size))
-}
-
-#[inline(never)]
-pub(crate) fn underline(pieces: &mut Pieces, fonts: &FontSet, size: Size) -> Result<(), SetFault>
-    ensures { (rest : List PieceValue) (l : Layout) → pieces.old ≡ rest ++ PieceBox (pos 0) l ∷ []
-        → SetsBoxOn result rest pieces.new (Lines.underline fonts.now size l) }
-{
-    part_set(pieces.underline(fonts, size))
 }
 
 // The rows from number `first` on, one below another, with the axis in the middle.

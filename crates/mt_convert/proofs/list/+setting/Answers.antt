@@ -1,33 +1,13 @@
-use Rattle.std.proofs.Common.{◌≡◌, ◌≤◌, ◌^◌, ◌∙◌, [], ◌∷◌, ◌++◌, length, take, drop, ap, sym, subst, refl, arith, rules, w32, FitsSigned, length-append, Some, None, pos}
-use Rattle.std.specs.Prelude.{IfSome, Ok, OnOk, not}
+use Rattle.std.proofs.Common.{◌≡◌, ◌≤◌, ◌^◌, ◌∙◌, [], ◌∷◌, ◌++◌, length, take, drop, ap, sym, subst, refl, arith, rules, w32, FitsSigned, length-append, Some, None, pos, IfSome, Ok, OnOk, not}
+use Rattle.mt_convert.proofs.Common.{PieceBox, Within, max_dimen, unraised_boxes, Inner, forward_of, in_points, OrdinarySymbol, clean_field, clean_list, is_empty, make_clean, symbol_nucleus, End, More, element_size, grid_size, part_size, rows_size, sequence_size, ◌>>=◌, empty_layout, pack_row, cramped_of, size_of, find_symbol, GlueAmounts, cell_part, grid_in, rows_in, sequence_in, rest_in, SetFails, SetsRowOn, second_pass_of}
 use Rattle.std.proofs.lemmas.Result.{err_from_is_err_and}
-use Rattle.mt_box.specs.Rows.{PieceBox}
-use Rattle.mt_box.proofs.Lists.{no_more}
-use Rattle.mt_scaled.specs.Number.{Within, max_dimen}
-use Rattle.mt_pieces.specs.Putting.{unraised_boxes}
-use Rattle.mt_rules.specs.AtomRow.{pack_cells, pack_rows}
-use Rattle.mt_rules.specs.declared.class.Class.TheVariants.{Inner}
-use Rattle.mt_rules.specs.Classes.{forward_of}
 use Rattle.mt_rules.specs.Lines
-use Rattle.mt_rules.specs.MathUnits.{in_points}
-use Rattle.mt_rules.specs.Nuclei.{OrdinarySymbol, clean_field, clean_list, is_empty, make_clean, symbol_nucleus}
 use Rattle.mt_rules.specs.Radicals
-use Rattle.mt_rules.specs.Sequence.{End, More, NoTableRows, element_size, grid_size, part_size, rows_length, rows_size, sequence_size}
-use Rattle.mt_rules.specs.Setting.{◌>>=◌, empty_layout, pack_row}
-use Rattle.mt_rules.specs.Styles.{cramped_of, size_of}
-use Rattle.mt_rules.specs.Symbols.{find_symbol}
-use Rattle.mt_rules.specs.Modest.{GlueAmounts}
-use Rattle.mt_arena.specs.Arena.{as_grid, as_rows, cell_part, grid_in, rows_in, sequence_in, thing_end, value_in}
-use Rattle.mt_arena.specs.Rest.{rest_in}
-use Rattle.mt_convert.specs.Calls.{SetFails, SetsRowOn}
 use Rattle.mt_convert.specs.declared.placed.PlacedHalf.TheVariants as placed
 use Rattle.mt_convert.specs.FirstPass
-use Rattle.mt_convert.specs.ListRow.{cells_by_style, rows_by_style}
-use Rattle.mt_convert.specs.SecondPass.{second_pass_of}
 use Rattle.mt_convert.specs.inner.AtomSteps.{kind_nucleus, list_box, operator_box, part_box, row_beside, row_between, row_with_fields, row_with_limits}
 use Rattle.mt_convert.specs.inner.Fields.{field_content, list_content}
-use Rattle.mt_convert.specs.inner.Modest.{IsModestGrid}
-use Rattle.mt_convert.specs.inner.OnPieces.{BoxesOn, CellsOn, SetsAtomOn, SetsBoxOn, SetsNucleusOn, SetsOperatorOn, SetsPlaced}
+use Rattle.mt_convert.specs.inner.OnPieces.{SetsAtomOn, SetsBoxOn, SetsNucleusOn, SetsOperatorOn, SetsPlaced}
 use Rattle.mt_convert.specs.inner.Placed.{IsPlaced, placed_halves}
 use Rattle.mt_convert.specs.inner.Spans.{ModestAtom, ModestCell, ModestPassed, atom_in, passed_in}
 use Rattle.mt_convert.specs.inner.Tables.{columns_from}
@@ -48,6 +28,7 @@ use Rattle.mt_convert.proofs.kinds.Parts.{big_nucleus_is, big_operator_is, both_
 use Rattle.mt_convert.proofs.kinds.Roots.{body_fails, degree_fails, field_made, nucleus_fails, of_root, root_form, root_made, row_fails as field_row_fails, veil_fails, veil_made}
 use Rattle.mt_convert.proofs.kinds.RowBoxes.{column_missing, next_row, next_size, no_columns, row_fails, rows_end, rows_few, rows_start, rows_step, unraised_length, vcenter_empty, vcenter_fails, vcenter_made, without_rows}
 use Rattle.mt_convert.proofs.kinds.TableBoxes.{cells_end, cells_fail, cells_few, cells_start, cells_step, next_cells, next_cells_size, vcenter_table}
+use Rattle.mt_pieces.specs.Putting.{SetsPieces, boxed_on}
 use Rattle.mt_convert.proofs.list.+setting.Goals as goal
 
 -- ---- `set_span_on` and `first_pass_on`
@@ -125,12 +106,12 @@ pub first_pass_on-loop-front-preserved-in-Some-2 : goal.first_pass_on-loop-front
 first_pass_on-loop-front-preserved-in-Some-2 t c =
     let u = front_passes c.args.context.fonts.now c.loop-front.current _ c.in-Some.front _ _ _ c.in_ok-passed.field-0 c.in-Some-2.passed c.in-Some.ensures.item.0 c.in-Some.ensures.is c.in_ok-passed.ensures.turns c.in_ok-passed.ensures.boundaries c.in-Some-2.is in (
       c.in_ok-passed.ensures.kept,
-      going_pass _ _ _ c.loop-front.current c.after_passed-current.result _ _ _ _ _ _ _ _ _ _ (passed_in _ c.in-Some-2.passed) _ c.in_ok-half.half c.kern.result c.loop-front.invariant.1 u.is u.turn
+      going_pass _ _ _ c.loop-front.current c.after_half-current.result _ _ _ _ _ _ _ _ _ _ (passed_in _ c.in-Some-2.passed) _ c.in_ok-half.half c.kern.result c.loop-front.invariant.1 u.is u.turn
           u.leaves
           (c.kern.ensures c.args.context.arena.now.closed)
           (record { half = c.in_ok-half.ensures.is; kern = c.in_ok-push_with_kern.ensures.is })
           (reaches_on c.len-first.result _ _ c.loop-front.pieces c.set_item.new.pieces c.len-first.ensures c.with_pieces-reach.ensures.height c.with_pieces-reach.ensures.depth)
-          c.in_ok-push_with_kern.ensures.pushed (c.after_passed-current.ensures c.args.context.arena.now.closed),
+          c.in_ok-push_with_kern.ensures.pushed c.after_half-current.ensures,
     )
 
 pub first_pass_on-loop-front-smaller : goal.first_pass_on-loop-front-smaller
@@ -316,17 +297,50 @@ set_nucleus-set_part-requires t c = (omega (arith, c.decreases), (c.requires.mod
 pub set_nucleus-returns-in_default : goal.set_nucleus-returns-in_default
 set_nucleus-returns-in_default t c = record { is = subst (SetsNucleusOn c.part_nucleus.result c.args.pieces.now c.set_part.new.pieces) (sym (part_nucleus_is c.args.kind c.args.context.fonts.now c.args.style (role_value c.args.role) (field_content c.args.context.fonts.now c.args.context.arena.now.closed c.args.field) c.args.has_subscript c.in_default.not-Plain)) (c.part_nucleus.ensures c.args.pieces.now c.set_part.new.pieces (part_box c.args.kind c.args.context.fonts.now c.args.style (field_content c.args.context.fonts.now c.args.context.arena.now.closed c.args.field)) c.set_part.ensures.is) }
 
-pub set_part-returns-in-Radical : goal.set_part-returns-in-Radical
-set_part-returns-in-Radical t c = record { is = subst (λ k. SetsBoxOn c.set_radical.result c.args.pieces.now c.set_radical.new.pieces (part_box k c.args.context.fonts.now c.args.style (field_content c.args.context.fonts.now c.args.context.arena.now.closed c.args.field))) (sym c.in-Radical.is) c.set_radical.ensures.is }
+pub set_part-returns-in_err-clean_field-in-Radical : goal.set_part-returns-in_err-clean_field-in-Radical
+set_part-returns-in_err-clean_field-in-Radical t c =
+    let fonts = c.args.context.fonts.now in
+    let field = field_content fonts c.args.context.arena.now.closed c.args.field in
+    let p = err_from_is_err_and c.from_residual.result c.from_residual.ensures.1 in rw (p.1, p.2) (record { is = subst (λ k. SetFails c.in_err-clean_field-in-Radical.field-0.0 (part_box k fonts c.args.style field)) (sym c.in-Radical.is) (fails_then _ (clean_field fonts (cramped_of c.args.style) field) (Radicals.radical fonts c.args.style c.in-Radical.sign) (subst (λ t. SetFails c.in_err-clean_field-in-Radical.field-0.0 (clean_field fonts t field)) c.cramped.ensures c.in_err-clean_field-in-Radical.ensures.is)) })
+
+pub set_part-returns-in_ok-clean_field-in-Radical : goal.set_part-returns-in_ok-clean_field-in-Radical
+set_part-returns-in_ok-clean_field-in-Radical t c =
+    let fonts = c.args.context.fonts.now in
+    let field = field_content fonts c.args.context.arena.now.closed c.args.field in
+    let b = c.in_ok-clean_field-in-Radical.ensures.is in
+    let P = SetsBoxOn c.part_set.result c.args.pieces.now c.radical.new.self in
+    record { is = subst (λ k. P (part_box k fonts c.args.style field)) (sym c.in-Radical.is) (first_made P (clean_field fonts (cramped_of c.args.style) field) b.box (Radicals.radical fonts c.args.style c.in-Radical.sign) (ap (λ t. clean_field fonts t field) (sym c.cramped.ensures) ∙ b.is) (c.part_set.ensures.boxed c.args.pieces.now c.radical.new.self (Radicals.radical fonts c.args.style c.in-Radical.sign b.box) (c.radical.ensures c.args.pieces.now b.box b.stays))) }
+
+pub set_part-returns-in_err-clean_field-in-Over : goal.set_part-returns-in_err-clean_field-in-Over
+set_part-returns-in_err-clean_field-in-Over t c =
+    let fonts = c.args.context.fonts.now in
+    let field = field_content fonts c.args.context.arena.now.closed c.args.field in
+    let p = err_from_is_err_and c.from_residual-in_err-clean_field-in-Over.result c.from_residual-in_err-clean_field-in-Over.ensures.1 in rw (p.1, p.2) (record { is = subst (λ k. SetFails c.in_err-clean_field-in-Over.field-0.0 (part_box k fonts c.args.style field)) (sym c.in-Over.is) (fails_then _ (clean_field fonts (cramped_of c.args.style) field) (Lines.overline fonts (size_of c.args.style)) (subst (λ t. SetFails c.in_err-clean_field-in-Over.field-0.0 (clean_field fonts t field)) c.cramped-in-Over.ensures c.in_err-clean_field-in-Over.ensures.is)) })
+
+pub set_part-returns-in_ok-clean_field-in-Over : goal.set_part-returns-in_ok-clean_field-in-Over
+set_part-returns-in_ok-clean_field-in-Over t c =
+    let fonts = c.args.context.fonts.now in
+    let field = field_content fonts c.args.context.arena.now.closed c.args.field in
+    let b = c.in_ok-clean_field-in-Over.ensures.is in
+    let P = SetsBoxOn c.part_set-in-Over.result c.args.pieces.now c.overline.new.self in
+    record { is = subst (λ k. P (part_box k fonts c.args.style field)) (sym c.in-Over.is) (first_made P (clean_field fonts (cramped_of c.args.style) field) b.box (Lines.overline fonts (size_of c.args.style)) (ap (λ t. clean_field fonts t field) (sym c.cramped-in-Over.ensures) ∙ b.is) (c.part_set-in-Over.ensures.boxed c.args.pieces.now c.overline.new.self (Lines.overline fonts (size_of c.args.style) b.box) (subst (λ s. SetsPieces c.overline.result c.overline.new.self (boxed_on c.args.pieces.now (Lines.overline fonts s b.box))) c.size.ensures (c.overline.ensures c.args.pieces.now b.box b.stays)))) }
+
+pub set_part-returns-in_err-clean_field-in-Under : goal.set_part-returns-in_err-clean_field-in-Under
+set_part-returns-in_err-clean_field-in-Under t c =
+    let fonts = c.args.context.fonts.now in
+    let field = field_content fonts c.args.context.arena.now.closed c.args.field in
+    let p = err_from_is_err_and c.from_residual-in_err-clean_field-in-Under.result c.from_residual-in_err-clean_field-in-Under.ensures.1 in rw (p.1, p.2) (record { is = subst (λ k. SetFails c.in_err-clean_field-in-Under.field-0.0 (part_box k fonts c.args.style field)) (sym c.in-Under.is) (fails_then _ (clean_field fonts c.args.style field) (Lines.underline fonts (size_of c.args.style)) c.in_err-clean_field-in-Under.ensures.is) })
+
+pub set_part-returns-in_ok-clean_field-in-Under : goal.set_part-returns-in_ok-clean_field-in-Under
+set_part-returns-in_ok-clean_field-in-Under t c =
+    let fonts = c.args.context.fonts.now in
+    let field = field_content fonts c.args.context.arena.now.closed c.args.field in
+    let b = c.in_ok-clean_field-in-Under.ensures.is in
+    let P = SetsBoxOn c.part_set-in-Under.result c.args.pieces.now c.underline.new.self in
+    record { is = subst (λ k. P (part_box k fonts c.args.style field)) (sym c.in-Under.is) (first_made P (clean_field fonts c.args.style field) b.box (Lines.underline fonts (size_of c.args.style)) b.is (c.part_set-in-Under.ensures.boxed c.args.pieces.now c.underline.new.self (Lines.underline fonts (size_of c.args.style) b.box) (subst (λ s. SetsPieces c.underline.result c.underline.new.self (boxed_on c.args.pieces.now (Lines.underline fonts s b.box))) c.size-in-Under.ensures (c.underline.ensures c.args.pieces.now b.box b.stays)))) }
 
 pub set_part-returns-in-Accent : goal.set_part-returns-in-Accent
 set_part-returns-in-Accent t c = record { is = subst (λ k. SetsBoxOn c.set_accent.result c.args.pieces.now c.set_accent.new.pieces (part_box k c.args.context.fonts.now c.args.style (field_content c.args.context.fonts.now c.args.context.arena.now.closed c.args.field))) (sym c.in-Accent.is) c.set_accent.ensures.is }
-
-pub set_part-returns-in-Over : goal.set_part-returns-in-Over
-set_part-returns-in-Over t c = record { is = subst (λ k. SetsBoxOn c.set_overline.result c.args.pieces.now c.set_overline.new.pieces (part_box k c.args.context.fonts.now c.args.style (field_content c.args.context.fonts.now c.args.context.arena.now.closed c.args.field))) (sym c.in-Over.is) c.set_overline.ensures.is }
-
-pub set_part-returns-in-Under : goal.set_part-returns-in-Under
-set_part-returns-in-Under t c = record { is = subst (λ k. SetsBoxOn c.set_underline.result c.args.pieces.now c.set_underline.new.pieces (part_box k c.args.context.fonts.now c.args.style (field_content c.args.context.fonts.now c.args.context.arena.now.closed c.args.field))) (sym c.in-Under.is) c.set_underline.ensures.is }
 
 pub set_part-returns-in-Vcenter : goal.set_part-returns-in-Vcenter
 set_part-returns-in-Vcenter t c = record { is = subst (λ k. SetsBoxOn c.set_vcenter.result c.args.pieces.now c.set_vcenter.new.pieces (part_box k c.args.context.fonts.now c.args.style (field_content c.args.context.fonts.now c.args.context.arena.now.closed c.args.field))) (sym c.in-Vcenter.is) c.set_vcenter.ensures.is }
@@ -517,36 +531,6 @@ clean_field-returns-in_default t c = record { is = subst (SetsBoxOn c.empty_box.
 
 -- ---- parts round a nucleus
 
-pub set_radical-returns-in_err-clean_field : goal.set_radical-returns-in_err-clean_field
-set_radical-returns-in_err-clean_field t c =
-    let p = err_from_is_err_and c.from_residual.result c.from_residual.ensures.1 in rw (p.1, p.2) (record { is = fails_then _ (clean_field c.args.context.fonts.now (cramped_of c.args.style) (field_content c.args.context.fonts.now c.args.context.arena.now.closed c.args.field)) (Radicals.radical c.args.context.fonts.now c.args.style c.args.sign) (subst (λ t. SetFails c.in_err-clean_field.field-0.0 (clean_field c.args.context.fonts.now t (field_content c.args.context.fonts.now c.args.context.arena.now.closed c.args.field))) c.cramped.ensures c.in_err-clean_field.ensures.is) })
-
-pub set_radical-returns : goal.set_radical-returns
-set_radical-returns t c = record {
-  is = let b = c.in_ok-clean_field.ensures.is in
-      first_made (SetsBoxOn c.radical.result c.args.pieces.now c.radical.new.pieces) (clean_field c.args.context.fonts.now (cramped_of c.args.style) (field_content c.args.context.fonts.now c.args.context.arena.now.closed c.args.field)) b.box (Radicals.radical c.args.context.fonts.now c.args.style c.args.sign) (ap (λ t. clean_field c.args.context.fonts.now t (field_content c.args.context.fonts.now c.args.context.arena.now.closed c.args.field)) (sym c.cramped.ensures) ∙ b.is) (c.radical.ensures c.args.pieces.now b.box b.stays);
-}
-
-pub set_overline-returns-in_err-clean_field : goal.set_overline-returns-in_err-clean_field
-set_overline-returns-in_err-clean_field t c =
-    let p = err_from_is_err_and c.from_residual.result c.from_residual.ensures.1 in rw (p.1, p.2) (record { is = fails_then _ (clean_field c.args.context.fonts.now (cramped_of c.args.style) (field_content c.args.context.fonts.now c.args.context.arena.now.closed c.args.field)) (Lines.overline c.args.context.fonts.now (size_of c.args.style)) (subst (λ t. SetFails c.in_err-clean_field.field-0.0 (clean_field c.args.context.fonts.now t (field_content c.args.context.fonts.now c.args.context.arena.now.closed c.args.field))) c.cramped.ensures c.in_err-clean_field.ensures.is) })
-
-pub set_overline-returns : goal.set_overline-returns
-set_overline-returns t c = record {
-  is = let b = c.in_ok-clean_field.ensures.is in
-      first_made (SetsBoxOn c.overline.result c.args.pieces.now c.overline.new.pieces) (clean_field c.args.context.fonts.now (cramped_of c.args.style) (field_content c.args.context.fonts.now c.args.context.arena.now.closed c.args.field)) b.box (Lines.overline c.args.context.fonts.now (size_of c.args.style)) (ap (λ t. clean_field c.args.context.fonts.now t (field_content c.args.context.fonts.now c.args.context.arena.now.closed c.args.field)) (sym c.cramped.ensures) ∙ b.is) (subst (λ s. SetsBoxOn c.overline.result c.args.pieces.now c.overline.new.pieces (Lines.overline c.args.context.fonts.now s b.box)) c.size.ensures (c.overline.ensures c.args.pieces.now b.box b.stays));
-}
-
-pub set_underline-returns-in_err-clean_field : goal.set_underline-returns-in_err-clean_field
-set_underline-returns-in_err-clean_field t c =
-    let p = err_from_is_err_and c.from_residual.result c.from_residual.ensures.1 in rw (p.1, p.2) (record { is = fails_then _ (clean_field c.args.context.fonts.now c.args.style (field_content c.args.context.fonts.now c.args.context.arena.now.closed c.args.field)) (Lines.underline c.args.context.fonts.now (size_of c.args.style)) c.in_err-clean_field.ensures.is })
-
-pub set_underline-returns : goal.set_underline-returns
-set_underline-returns t c = record {
-  is = let b = c.in_ok-clean_field.ensures.is in
-      first_made (SetsBoxOn c.underline.result c.args.pieces.now c.underline.new.pieces) (clean_field c.args.context.fonts.now c.args.style (field_content c.args.context.fonts.now c.args.context.arena.now.closed c.args.field)) b.box (Lines.underline c.args.context.fonts.now (size_of c.args.style)) b.is (subst (λ s. SetsBoxOn c.underline.result c.args.pieces.now c.underline.new.pieces (Lines.underline c.args.context.fonts.now s b.box)) c.size.ensures (c.underline.ensures c.args.pieces.now b.box b.stays));
-}
-
 pub set_root-root_of-root-requires : goal.set_root-root_of-root-requires
 set_root-root_of-root-requires t c = record { within = c.requires.modest.within }
 
@@ -560,22 +544,22 @@ set_root-returns-in_err-pack_field t c =
     let e = c.root_of-root.ensures.is c.requires.degree in
     let p = err_from_is_err_and c.from_residual.result c.from_residual.ensures.1 in rw (p.1, p.2) (record { is = λ sup sub. of_root (SetFails _) c.args.context.fonts.now c.args.style c.args.sign (cell_part c.args.context.arena.now.closed c.args.nucleus) _ _ sup sub e (degree_fails _ c.args.context.fonts.now c.args.style c.args.sign (list_content c.args.context.fonts.now (sequence_in c.args.context.arena.now.closed c.root_of-root.result.degree)) (field_content c.args.context.fonts.now c.args.context.arena.now.closed c.root_of-root.result.body) c.in_err-pack_field.ensures.is) })
 
-pub set_root-set_radical-requires : goal.set_root-set_radical-requires
-set_root-set_radical-requires t c =
+pub set_root-set_part-requires : goal.set_root-set_part-requires
+set_root-set_part-requires t c =
     let e = c.root_of-root.ensures.is c.requires.degree in
-    (omega (arith, ap part_size e, c.decreases), body_cell _ c.args.nucleus c.root_of-root.result c.requires.modest e c.root_of-root.ensures.body)
+    (omega (arith, ap part_size e, c.decreases), (body_cell _ c.args.nucleus c.root_of-root.result c.requires.modest e c.root_of-root.ensures.body, λ class k. absurd (cc)))
 
-pub set_root-returns-in_err-set_radical : goal.set_root-returns-in_err-set_radical
-set_root-returns-in_err-set_radical t c =
+pub set_root-returns-in_err-set_part : goal.set_root-returns-in_err-set_part
+set_root-returns-in_err-set_part t c =
     let e = c.root_of-root.ensures.is c.requires.degree in
-    let p = err_from_is_err_and c.from_residual-in_err-set_radical.result c.from_residual-in_err-set_radical.ensures.1 in rw (p.1, p.2) (record { is = λ sup sub. of_root (SetFails _) c.args.context.fonts.now c.args.style c.args.sign (cell_part c.args.context.arena.now.closed c.args.nucleus) _ _ sup sub e (body_fails _ c.args.context.fonts.now c.args.style c.uncramped.result c.args.sign (list_content c.args.context.fonts.now (sequence_in c.args.context.arena.now.closed c.root_of-root.result.degree)) (field_content c.args.context.fonts.now c.args.context.arena.now.closed c.root_of-root.result.body) c.in_ok-pack_field.ensures.is.box c.uncramped.ensures c.in_ok-pack_field.ensures.is.is c.in_err-set_radical.ensures.is) })
+    let p = err_from_is_err_and c.from_residual-in_err-set_part.result c.from_residual-in_err-set_part.ensures.1 in rw (p.1, p.2) (record { is = λ sup sub. of_root (SetFails _) c.args.context.fonts.now c.args.style c.args.sign (cell_part c.args.context.arena.now.closed c.args.nucleus) _ _ sup sub e (body_fails _ c.args.context.fonts.now c.args.style c.uncramped.result c.args.sign (list_content c.args.context.fonts.now (sequence_in c.args.context.arena.now.closed c.root_of-root.result.degree)) (field_content c.args.context.fonts.now c.args.context.arena.now.closed c.root_of-root.result.body) c.in_ok-pack_field.ensures.is.box c.uncramped.ensures c.in_ok-pack_field.ensures.is.is c.in_err-set_part.ensures.is) })
 
 pub set_root-returns : goal.set_root-returns
 set_root-returns t c = record {
   is = λ sup sub.
       let e = c.root_of-root.ensures.is c.requires.degree in
       let d = c.in_ok-pack_field.ensures.is in
-      let r = c.in_ok-set_radical.ensures.is in
+      let r = c.in_ok-set_part.ensures.is in
       let P = SetsAtomOn c.with_degree.result c.args.pieces.now c.with_degree.new.pieces in
       of_root P c.args.context.fonts.now c.args.style c.args.sign (cell_part c.args.context.arena.now.closed c.args.nucleus) _ _ sup sub e (root_made P c.args.context.fonts.now c.args.style c.uncramped.result c.args.sign (list_content c.args.context.fonts.now (sequence_in c.args.context.arena.now.closed c.root_of-root.result.degree)) (field_content c.args.context.fonts.now c.args.context.arena.now.closed c.root_of-root.result.body) d.box r.box c.uncramped.ensures d.is r.is (c.with_degree.ensures c.args.pieces.now d.box r.box (sym c.len-first.ensures) (two_boxes c.args.pieces.now _ _ d.box r.box d.stays r.stays)));
 }
@@ -583,7 +567,7 @@ set_root-returns t c = record {
 pub set_root-with_degree-requires : goal.set_root-with_degree-requires
 set_root-with_degree-requires t c =
     let d = c.in_ok-pack_field.ensures.is in
-    let r = c.in_ok-set_radical.ensures.is in
+    let r = c.in_ok-set_part.ensures.is in
     record { before = c.args.pieces.now; one = d.box; two = r.box; at = sym c.len-first.ensures; is = two_boxes c.args.pieces.now _ _ d.box r.box d.stays r.stays }
 
 -- ---- `set_accent`

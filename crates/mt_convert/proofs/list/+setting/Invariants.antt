@@ -1,7 +1,5 @@
 use Rattle.std.proofs.Common.{◌+◌, ◌*◌, ◌≤◌, length}
-use Rattle.mt_rules.specs.Sequence.{sequence_size, rows_size, grid_size, element_size, part_size}
-use Rattle.mt_arena.specs.Arena.{cell_part, grid_in, rows_in, sequence_in}
-use Rattle.mt_arena.specs.Rest.{rest_in, KeptRest}
+use Rattle.mt_convert.proofs.Common.{sequence_size, rows_size, grid_size, element_size, part_size, cell_part, grid_in, rows_in, sequence_in, rest_in, KeptRest}
 use Rattle.mt_convert.specs.inner.Spans.{atom_in, fraction_in, passed_in}
 use Rattle.mt_convert.specs.inner.Turns.{element_of_passed}
 use Rattle.mt_convert.proofs.Going.{Going}
@@ -51,15 +49,6 @@ invariant-set_cells-loop-cells l =
 
 abbrev pub decreases-set_cells-loop-cells : goal.decreases-set_cells-loop-cells
 decreases-set_cells-loop-cells l = grid_size (grid_in l.context.arena.now.closed l.rest)
-
-abbrev pub decreases-set_radical : goal.decreases-set_radical
-decreases-set_radical l = 10 * part_size (cell_part l.context.arena.now.closed l.field) + 2
-
-abbrev pub decreases-set_overline : goal.decreases-set_overline
-decreases-set_overline l = 10 * part_size (cell_part l.context.arena.now.closed l.field) + 2
-
-abbrev pub decreases-set_underline : goal.decreases-set_underline
-decreases-set_underline l = 10 * part_size (cell_part l.context.arena.now.closed l.field) + 2
 
 abbrev pub decreases-set_accent : goal.decreases-set_accent
 decreases-set_accent l = 10 * part_size (cell_part l.context.arena.now.closed l.field) + 2

@@ -1,5 +1,5 @@
 use Rattle.std.proofs.Common.{◌≡◌, arith, subst, slice_get, Some}
-use Rattle.mt_arena.specs.Arena.{value_in}
+use Rattle.mt_convert.proofs.Common.{value_in}
 use Rattle.mt_convert.proofs.LoneLists.{lone_found, lone_thing}
 use Rattle.mt_convert.proofs.lone.lone_atom.Goals as goal
 

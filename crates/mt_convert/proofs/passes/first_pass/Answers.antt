@@ -1,6 +1,5 @@
 use Rattle.std.proofs.Common.{◌*◌, arith, subst}
-use Rattle.mt_rules.specs.Modest.{list_nesting}
-use Rattle.mt_convert.specs.ListRow.{halves_of}
+use Rattle.mt_convert.proofs.Common.{list_nesting, halves_of}
 use Rattle.mt_convert.specs.inner.Placed.{HalvesOn}
 use Rattle.mt_convert.proofs.Turning.{nesting_positive}
 use Rattle.mt_convert.proofs.Wrapping.{halves_placed, halves_taken}

@@ -1,6 +1,5 @@
 use Rattle.std.proofs.Common.{◌*◌, ◌≤◌, ◌^◌, arith, drop, length, sym, subst}
-use Rattle.mt_rules.specs.Modest.{list_nesting}
-use Rattle.mt_convert.specs.Holding.{RowHolds}
+use Rattle.mt_convert.proofs.Common.{list_nesting, RowHolds}
 use Rattle.mt_convert.proofs.TakenRows.{taken_fits}
 use Rattle.mt_convert.proofs.Turning.{nesting_positive}
 use Rattle.mt_convert.proofs.Wrapping.{few_taken, list_taken}

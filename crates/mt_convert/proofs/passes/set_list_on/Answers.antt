@@ -1,6 +1,5 @@
 use Rattle.std.proofs.Common.{subst}
-use Rattle.mt_convert.specs.Calls.{SetsRowOn}
-use Rattle.mt_convert.specs.ListRow.{list_row}
+use Rattle.mt_convert.proofs.Common.{SetsRowOn, list_row}
 use Rattle.mt_convert.proofs.Wrapping.{list_put, row_put}
 use Rattle.mt_convert.proofs.kinds.Bounds.{put_span}
 use Rattle.mt_convert.proofs.passes.set_list_on.Goals as goal

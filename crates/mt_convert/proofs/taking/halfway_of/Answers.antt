@@ -1,5 +1,5 @@
 use Rattle.std.proofs.Common.{◌≡◌, ℤ, arith, rules, w64, to_z, of_z, FitsSigned, subst, sym}
-use Rattle.std.proofs.lemmas.Int.{ints}
+use Rattle.mt_convert.proofs.Common.{ints}
 use Rattle.mt_convert.specs.inner.Taken.{AreTaken}
 use Rattle.mt_convert.proofs.TakenRows.{is_halfway}
 use Rattle.mt_convert.proofs.taking.halfway_of.Goals as goal

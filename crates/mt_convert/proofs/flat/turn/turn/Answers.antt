@@ -1,6 +1,5 @@
 use Rattle.std.proofs.Common.{refl, subst}
-use Rattle.mt_arena.specs.Arena.{sequence_in, value_in}
-use Rattle.mt_arena.specs.Rest.{more_of, rest_in, KeptItem}
+use Rattle.mt_convert.proofs.Common.{sequence_in, value_in, more_of, rest_in, KeptItem}
 use Rattle.mt_convert.specs.inner.Boundaries.{RestOfList}
 use Rattle.mt_convert.proofs.Remaining.{choice_rest, chosen_list}
 use Rattle.mt_convert.proofs.flat.turn.turn.Goals as goal

@@ -1,5 +1,5 @@
 use Rattle.std.proofs.Common.{sym, subst}
-use Rattle.mt_arena.specs.Rest.{rest_in}
+use Rattle.mt_convert.proofs.Common.{rest_in}
 use Rattle.mt_convert.specs.inner.Boundaries.{RestOfList}
 use Rattle.mt_convert.proofs.Remaining.{joined_rest}
 use Rattle.mt_convert.proofs.flat.turn.turn_atom.Goals as goal

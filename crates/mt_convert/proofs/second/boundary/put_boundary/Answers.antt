@@ -1,5 +1,4 @@
-use Rattle.mt_rules.specs.Delimiters.{delimiter}
-use Rattle.mt_convert.specs.SecondPass.{space_before}
+use Rattle.mt_convert.proofs.Common.{delimiter, space_before}
 use Rattle.mt_convert.proofs.Boundaries.{boundary_put}
 use Rattle.mt_convert.proofs.second.boundary.put_boundary.Goals as goal
 

@@ -1,6 +1,5 @@
 use Rattle.std.proofs.Common.{◌∙◌, ap, subst, take, drop}
-use Rattle.mt_convert.specs.SecondPass.{row_of_halves}
-use Rattle.mt_convert.specs.Calls.{SetsRowOn}
+use Rattle.mt_convert.proofs.Common.{row_of_halves, SetsRowOn}
 use Rattle.mt_convert.specs.inner.Placed.{placed_values}
 use Rattle.mt_convert.proofs.SecondPass.{second_is}
 use Rattle.mt_convert.proofs.second.join.join_on.Goals as goal

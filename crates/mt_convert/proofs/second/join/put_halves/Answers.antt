@@ -1,4 +1,4 @@
-use Rattle.std.proofs.lemmas.List.{drop_more}
+use Rattle.mt_convert.proofs.Common.{drop_more}
 use Rattle.mt_convert.proofs.SecondPass.{put_start, put_step, next_put}
 use Rattle.mt_convert.proofs.second.join.put_halves.Goals as goal
 

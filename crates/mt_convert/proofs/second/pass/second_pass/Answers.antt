@@ -1,6 +1,5 @@
-use Rattle.std.proofs.Common.{◌^◌, arith, subst}
-use Rattle.std.specs.Prelude.{Ok}
-use Rattle.mt_convert.specs.Halfway.{halves_value}
+use Rattle.std.proofs.Common.{◌^◌, arith, subst, Ok}
+use Rattle.mt_convert.proofs.Common.{halves_value}
 use Rattle.mt_convert.specs.inner.Placed.{HalvesOn}
 use Rattle.mt_convert.proofs.TakenRows.{taken_fits}
 use Rattle.mt_convert.proofs.Wrapping.{pass_is, few_taken}

@@ -1,4 +1,4 @@
-use Rattle.mt_rules.proofs.Answering.{none_out}
+use Rattle.mt_convert.proofs.Common.{none_out}
 use Rattle.mt_convert.specs.inner.OnPieces.{SetsBoxOn}
 use Rattle.mt_convert.proofs.CleanGlyphs.{clean_glyph_by}
 use Rattle.mt_convert.proofs.set.clean.clean_glyph.Goals as goal

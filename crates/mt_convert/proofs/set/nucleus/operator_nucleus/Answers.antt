@@ -1,6 +1,5 @@
-use Rattle.std.proofs.Common.{rules, ◌∷◌, [], ◌++◌, ◌∙◌, ap, sym}
-use Rattle.mt_rules.specs.Delimiters.{piece_on_axis}
-use Rattle.mt_rules.specs.Symbols.{find_symbol}
+use Rattle.std.proofs.Common.{rules, ◌∷◌, [], ◌++◌, ◌∙◌, ap, sym, pos}
+use Rattle.mt_convert.proofs.Common.{piece_on_axis, find_symbol}
 use Rattle.mt_convert.proofs.NucleiOn.{IsOperator, operator_left}
 use Rattle.mt_convert.proofs.set.nucleus.operator_nucleus.Goals as goal
 
@@ -16,6 +15,6 @@ returns c =
       italic_is = search rules;
     } in
     record {
-      is = operator_left fonts c.args.style c.args.symbol c.args.beside_subscript c.in_ok-number.number c.operator_code-code.result c.italic_length-italic.result.sp old c.box_beside.new.pieces c.raise_onto_axis.new.pieces clean.box k clean.is narrow
-          (λ l e. c.raise_onto_axis.ensures old l e ∙ ap (λ z. old ++ piece_on_axis fonts z l ∷ []) c.size-2.ensures) c.italic_length-italic.ensures.small;
+      is = operator_left fonts c.args.style c.args.symbol c.args.beside_subscript c.in_ok-number.number c.operator_code-code.result c.italic_length-italic.result.sp old c.box_beside.new.pieces c.raise_onto_axis.new.self clean.box k clean.is narrow
+          (λ l e. c.raise_onto_axis.ensures old (pos 0) l e ∙ ap (λ z. old ++ piece_on_axis fonts z l ∷ []) c.size-2.ensures) c.italic_length-italic.ensures.small;
     }

@@ -1,6 +1,6 @@
-use Rattle.std.proofs.Common.{subst}
-use Rattle.std.specs.Prelude.{Result, ⊤}
-use Rattle.mt_convert.specs.declared.fault.SetFault.{SetFault}
+use Rattle.std.proofs.Common.{subst, Result}
+use Rattle.mt_convert.proofs.Common.{SetFault}
+use Rattle.std.specs.Prelude.{⊤}
 use Rattle.mt_convert.specs.inner.OnPieces.{SetsBoxOn}
 use Rattle.mt_convert.proofs.NucleiOn.{box_as_operator}
 use Rattle.mt_convert.proofs.set.nucleus.part_operator.Goals as goal

@@ -1,6 +1,5 @@
 use Rattle.std.proofs.Common.{◌∙◌, ◌-ℤ◌, ap, pos}
-use Rattle.mt_box.specs.declared.extents.Extents.{Extents}
-use Rattle.mt_rules.proofs.Answering.{none_out}
+use Rattle.mt_convert.proofs.Common.{Extents, none_out}
 use Rattle.mt_convert.proofs.NucleiOn.{narrow_left}
 use Rattle.mt_convert.proofs.set.nucleus.without_italic.Goals as goal
 

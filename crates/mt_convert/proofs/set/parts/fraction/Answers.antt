@@ -1,5 +1,5 @@
 use Rattle.std.proofs.Common.{ℤ, pos, subst}
-use Rattle.mt_rules.specs.Fractions.{fraction}
+use Rattle.mt_convert.proofs.Common.{fraction}
 use Rattle.mt_convert.specs.inner.AtomSteps.{lone_box}
 use Rattle.mt_convert.specs.inner.OnPieces.{AtomOn}
 use Rattle.mt_convert.proofs.RowsOn.{box_as_atom}

@@ -1,6 +1,5 @@
 use Rattle.std.proofs.Common.{[], ◌∷◌, ap, sym, ◌∙◌}
-use Rattle.mt_rules.specs.Sequence.{End, RootPart}
-use Rattle.mt_arena.specs.Arena.{as_root, cell_part, value_in}
+use Rattle.mt_convert.proofs.Common.{End, RootPart, as_root, cell_part, value_in}
 use Rattle.mt_convert.proofs.ThingKinds.{no_root}
 use Rattle.mt_convert.proofs.set.parts.parts_of.Goals as goal
 

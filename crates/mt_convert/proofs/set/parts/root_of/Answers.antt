@@ -1,5 +1,5 @@
 use Rattle.std.proofs.Common.{ap, arith, ◌∙◌}
-use Rattle.mt_arena.specs.Arena.{cell_end, cell_part, value_in}
+use Rattle.mt_convert.proofs.Common.{cell_end, cell_part, value_in}
 use Rattle.mt_arena.proofs.Making.{root_there}
 use Rattle.mt_convert.proofs.set.parts.root_of.Goals as goal
 

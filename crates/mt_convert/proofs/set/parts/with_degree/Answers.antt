@@ -1,5 +1,5 @@
 use Rattle.std.proofs.Common.{arith}
-use Rattle.mt_rules.specs.Roots.{root_row}
+use Rattle.mt_convert.proofs.Common.{root_row}
 use Rattle.mt_convert.proofs.RowsOn.{few_behind, root_atom, root_few}
 use Rattle.mt_convert.proofs.set.parts.with_degree.Goals as goal
 

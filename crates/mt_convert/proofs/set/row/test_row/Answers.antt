@@ -1,10 +1,5 @@
-use Rattle.std.proofs.Common.{◌≡◌, ◌≤◌, ◌∙◌, ◌++◌, ap, drop, length, subst, List, pos}
-use Rattle.std.proofs.lemmas.List.{drop_at}
-use Rattle.std.specs.Prelude.{Result, Ok, Err, OnOk, ◌≤ℤ◌}
-use Rattle.mt_scaled.specs.Number.{max_dimen}
-use Rattle.mt_box.specs.Rows.{PieceValue, row_height, row_depth}
-use Rattle.mt_rules.specs.Setting.{make_row}
-use Rattle.mt_convert.specs.declared.fault.SetFault.{SetFault}
+use Rattle.std.proofs.Common.{◌≡◌, ◌≤◌, ◌∙◌, ◌++◌, ap, drop, length, subst, List, pos, Result, Ok, Err, OnOk, ◌≤ℤ◌}
+use Rattle.mt_convert.proofs.Common.{drop_at, max_dimen, PieceValue, row_height, row_depth, make_row, SetFault}
 use Rattle.mt_convert.specs.inner.OnPieces.{SetsAtomOn, TestsRow}
 use Rattle.mt_convert.proofs.set.row.test_row.Goals as goal
 

@@ -1,5 +1,5 @@
 use Rattle.std.proofs.Common.{ap, arith, ◌∙◌}
-use Rattle.mt_arena.specs.Arena.{thing_end}
+use Rattle.mt_convert.proofs.Common.{thing_end}
 use Rattle.mt_convert.proofs.ThingKinds.{cells_first, cells_later, no_cells_left}
 use Rattle.mt_convert.proofs.set.rows.next_cells.Goals as goal
 

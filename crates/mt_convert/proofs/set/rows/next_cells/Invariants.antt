@@ -1,5 +1,5 @@
 use Rattle.std.proofs.Common.{◌≡◌, ◌-◌}
-use Rattle.mt_arena.specs.Arena.{grid_in}
+use Rattle.mt_convert.proofs.Common.{grid_in}
 use Rattle.mt_convert.proofs.set.rows.next_cells.Given as goal
 
 abbrev pub invariant-loop-rows : goal.invariant-loop-rows

@@ -1,6 +1,5 @@
 use Rattle.std.proofs.Common.{ap, arith, ◌∙◌, subst}
-use Rattle.mt_arena.specs.Arena.{thing_end, value_in}
-use Rattle.mt_arena.specs.Keeping.{HeldLists}
+use Rattle.mt_convert.proofs.Common.{thing_end, value_in, HeldLists}
 use Rattle.mt_convert.proofs.ThingKinds.{row_first, row_later, no_row_left}
 use Rattle.mt_convert.proofs.set.rows.next_row.Goals as goal
 

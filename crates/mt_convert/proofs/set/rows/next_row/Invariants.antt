@@ -1,5 +1,5 @@
 use Rattle.std.proofs.Common.{◌≡◌, ◌-◌}
-use Rattle.mt_arena.specs.Arena.{rows_in}
+use Rattle.mt_convert.proofs.Common.{rows_in}
 use Rattle.mt_convert.proofs.set.rows.next_row.Given as goal
 
 abbrev pub invariant-loop-rows : goal.invariant-loop-rows

@@ -1,5 +1,5 @@
 use Rattle.std.proofs.Common.{pos}
-use Rattle.mt_rules.specs.Limits.{limits}
+use Rattle.mt_convert.proofs.Common.{limits}
 use Rattle.mt_convert.proofs.RowsOn.{between_atom}
 use Rattle.mt_convert.proofs.set.scripts.with_limits.Goals as goal
 

@@ -1,6 +1,6 @@
 use Rattle.std.proofs.Common.{sym, arith, refl}
+use Rattle.mt_convert.proofs.Common.{PlacedHalf}
 use Rattle.std.proofs.Math.ListN.{length-set}
-use Rattle.mt_convert.specs.declared.placed.PlacedHalf.{PlacedHalf}
 use Rattle.mt_convert.proofs.Settling.{settle_turn, settle_end}
 use Rattle.mt_convert.proofs.set.settle.settle_all.Goals as goal
 

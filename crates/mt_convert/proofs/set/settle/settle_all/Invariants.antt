@@ -1,5 +1,4 @@
-use Rattle.std.proofs.Common.{◌≡◌, ◌++◌, ◌≤◌, take, drop, length}
-use Rattle.std.specs.Prelude.{None}
+use Rattle.std.proofs.Common.{◌≡◌, ◌++◌, ◌≤◌, take, drop, length, None}
 use Rattle.mt_convert.proofs.Settling.{settled_before}
 use Rattle.mt_convert.proofs.set.settle.settle_all.Given as goal
 
