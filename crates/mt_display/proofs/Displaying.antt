@@ -1,26 +1,15 @@
 -- Displays and numbers set on a stack: what was packed, and the lines that the widths of a display give.
-use Rattle.std.proofs.Common.{◌≡◌, ℕ, ◌+◌, ◌-◌, ◌≤◌, ℤ, pos, ◌≤ℤ◌, Bool, true, false, List, [], ◌∷◌, ◌++◌, Option, Some, None, Result, Ok, Err, length, take, drop, append_assoc, length-append, refl, sym, subst, ◌∙◌, ap, arith, w64, to_z, of_z, if◌then◌else◌}
-use Rattle.std.proofs.lemmas.Int.{ints}
-use Rattle.std.proofs.lemmas.List.{take_at, drop_at}
+use Rattle.std.proofs.Common.{◌≡◌, ℕ, ◌+◌, ◌-◌, ◌≤◌, ℤ, pos, ◌≤ℤ◌, Bool, true, false, List, [], ◌∷◌, ◌++◌, Option, Some, None, Result, Ok, Err, length, take, drop, append_assoc, length-append, refl, sym, subst, ◌∙◌, ap, arith, w64, to_z, of_z, if◌then◌else◌, ◌+ℤ◌, ◌-ℤ◌, not, ◌&&◌, int_le, int_lt, IfSome}
+use Rattle.mt_display.proofs.Common.{ints, take_at, drop_at, Decides-int_eq, Within, max_dimen, PackError, Layout, PieceValue, PieceBox, PieceKern, begins_with_space_piece, pack, row_width, Setting, SettingFault, Overflow, ◌>>=◌, make_box, pack_row, LineStack, Fit, NumberFits, display_lines, fit, fitted, indent, numbered_lines, one_line, placed_lines, room_between, PutsLines, LineValue}
 use Rattle.std.specs.Ordering.{int_eq}
-use Rattle.std.proofs.lemmas.Bool.Decides.{Decides-int_eq}
-use Rattle.std.specs.Prelude.{◌+ℤ◌, ◌-ℤ◌, not, ◌&&◌, int_le, int_lt, IfSome, ⊤}
-use Rattle.mt_scaled.specs.Number.{Within, max_dimen}
+use Rattle.std.specs.Prelude.{⊤}
 use Rattle.mt_scaled.specs.declared.length.Length.{Length}
-use Rattle.mt_box.specs.declared.error.PackError.{PackError}
 use Rattle.mt_box.specs.declared.error.PackError.TheVariants.{Overflow as PackOverflow, OutOfMemory as NoPackMemory}
-use Rattle.mt_box.specs.Layout.{Layout}
-use Rattle.mt_box.specs.Rows.{PieceValue, PieceBox, PieceKern, begins_with_space_piece, pack, row_width}
 use Rattle.mt_pieces.specs.Putting.{boxed_on, PacksPieces}
 use Rattle.mt_pieces.proofs.Packed.{Fails, packed, refused}
-use Rattle.mt_rules.specs.Setting.{Setting, SettingFault, Overflow, ◌>>=◌, make_box, pack_row}
-use Rattle.mt_display.specs.declared.line_stack.LineStack.{LineStack}
 use Rattle.mt_display.specs.declared.line.Numbered.{Numbered}
 use Rattle.mt_display.specs.declared.fit.NumberWidths.{NumberWidths}
 use Rattle.mt_display.specs.declared.slot.Slot.{Slot}
-use Rattle.mt_display.specs.Displays.{Fit, NumberFits, display_lines, fit, fitted, indent, numbered_lines, one_line, placed_lines, room_between}
-use Rattle.mt_display.specs.LineStack.{PutsLines}
-use Rattle.mt_display.specs.Lines.{LineValue}
 use Rattle.mt_display.specs.inner.OnStack.{BothSet, DisplaySet, IsSlot, SetsBoth, SetsDisplay, e_of_box, fit_of_row, in_order, lines_beside}
 
 -- a bound that a greater one follows

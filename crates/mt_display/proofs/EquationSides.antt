@@ -1,14 +1,9 @@
 -- The widths of both sides of equations, a row at a time.
-use Rattle.std.proofs.Common.{◌≡◌, ℤ, List, [], ◌∷◌, map, Option, Some, None, refl, arith, sym, ◌∙◌, ap}
-use Rattle.std.proofs.lemmas.Int.{ints, clamps}
-use Rattle.std.specs.Int.{int_max}
-use Rattle.std.specs.Prelude.{IfSome}
-use Rattle.mt_box.specs.Layout.{Layout}
+use Rattle.std.proofs.Common.{◌≡◌, ℤ, List, [], ◌∷◌, map, Option, Some, None, refl, arith, sym, ◌∙◌, ap, IfSome}
+use Rattle.mt_display.proofs.Common.{ints, clamps, int_max, Layout, equation_sides, equation_layout}
 use Rattle.mt_rules.specs.Tables.{column_widths, widened}
-use Rattle.mt_rules.specs.DisplayRows.{equation_sides}
 use Rattle.mt_display.specs.declared.equations.EquationRow.{EquationRow}
 use Rattle.mt_display.specs.declared.equations.SideWidths.{SideWidths}
-use Rattle.mt_display.specs.DisplayLines.{equation_layout}
 use Rattle.mt_display.specs.inner.EquationRows.{AreSmallSides, joined, side_widths}
 
 max_assoc : (a v w : ℤ) → int_max w (int_max a v) ≡ int_max (int_max w a) v
@@ -34,9 +29,6 @@ pub record Widened (rows rest : List EquationRow) (widths : Option SideWidths) :
   pub whole : joined (side_widths widths) (widths_below rest) ≡ widths_below rows
   pub small : IfSome widths AreSmallSides
 
-pub widened_start : (rows rest : List EquationRow) → rest ≡ rows → Widened rows rest None
-widened_start rows rest e = record { whole = ap widths_below e; small = tt }
-
 pub widened_step : (rows rest rest' : List EquationRow) (r : EquationRow) (widths : Option SideWidths) (w : SideWidths) → Widened rows rest widths → rest ≡ r ∷ rest'
     → side_widths (Some w) ≡ joined (side_widths widths) (r.first.extents.width ∷ r.second.extents.width ∷ []) → AreSmallSides w → Widened rows rest' (Some w)
 widened_step rows rest rest' r widths w h e is small = record {
@@ -47,10 +39,3 @@ widened_step rows rest rest' r widths w h e is small = record {
       ∙ h.whole;
   small = small;
 }
-
-none_left : (widths : Option SideWidths) → joined (side_widths widths) [] ≡ side_widths widths
-none_left None = refl
-none_left (Some w) = refl
-
-pub widened_end : (rows rest : List EquationRow) (widths : Option SideWidths) → Widened rows rest widths → rest ≡ [] → side_widths widths ≡ widths_below rows
-widened_end rows rest widths h e = sym (none_left widths) ∙ ap (λ rs. joined (side_widths widths) (widths_below rs)) (sym e) ∙ h.whole

@@ -1,3 +1,5 @@
+-- the names that most proofs cite
+mod Common
 -- from the widths of a display to its lines
 pub mod Displaying
 -- rows one below another in one line

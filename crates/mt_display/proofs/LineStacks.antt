@@ -1,33 +1,11 @@
--- Lines and pieces on one stack, and lines that end.
-use Rattle.std.proofs.Common.{◌≡◌, ℕ, ◌^◌, ℤ, pos, List, [], ◌∷◌, ◌++◌, length, take, drop, append_assoc, refl, sym, ◌∙◌, ap, subst, arith}
-use Rattle.std.proofs.lemmas.Int.{ints}
-use Rattle.std.proofs.lemmas.List.{map-append, length-map, take_at, drop_at}
-use Rattle.std.proofs.lemmas.List.Elements.{All-cons, All-nil}
-use Rattle.std.specs.Prelude.{All, Ok}
-use Rattle.mt_scaled.specs.Number.{Within}
-use Rattle.mt_box.specs.Rows.{PieceValue}
-use Rattle.mt_rules.specs.Setting.{Setting}
-use Rattle.mt_display.specs.declared.line_stack.LineStack.{LineStack}
-use Rattle.mt_display.specs.LineStack.{IsStack, MoreLines, line_box, line_boxes, line_shifts}
-use Rattle.mt_display.specs.Lines.{LineValue}
+-- Lines and pieces on one stack, and lines that are put behind others.
+use Rattle.std.proofs.Common.{◌≡◌, ℕ, ◌^◌, pos, List, [], ◌∷◌, ◌++◌, length, take, drop, append_assoc, refl, ◌∙◌, ap, subst, arith, All, Ok}
+use Rattle.mt_display.proofs.Common.{ints, length-map, take_at, drop_at, All-cons, All-nil, Within, PieceValue, Setting, LineStack, IsStack, MoreLines, line_box, line_boxes, LineValue}
 
 -- ---- lines
 
 pub boxes_length : (lines : List LineValue) → length (line_boxes lines) ≡ length lines
 boxes_length lines = length-map lines line_box
-
-pub boxes_more : (lines : List LineValue) (l : LineValue) (row : List PieceValue) → line_boxes lines ++ line_box l ∷ row ≡ line_boxes (lines ++ l ∷ []) ++ row
-boxes_more lines l row = sym (ap (λ ps. ps ++ row) (map-append line_box lines (l ∷ [])) ∙ append_assoc (line_boxes lines) (line_box l ∷ []) row)
-
-pub shifts_more : (lines : List LineValue) (l : LineValue) → line_shifts lines ++ l.shift ∷ [] ≡ line_shifts (lines ++ l ∷ [])
-shifts_more lines l = sym (map-append (λ (k : LineValue). k.shift) lines (l ∷ []))
-
--- the first of the pieces behind the lines is the box of a line
-pub ended : (lines : List LineValue) (l : LineValue) (row : List PieceValue) (old new : LineStack) → IsStack lines (line_box l ∷ row) old → new.pieces ≡ old.pieces → new.shifts.items ≡ old.shifts.items ++ l.shift ∷ [] → IsStack (lines ++ l ∷ []) row new
-ended lines l row old new h p s = record {
-  pieces = p ∙ (h.pieces ∙ boxes_more lines l row);
-  shifts = s ∙ (ap (λ (x : List ℤ). x ++ l.shift ∷ []) h.shifts ∙ shifts_more lines l);
-}
 
 one_small : (l : LineValue) → Within (2 ^ 40) l.shift → All (λ (k : LineValue). Within (2 ^ 40) k.shift) (l ∷ [])
 one_small l h = All-cons (λ (k : LineValue). Within (2 ^ 40) k.shift) l [] h (All-nil (λ (k : LineValue). Within (2 ^ 40) k.shift))

@@ -1,30 +1,18 @@
 -- Rows one below another: their column is their layout, and how it is made.
-use Rattle.std.proofs.Common.{◌≡◌, ℕ, ◌≤◌, ◌+◌, ◌-◌, ◌*◌, ◌^◌, max, List, [], ◌∷◌, ◌++◌, length, map, ℤ, pos, negsuc, ◌+ℤ◌, ◌-ℤ◌, ◌≤ℤ◌, Option, Some, None, refl, arith, append_assoc, length-append, sym, ◌∙◌, ap, subst, true, false, ◌<◌, w64, to_z, of_z}
-use Rattle.std.proofs.lemmas.Int.{ints, clamps}
-use Rattle.std.proofs.lemmas.Bool.Decides.{nat_tests}
-use Rattle.std.proofs.lemmas.List.Elements.{All-head, All-tail}
-use Rattle.std.specs.Int.{int_max}
+use Rattle.std.proofs.Common.{◌≡◌, ℕ, ◌≤◌, ◌+◌, ◌-◌, ◌*◌, ◌^◌, max, List, [], ◌∷◌, ◌++◌, length, map, ℤ, pos, negsuc, ◌+ℤ◌, ◌-ℤ◌, ◌≤ℤ◌, Option, Some, None, refl, arith, append_assoc, length-append, sym, ◌∙◌, ap, subst, true, false, ◌<◌, w64, to_z, of_z, Result, Err, All}
+use Rattle.mt_display.proofs.Common.{ints, clamps, nat_tests, All-head, All-tail, int_max, Within, max_dimen, is_in_range, PackError, BoxValue, Layout, layout_of, all_moved, ExtentsInRange, first_out, nil_right, Overflow, make_box, last_depth, stacked_rows, boxes_level}
 use Rattle.std.specs.Option.{ForSome}
-use Rattle.std.specs.Prelude.{Result, Err, All}
-use Rattle.mt_scaled.specs.Number.{Within, max_dimen, is_in_range}
 use Rattle.mt_scaled.specs.declared.length.Length.{Length}
 use Rattle.mt_box.specs.declared.entry.Entry.{Entry}
 use Rattle.mt_box.specs.declared.entry.Entry.TheVariants.{Boxed, Kern}
-use Rattle.mt_box.specs.declared.error.PackError.{PackError}
-use Rattle.mt_box.specs.Layout.{BoxValue, Layout, layout_of, all_moved}
-use Rattle.mt_box.specs.Extents.{ExtentsInRange, first_out}
 use Rattle.mt_box.specs.Packs.{Packs}
 use Rattle.mt_box.specs.Columns.{EntryValue, EntryBox, EntryKern, entry_values, column_width, column_drop, column_places, column_level, stack, AllModestEntries}
-use Rattle.mt_box.proofs.Lists.{nil_right}
 use Rattle.mt_box.proofs.Equalities.{extents_eq, layout_eq}
 use Rattle.mt_rules.specs.Calls.{BoxAnswers}
-use Rattle.mt_rules.specs.Setting.{Overflow, make_box}
 use Rattle.mt_rules.specs.Tables.{open_gap, rows_drop, open_drop, rows_places, open_places}
-use Rattle.mt_rules.specs.DisplayRows.{last_depth, stacked_rows}
 use Rattle.mt_rules.proofs.Answering.{box_answers, make_box-err}
 use Rattle.mt_rules.proofs.Stacks.{column_width-append}
 use Rattle.mt_rules.proofs.Appends.{entry_values-append, column_level-append, modest_entries-append}
-use Rattle.mt_display.specs.DisplayLines.{boxes_level}
 use Rattle.mt_display.specs.inner.OpenRows.{depth_or_0, depth_value, gap_before, last_after, row_entries, strut}
 
 -- ---- the column is the layout
@@ -244,7 +232,7 @@ opened_end z rows rest entries total depth h e =
       width = h'.width;
     }
 
--- where the top of the column stands
+-- where the top of the column is
 pub top_is : (total depth : ℤ) (ls : List Layout) (top : ℤ) → Within (2 ^ 54) top → top ≡ total -ℤ depth → total ≡ open_drop ls → depth ≡ last_depth ls → to_z w64 (of_z w64 top) ≡ open_drop ls -ℤ last_depth ls
 top_is total depth ls top small e f g = top_kept top small ∙ e ∙ ap (λ x. x -ℤ depth) f ∙ ap (λ x. open_drop ls -ℤ x) g
 

@@ -1,11 +1,8 @@
--- A row whose extents are in range is refused for want of memory alone.
-use Rattle.std.proofs.Common.{◌≡◌, refl, sym, ◌∙◌, IfErr, Some, None}
-use Rattle.std.specs.Prelude.{ℤ, Result, Ok, Err}
-use Rattle.mt_box.specs.Layout.{BoxValue, Layout}
+-- A row whose extents are in range is refused only where memory runs out.
+use Rattle.std.proofs.Common.{◌≡◌, refl, sym, ◌∙◌, IfErr, Some, None, ℤ, Result, Ok, Err}
+use Rattle.mt_display.proofs.Common.{BoxValue, Layout, ExtentsInRange, PackError, OutOfMemory}
 use Rattle.mt_box.specs.Packs.{Packs}
-use Rattle.mt_box.specs.Extents.{ExtentsInRange}
-use Rattle.mt_box.specs.declared.error.PackError.{PackError}
-use Rattle.mt_box.specs.declared.error.PackError.TheVariants.{Overflow, OutOfMemory}
+use Rattle.mt_box.specs.declared.error.PackError.TheVariants.{Overflow}
 use Rattle.mt_rules.proofs.Answering.{first_out-none}
 
 different : (value : ℤ) → None ≡ Some value → ⊥

@@ -3,23 +3,15 @@
 -- How to go from rows to a page that can be written: let P be what a place needs besides coordinates in range, and Q all that it needs.
 -- `inline_has` and `display_has` go from the pieces of a row (`PieceHas P`) to the lines that are answered, lists of lines are joined by
 -- `All-append`, and `page_has` goes from there to the places that `stack_lines` answers: each has Q. `page_few` says how many they are.
-use Rattle.std.proofs.Common.{◌≡◌, ℕ, ◌+◌, ◌-◌, ◌≤◌, ℤ, pos, ◌-ℤ◌, List, [], ◌∷◌, length, length-append, refl, subst, arith, Bool, true, false, Option, Some, None, All, if◌then◌else◌}
-use Rattle.std.proofs.lemmas.List.Elements.{All-append, All-cons, All-head, All-nil, All-tail}
+use Rattle.std.proofs.Common.{◌≡◌, ℕ, ◌+◌, ◌-◌, ◌≤◌, ℤ, pos, ◌-ℤ◌, List, [], ◌∷◌, length, length-append, refl, subst, arith, Bool, true, false, Option, Some, None, All, if◌then◌else◌, Ok, flat_map}
+use Rattle.mt_display.proofs.Common.{All-append, All-cons, All-head, All-nil, All-tail, Place, first_out, Layout, PieceValue, begins_with_space_piece, pack, row_width, row_shrink, Setting, ◌>>=◌, ◌>>◌, pass_unless, LineValue, inline_lines, NumberValue, beside, display_lines, fit, fitted, indent, line_of_both, number_room, number_width, numbered_lines, one_line, own_lines, placed_lines, room_between, row_shift, AboveValue, first_stack_fault, line_places, next_above, or_fault_below, places_below, places_unless, reference_below, stacked_lines}
 use Rattle.std.specs.Ordering.{int_eq}
-use Rattle.std.specs.Prelude.{Ok, flat_map, ⊤}
-use Rattle.mt_box.specs.declared.place.Place.{Place}
+use Rattle.std.specs.Prelude.{⊤}
 use Rattle.mt_box.specs.declared.error.PlaceError.{PlaceError}
-use Rattle.mt_box.specs.Extents.{first_out}
-use Rattle.mt_box.specs.Layout.{Layout}
 use Rattle.mt_box.specs.Placing.{first_place_fault}
-use Rattle.mt_box.specs.Rows.{PieceValue, begins_with_space_piece, pack, row_width, row_shrink}
 use Rattle.mt_box.proofs.Room.{PlaceInRange, all_in_range, fits_room}
 use Rattle.mt_box.proofs.Still.{IsStill, PieceHas, lowered_have, pack_has, pack_to_has}
-use Rattle.mt_rules.specs.Setting.{Setting, ◌>>=◌, ◌>>◌, pass_unless}
 use Rattle.mt_display.specs.declared.error.StackError.{StackError}
-use Rattle.mt_display.specs.Lines.{LineValue, inline_lines}
-use Rattle.mt_display.specs.Displays.{NumberValue, beside, display_lines, fit, fitted, indent, line_of_both, number_room, number_width, numbered_lines, one_line, own_lines, placed_lines, room_between, row_shift}
-use Rattle.mt_display.specs.Stack.{AboveValue, first_stack_fault, line_places, next_above, or_fault_below, places_below, places_unless, reference_below, stacked_lines}
 
 abbrev pub LineHas : (Place → Type 0) → LineValue → Type 0
 LineHas P l = All P l.body.places

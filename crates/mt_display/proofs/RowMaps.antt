@@ -1,11 +1,6 @@
 -- Rows made one after another, each as wide as the line.
-use Rattle.std.proofs.Common.{◌≡◌, ℕ, ◌≤◌, ◌+◌, ◌^◌, ◌-◌, max, ℤ, List, [], ◌∷◌, ◌++◌, length, map, refl, arith, sym, ◌∙◌, ap, subst}
-use Rattle.std.proofs.lemmas.List.{length-map}
-use Rattle.std.proofs.lemmas.List.Elements.{All-cons, All-nil}
-use Rattle.std.specs.Prelude.{All}
-use Rattle.mt_box.specs.Layout.{BoxValue, Layout, layout_of}
-use Rattle.mt_box.proofs.Lists.{nil_right}
-use Rattle.mt_display.specs.DisplayLines.{boxes_level, greatest_level}
+use Rattle.std.proofs.Common.{◌≡◌, ℕ, ◌≤◌, ◌+◌, ◌^◌, ◌-◌, max, ℤ, List, [], ◌∷◌, ◌++◌, map, refl, arith, sym, ◌∙◌, ap, subst, All}
+use Rattle.mt_display.proofs.Common.{All-cons, All-nil, BoxValue, Layout, layout_of, nil_right, boxes_level, greatest_level}
 
 -- rows that are seen as g says and made as f says: these are made, and the rest is still to come
 pub record Made {A B : Type 0} (level : A → ℕ) (g : A → B) (f : B → Layout) (rows rest : List A) (made : List BoxValue) : Type 0 where
@@ -55,8 +50,3 @@ all_wide z f h (b ∷ bs) (x ∷ xs) e =
     let first : layout_of b ≡ f x = cc in
     let rest : map layout_of bs ≡ map f xs = cc in
     All-cons (λ (c : BoxValue). c.extents.width ≡ z) b bs (ap (λ (l : Layout). l.extents.width) first ∙ h x) (all_wide z f h bs xs rest)
-
-pub as_many : {A B : Type 0} (f : B → Layout) (g : A → B) (bs : List BoxValue) (xs : List A) → map layout_of bs ≡ map f (map g xs) → length xs ≤ 2 ^ 19 → length bs ≤ 2 ^ 19
-as_many f g bs xs e few =
-    let same : length bs ≡ length xs = sym (length-map bs layout_of) ∙ ap (λ (ls : List Layout). length ls) e ∙ length-map (map g xs) f ∙ length-map xs g in
-    omega (arith, same, few)

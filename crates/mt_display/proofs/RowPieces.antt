@@ -1,34 +1,12 @@
 -- The pieces of a row in a line pack to the row that they are for.
-use Rattle.std.proofs.Common.{◌≡◌, List, [], ◌∷◌, ◌++◌, ℤ, pos, ◌+ℤ◌, ◌-ℤ◌, Bool, refl, arith, ◌∙◌}
-use Rattle.std.proofs.lemmas.Int.{ints, clamps}
-use Rattle.std.specs.Int.{int_max}
-use Rattle.std.specs.Prelude.{Result, Ok, Err, IfOk}
-use Rattle.mt_scaled.specs.Number.{Within, max_dimen}
-use Rattle.mt_box.specs.declared.place.Place.{Place}
-use Rattle.mt_box.specs.Extents.{ExtentsInRange}
-use Rattle.mt_box.specs.declared.error.PackError.{PackError}
-use Rattle.mt_box.specs.Layout.{BoxValue, Layout, layout_of, all_moved}
-use Rattle.mt_box.specs.Rows.{PieceBox, PieceKern, pack}
-use Rattle.mt_box.proofs.Lists.{nil_right}
+use Rattle.std.proofs.Common.{◌≡◌, List, [], ◌∷◌, ◌++◌, ℤ, pos, ◌+ℤ◌, ◌-ℤ◌, Bool, refl, arith, ◌∙◌, Result, Ok, Err, IfOk}
+use Rattle.mt_display.proofs.Common.{ints, clamps, int_max, Within, max_dimen, Place, ExtentsInRange, PackError, BoxValue, Layout, layout_of, all_moved, PieceBox, PieceKern, pack, nil_right, EquationLayout, centred_row, equation_row, margin, number_place}
 use Rattle.mt_box.proofs.Equalities.{extents_eq, layout_eq}
-use Rattle.mt_rules.specs.DisplayRows.{EquationLayout, centred_row, equation_row, margin, number_place}
 use Rattle.mt_display.specs.declared.equations.EquationKerns.{EquationKerns}
-use Rattle.mt_display.specs.inner.EquationRows.{equation_pieces}
-use Rattle.mt_display.specs.inner.OpenRows.{strut}
+use Rattle.mt_display.specs.inner.EquationRows.{AreInRange, equation_pieces}
 
 not_negative : (x : ℤ) → Within max_dimen x → Within max_dimen (int_max x (pos 0))
 not_negative x h = record { low = omega (arith, ints, clamps, h.low, h.high); high = omega (arith, ints, clamps, h.low, h.high) }
-
-zero_in_range : Within max_dimen (pos 0)
-zero_in_range = record { low = omega (arith, ints); high = omega (arith, ints) }
-
--- ---- an empty row
-
-pub strut_packed : (z : ℤ) → pack (PieceKern z ∷ []) ≡ strut z
-strut_packed z = layout_eq (extents_eq (omega (arith, ints)) (omega (arith, ints, clamps)) (omega (arith, ints, clamps))) refl
-
-pub strut_in_range : (z : ℤ) → Within max_dimen z → ExtentsInRange (strut z).extents
-strut_in_range z h = record { width = h; height = zero_in_range; depth = zero_in_range }
 
 -- ---- a row in the middle
 
@@ -95,11 +73,11 @@ greatest_of a b c h k l = record {
   high = omega (arith, ints, clamps, h.low, h.high, k.low, k.high, l.low, l.high);
 }
 
-pub equation_in_range : (z x : ℤ) (left : Bool) (e : EquationLayout) → Within max_dimen z → ExtentsInRange e.first.extents → ExtentsInRange e.second.extents → ExtentsInRange e.number.extents → ExtentsInRange (equation_row z x left e).extents
-equation_in_range z x left e w f s n = record {
+pub equation_in_range : (z x : ℤ) (left : Bool) (e : EquationLayout) → Within max_dimen z → AreInRange e → ExtentsInRange (equation_row z x left e).extents
+equation_in_range z x left e w h = record {
   width = w;
-  height = greatest_of e.first.extents.height e.second.extents.height e.number.extents.height f.height s.height n.height;
-  depth = greatest_of e.first.extents.depth e.second.extents.depth e.number.extents.depth f.depth s.depth n.depth;
+  height = greatest_of e.first.extents.height e.second.extents.height e.number.extents.height h.first.height h.second.height h.number.height;
+  depth = greatest_of e.first.extents.depth e.second.extents.depth e.number.extents.depth h.first.depth h.second.depth h.number.depth;
 }
 
 -- ---- a box of the same layout

@@ -1,26 +1,15 @@
 -- Lines put on a page, one after another.
-use Rattle.std.proofs.Common.{◌≡◌, ℕ, ◌<◌, ◌≤◌, ◌+◌, ◌-◌, ◌*◌, ◌^◌, min, ℤ, ◌+ℤ◌, List, [], ◌∷◌, ◌++◌, length, take, drop, length-append, length-drop, append_assoc, append-nil, refl, sym, ◌∙◌, ap, subst, arith, w64, to_z, of_z}
-use Rattle.std.proofs.lemmas.Int.{ints}
-use Rattle.std.proofs.lemmas.List.{map-append, length-map, length-take-le, drop-drop, drop_all, take-append-drop}
-use Rattle.std.proofs.lemmas.List.Elements.{All-head, All-tail}
-use Rattle.std.specs.Prelude.{flat_map, IfSome, All, Option, Some, None, Result, Ok, Err}
-use Rattle.mt_scaled.specs.Number.{Within, max_dimen}
-use Rattle.mt_box.specs.declared.extents.Extents.{Extents}
-use Rattle.mt_box.specs.declared.place.Place.{Place}
+use Rattle.std.proofs.Common.{◌≡◌, ℕ, ◌≤◌, ◌+◌, ◌-◌, ◌*◌, ◌^◌, min, ℤ, ◌+ℤ◌, List, [], ◌∷◌, ◌++◌, length, take, drop, length-append, length-drop, append_assoc, append-nil, refl, sym, ◌∙◌, ap, subst, arith, w64, to_z, of_z, flat_map, IfSome, All, Option, Some, None, Result, Ok, Err}
+use Rattle.mt_display.proofs.Common.{ints, map-append, length-map, length-take-le, drop-drop, drop_all, take-append-drop, All-head, All-tail, Within, max_dimen, Place, PieceValue, LineStack, IsStack, line_box, line_boxes, line_shifts, LineValue, AboveValue, StackAnswers, next_above, reference_below, or_fault_below, line_places, places_below, stacked_lines, stacked_after, places_unless}
 use Rattle.mt_box.specs.declared.error.PlaceError.{PlaceError}
-use Rattle.mt_box.specs.Placing.{first_place_fault, Puts}
-use Rattle.mt_box.specs.Rows.{PieceValue}
+use Rattle.mt_box.specs.Placing.{first_place_fault}
 use Rattle.mt_pieces.specs.declared.runs.PieceAt.{PieceAt}
 use Rattle.mt_pieces.specs.Runs.{IsAt}
 use Rattle.mt_display.specs.declared.error.StackError.{StackError}
 use Rattle.mt_display.specs.declared.error.StackError.TheVariants.{OutOfRange, TooMany, OutOfMemory}
-use Rattle.mt_display.specs.declared.line_stack.LineStack.{LineStack}
 use Rattle.mt_display.specs.declared.stack.NextLine.{NextLine}
 use Rattle.mt_display.specs.declared.stack.LineAbove.{LineAbove}
 use Rattle.mt_display.specs.inner.NextLines.{IsFaultOf, IsNear, IsNearAbove, AddsLine, above_value}
-use Rattle.mt_display.specs.LineStack.{IsStack, line_box, line_boxes, line_shifts}
-use Rattle.mt_display.specs.Lines.{LineValue}
-use Rattle.mt_display.specs.Stack.{AboveValue, StackAnswers, next_above, reference_below, or_fault_below, line_places, places_below, top_below, stacked_lines, stacked_after, places_unless}
 
 -- ---- the definition, a line at a time
 
@@ -68,22 +57,6 @@ pub record Walking (room : ℕ) (s : LineStack) (rest : List ℤ) (page : List P
   pub few : length s.shifts.items ≤ 2 ^ 21
   pub shifts : All (λ (x : ℤ). Within (2 ^ 40) x) rest
   pub walked : (lines : List LineValue) → IsStack lines [] s → Walked room lines rest page place here
-
-pub walking_start : (room : ℕ) (s : LineStack) (rest : List ℤ) (page : List Place) (at : PieceAt) → page ≡ [] → rest ≡ s.shifts.items → length s.shifts.items ≤ 2 ^ 21 → All (λ (x : ℤ). Within (2 ^ 40) x) s.shifts.items
-    → IsAt at s.pieces → at.piece ≡ min 0 (length s.pieces) → Walking room s rest page at record { line = 0; above = None }
-walking_start room s rest page at e f few shifts h n = rw (e, f) (record {
-  at = h;
-  near = tt;
-  fits = omega arith;
-  count = omega arith;
-  few = few;
-  shifts = shifts;
-  walked = λ lines k. record {
-    piece = omega (arith, n);
-    rest = k.shifts;
-    whole = same_after lines {a = []} {b = []} {i = 0} {j = 0} {r = room} {s = room - 0} {x = None} {y = None} refl refl (omega arith) refl;
-  };
-})
 
 -- the line of the next shift
 record NextIs (lines : List LineValue) (n : ℕ) (x : ℤ) (xs : List ℤ) : Type 0 where
@@ -192,22 +165,7 @@ walking_err room s rest rest' shift page page' at here fault lines h e k is =
 pub shift_here : (room : ℕ) (s : LineStack) (rest rest' : List ℤ) (shift : ℤ) (page : List Place) (at : PieceAt) (here : NextLine) → Walking room s rest page at here → rest ≡ shift ∷ rest' → Within (2 ^ 40) shift
 shift_here room s rest rest' shift page at here h e = All-head (λ (x : ℤ). Within (2 ^ 40) x) shift rest' (subst (All (λ (x : ℤ). Within (2 ^ 40) x)) e h.shifts)
 
--- there is a line more, so fewer than all are done
-pub fewer : (room : ℕ) (s : LineStack) (rest rest' : List ℤ) (shift : ℤ) (page : List Place) (at : PieceAt) (here : NextLine) → Walking room s rest page at here → rest ≡ shift ∷ rest' → here.line < 2 ^ 21
-fewer room s rest rest' shift page at here h e = omega (arith, h.count, h.few, ap length e)
-
 -- ---- one line
-
--- the places of a line are put after the others
-pub added_ok : {u : Unit {0}} (room : ℕ) (here next : NextLine) (before now : List Place) (l : LineValue) (base : ℤ) (x : Extents) → Puts room before (line_places base l) (Ok u) now
-    → base ≡ top_below (above_value here.above) x.height +ℤ x.height → x ≡ l.body.extents
-    → next.line ≡ here.line + 1 → above_value next.above ≡ Some (record { bottom = base +ℤ x.depth; depth = x.depth }) → IsNear next → AddsLine room here before l (Ok next) now
-added_ok room here next before now l base x p b e n above near =
-    let b' : base ≡ reference_below (above_value here.above) l = b ∙ ap (λ (y : Extents). top_below (above_value here.above) y.height +ℤ y.height) e in
-    let step : (let y : AboveValue = record { bottom = base +ℤ x.depth; depth = x.depth } in y) ≡ next_above (above_value here.above) l =
-    ap (λ (y : ℤ). (let r : AboveValue = record { bottom = y +ℤ x.depth; depth = x.depth } in r)) b'
-    ∙ ap (λ (y : Extents). (let r : AboveValue = record { bottom = reference_below (above_value here.above) l +ℤ y.depth; depth = y.depth } in r)) e in
-    (p.0 ∙ ap (λ (y : ℤ). before ++ line_places y l) b', p.1, ap (λ (y : ℤ). first_place_fault (room - length before) (line_places y l)) (sym b') ∙ p.2, n, above ∙ ap (λ (y : AboveValue). Some y) step, near)
 
 -- how far out the bottom above is
 pub bottom_above : (line : ℕ) (above : Option LineAbove) → IsNearAbove line above → IfSome above (λ (a : LineAbove). Within (2 ^ 33 * line) a.bottom.sp)
@@ -216,6 +174,3 @@ bottom_above line (Some a) h = h.0
 
 pub reference_near : (line : ℕ) (r t h : ℤ) → r ≡ t +ℤ to_z w64 (of_z w64 h) → Within (2 ^ 33 * line + 2 ^ 32) t → Within max_dimen h → Within (2 ^ 33 * line + (2 ^ 32 + 2 ^ 31)) r
 reference_near line r t h e a b = record { low = omega (arith, ints, e, a.low, a.high, b.low, b.high); high = omega (arith, ints, e, a.low, a.high, b.low, b.high) }
-
-pub top_near : (n : ℕ) (r e g : ℤ) → r ≡ e +ℤ g → Within n e → Within (2 ^ 32) g → Within (n + 2 ^ 32) r
-top_near n r e g is a b = record { low = omega (arith, ints, is, a.low, a.high, b.low, b.high); high = omega (arith, ints, is, a.low, a.high, b.low, b.high) }

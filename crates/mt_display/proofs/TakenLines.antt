@@ -1,17 +1,7 @@
 -- Lines put on a stack one after another, and taken off it.
-use Rattle.std.proofs.Common.{Bool, true, false, true≢false, ◌==◌, ◌≡◌, ℕ, ◌≤◌, ◌<◌, ◌+◌, ◌^◌, ℤ, List, [], ◌∷◌, ◌++◌, length, take, get_or, refl, sym, ◌∙◌, ap, arith}
-use Rattle.std.proofs.lemmas.Bool.Decides.{Decides-eqb}
-use Rattle.std.proofs.lemmas.List.{take_more}
-use Rattle.std.proofs.lemmas.List.Elements.{All-cons, All-head, All-nil, All-tail}
-use Rattle.std.specs.Prelude.{All, Err, ⊤}
-use Rattle.mt_scaled.specs.Number.{Within}
-use Rattle.mt_box.specs.declared.error.PackError.{PackError}
-use Rattle.mt_box.specs.declared.error.PackError.TheVariants.{Overflow as PackOverflow, OutOfMemory as NoPackMemory}
-use Rattle.mt_rules.specs.Setting.{Setting}
+use Rattle.std.proofs.Common.{Bool, true, false, true≢false, ◌==◌, ◌≡◌, ℕ, ◌≤◌, ◌<◌, ◌+◌, ◌^◌, ℤ, List, [], ◌∷◌, ◌++◌, length, take, get_or, refl, sym, ◌∙◌, ap, arith, All}
+use Rattle.mt_display.proofs.Common.{Decides-eqb, take_more, All-cons, All-head, All-map, All-nil, All-tail, Within, Setting, LineStack, IsStack, MoreLines, line_shifts, LineValue, LinesFit, line_value, line_values}
 use Rattle.mt_display.specs.declared.line.Line.{Line as LineFields}
-use Rattle.mt_display.specs.declared.line_stack.LineStack.{LineStack}
-use Rattle.mt_display.specs.LineStack.{IsStack, MoreLines, PutsLines, line_shifts}
-use Rattle.mt_display.specs.Lines.{LineValue, LinesAnswer, LinesFit, line_value, line_values}
 
 pub lines_length : (ls : List LineFields) → length (line_values ls) ≡ length ls
 lines_length [] = refl
@@ -27,11 +17,14 @@ pub one_more_put : (ls : List LineFields) (n : ℕ) (l : LineFields) → n < len
 one_more_put ls n l h e =
     ap line_values (take_more ls n l h ∙ ap (λ x. take n ls ++ x ∷ []) (sym e)) ∙ values_more (take n ls) (l ∷ [])
 
+pub small_values : (ls : List LineFields) → All (λ (l : LineFields). Within (2 ^ 40) l.shift) ls → All (λ (l : LineValue). Within (2 ^ 40) l.shift) (line_values ls)
+small_values [] small = All-nil (λ (l : LineValue). Within (2 ^ 40) l.shift)
+small_values (l ∷ ls) small =
+    let P = λ (k : LineFields). Within (2 ^ 40) k.shift in
+    All-cons (λ (k : LineValue). Within (2 ^ 40) k.shift) (line_value l) (line_values ls) (All-head P l ls small) (small_values ls (All-tail P l ls small))
+
 pub small_shifts : (ls : List LineFields) → All (λ (l : LineFields). Within (2 ^ 40) l.shift) ls → All (λ (x : ℤ). Within (2 ^ 40) x) (line_shifts (line_values ls))
-small_shifts [] h = All-nil (λ (x : ℤ). Within (2 ^ 40) x)
-small_shifts (l ∷ ls) h =
-    All-cons (λ (x : ℤ). Within (2 ^ 40) x) l.shift (line_shifts (line_values ls)) (All-head (λ (k : LineFields). Within (2 ^ 40) k.shift) l ls h)
-    (small_shifts ls (All-tail (λ (k : LineFields). Within (2 ^ 40) k.shift) l ls h))
+small_shifts ls small = All-map (λ (x : ℤ). Within (2 ^ 40) x) (λ (l : LineValue). l.shift) (line_values ls) (small_values ls small)
 
 -- ---- taken
 
@@ -66,10 +59,6 @@ two_taken (l ∷ m ∷ []) old new first last is some few h k one t = rw (t [] l
 two_taken (l ∷ m ∷ n ∷ ls) old new first last is some few h k one t = absurd (omega (arith, few))
 
 -- ---- the answer
-
-pub answer_err : (e : PackError) (lines : List LineValue) (s : LineStack) (setting : Setting (List LineValue)) → PutsLines {U = ⊤} (Err e) lines s setting → LinesAnswer (Err e) setting
-answer_err (PackOverflow value) lines s setting h = h
-answer_err NoPackMemory lines s setting h = tt
 
 shifts_of : (made : List LineFields) (added : List LineValue) → line_values made ≡ added → All (λ (l : LineValue). Within (2 ^ 40) l.shift) added → All (λ (l : LineFields). Within (2 ^ 40) l.shift) made
 shifts_of [] added e h = All-nil (λ (l : LineFields). Within (2 ^ 40) l.shift)

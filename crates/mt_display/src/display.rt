@@ -1,22 +1,20 @@
 //! Displays and their numbers (The TeXbook, chapter 19; tex.web part 48).
 ghost use Rattle.std.specs.Prelude.{◌≡◌, ◌≤◌, ◌≤ℤ◌, ◌^◌, ◌+◌, ◌-◌, ◌++◌, [], pos, max, length, All, List, Ok, IfOk, IfSome, OnOk};
 ghost use Rattle.std.specs.Option.{option_map};
-ghost use Rattle.mt_scaled.specs.Number.{Within, max_dimen};
-ghost use Rattle.mt_box.specs.Layout.{layout_of};
+ghost use Rattle.mt_scaled.specs.Number.{max_dimen};
 ghost use Rattle.mt_box.specs.Rows.{AllMeasurable, AllModest, piece_values, row_level};
 ghost use Rattle.mt_family.specs.Sets.{sy};
 ghost use Rattle.mt_family.specs.declared.size.Size.TheVariants.{Text};
 ghost use Rattle.mt_display.specs.declared.line.Line.{Line as LineFields};
 ghost use Rattle.mt_display.specs.Lines.{LinesAnswer, LinesFit, LineValue, line_values};
 ghost use Rattle.mt_display.specs.Displays.{NumberFits, number_level, number_value, display_lines};
-ghost use Rattle.mt_display.specs.Displays.{one_line as line_at};
-ghost use Rattle.mt_display.specs.LineStack.{IsStack, PutsLines, is_left};
+ghost use Rattle.mt_display.specs.LineStack.{IsStack, PutsLines};
 
 use crate::line_stack::{LineStack, NumberSide};
-use crate::{Line, Lines, Numbered};
-use mt_box::{PackError, Packed, Row};
+use crate::{Lines, Numbered};
+use mt_box::{PackError, Row};
 use mt_family::FontSet;
-use mt_scaled::{Items, Length};
+use mt_scaled::Items;
 use std::alloc::{AllocError, Global};
 
 /// The lines of a display, and of its number where it has one, in a line of this width in scaled
@@ -91,18 +89,8 @@ fn put_lines(
         Some(number) => {
             let end = stack.pieces.len();
             stack.pieces.put_row(number.row)?;
-            stack.put_numbered(fonts, 0, end, side_of(number.left), line)
+            stack.put_numbered(fonts, 0, end, NumberSide::of(number.left), line)
         }
-    }
-}
-
-fn side_of(left: bool) -> NumberSide
-    ensures { is_left result ≡ left }
-{
-    if left {
-        NumberSide::Left
-    } else {
-        NumberSide::Right
     }
 }
 
@@ -119,16 +107,4 @@ fn take_lines(alloc: Global, stack: LineStack) -> Result<Lines, AllocError>
     }
     let first = stack.take_line(alloc)?;
     Ok(Items::from_vec(vec![in alloc; first, last]?))
-}
-
-// A box on a line of its own.
-pub(crate) fn one_line(alloc: Global, shift: Length, body: Packed) -> Result<Lines, PackError>
-    requires { Within (2 ^ 33) shift.sp }
-    ensures is { LinesAnswer result (Ok (line_at shift.sp (layout_of body))) }
-    ensures one { IfOk result (λ lines. length lines ≡ 1) }
-    ensures fits { IfOk result (LinesFit body.level) }
-{
-    let shift = shift.sp;
-    let line = Line { shift, body };
-    Ok(Items::from_vec(vec![in alloc; line].map_err(AllocError::from)?))
 }

@@ -11,10 +11,10 @@ ghost use Rattle.mt_display.specs.DisplayLines.{boxes_level, equation_layout, eq
 ghost use Rattle.mt_display.specs.inner.EquationRows.{AreInRange, AreSmallKerns, AreSmallSides, equation_pieces, joined, side_widths};
 
 use crate::Lines;
-use crate::open_rows::{line_of_rows, pack_in_range};
-use crate::rows::{margin, push_box};
+use crate::open_rows::{line_of_rows, pack_in_range, push_to};
+use crate::rows::margin;
 use crate::slot::width_of;
-use mt_box::{Extents, PackError, Packed, Piece, Row};
+use mt_box::{PackError, Packed, Piece, Row};
 use mt_rules::PackedList;
 use mt_scaled::{Items, Length};
 use std::alloc::{AllocError, Global};
@@ -185,7 +185,7 @@ fn numbered_rows(
     let mut made = Vec::with_capacity(alloc, rows.len())?;
     for row in rows.into_vec() {
         let row = numbered(alloc, row, place)?;
-        push_box(&mut made, row)?;
+        push_to(&mut made, row)?;
     }
     Ok(Items::from_vec(made))
 }
@@ -200,31 +200,9 @@ fn numbered(alloc: Global, row: EquationRow, place: EquationLine) -> Result<Pack
     ensures level { IfOk result (λ b. b.level ≡ equation_level row + 1) }
     ensures memory { IfErr result (λ e. e ≡ PackMemory) }
 {
-    let extents = extents_of(&row);
-    let kerns = kerns_of(extents, place);
+    let kerns = kerns_of(&row, place);
     let pieces = numbered_pieces(alloc, row, kerns)?;
     pack_in_range(alloc, pieces)
-}
-
-// How far the boxes of an equation reach.
-#[derive(Clone, Copy)]
-struct EquationExtents {
-    first: Extents,
-    second: Extents,
-    number: Extents,
-}
-
-fn extents_of(row: &EquationRow) -> EquationExtents
-    ensures first { result.first ≡ row.now.first.extents }
-    ensures second { result.second ≡ row.now.second.extents }
-    ensures number { result.number ≡ row.now.number.extents }
-    ensures in_range { AreInRange result }
-{
-    EquationExtents {
-        first: row.first.extents(),
-        second: row.second.extents(),
-        number: row.number.extents(),
-    }
 }
 
 // What is before an equation, between it and its number, and after the number.
@@ -236,28 +214,23 @@ struct EquationKerns {
 }
 
 #[tactic(auto, using(std::proofs::lemmas::Int::ints))]
-fn kerns_of(extents: EquationExtents, place: EquationLine) -> EquationKerns
-    requires extents { AreInRange extents }
+fn kerns_of(row: &EquationRow, place: EquationLine) -> EquationKerns
     requires line { Within max_dimen place.line.sp }
     requires axis { Within (2 ^ 35) place.axis.sp }
-    ensures before { result.before.sp ≡ place.axis.sp -ℤ extents.first.width }
-    ensures between { result.between.sp ≡ place_of_number place.line.sp place.left extents.number.width
-        -ℤ (place.axis.sp +ℤ extents.second.width) }
+    ensures before { result.before.sp ≡ place.axis.sp -ℤ row.now.first.extents.width }
+    ensures between { result.between.sp ≡ place_of_number place.line.sp place.left row.now.number.extents.width
+        -ℤ (place.axis.sp +ℤ row.now.second.extents.width) }
     ensures after { result.after.sp ≡ place.line.sp
-        -ℤ (place_of_number place.line.sp place.left extents.number.width +ℤ extents.number.width) }
+        -ℤ (place_of_number place.line.sp place.left row.now.number.extents.width +ℤ row.now.number.extents.width) }
     ensures small { AreSmallKerns result }
+    ensures in_range { AreInRange (equation_layout row.now) }
 {
-    let number = Length {
-        sp: extents.number.width,
-    };
+    let first = width_of(&row.first);
+    let number = width_of(&row.number);
     let x = number_place(number, place);
-    let end = place.axis.plus(Length {
-        sp: extents.second.width,
-    });
+    let end = place.axis.plus(width_of(&row.second));
     EquationKerns {
-        before: place.axis.minus(Length {
-            sp: extents.first.width,
-        }),
+        before: place.axis.minus(first),
         between: x.minus(end),
         after: place.line.minus(x.plus(number)),
     }

@@ -1,12 +1,14 @@
 //! Formulas in the text.
-ghost use Rattle.std.specs.Prelude.{◌≡◌, ◌≤◌, ◌^◌, All, IfOk, length};
+ghost use Rattle.std.specs.Prelude.{◌≡◌, ◌≤◌, ◌^◌, All, IfOk, Ok, length, pos};
 ghost use Rattle.mt_scaled.specs.Number.{Within};
+ghost use Rattle.mt_box.specs.Layout.{layout_of};
 ghost use Rattle.mt_box.specs.Rows.{AllModest, piece_values, row_level};
 ghost use Rattle.mt_display.specs.declared.line.Line.{Line as LineFields};
-ghost use Rattle.mt_display.specs.Lines.{LinesAnswer, inline_lines};
+ghost use Rattle.mt_display.specs.Lines.{LinesAnswer, LinesFit, inline_lines};
+ghost use Rattle.mt_display.specs.Displays.{one_line};
 
 use crate::{Line, Lines};
-use mt_box::{PackError, Row, hpack};
+use mt_box::{PackError, Packed, Row, hpack};
 use mt_scaled::Items;
 use std::alloc::{AllocError, Global};
 
@@ -26,9 +28,17 @@ pub fn place_inline(alloc: Global, row: Row) -> Result<Lines, PackError>
     ensures shifts { IfOk result (All (λ (l : LineFields). Within (2 ^ 40) l.shift)) }
     ensures level { IfOk result (All (λ (l : LineFields). l.body.level ≡ row_level row)) }
 {
-    let line = Line {
-        shift: 0,
-        body: hpack(alloc, row)?,
-    };
+    let body = hpack(alloc, row)?;
+    line_at_left_end(alloc, body)
+}
+
+// A box as a line, at the left end of the page.
+pub(crate) fn line_at_left_end(alloc: Global, body: Packed) -> Result<Lines, PackError>
+    ensures is { LinesAnswer result (Ok (one_line (pos 0) (layout_of body))) }
+    ensures one { IfOk result (λ lines. length lines ≡ 1) }
+    ensures fits { IfOk result (LinesFit body.level) }
+    ensures level { IfOk result (All (λ (l : LineFields). l.body.level ≡ body.level)) }
+{
+    let line = Line { shift: 0, body };
     Ok(Items::from_vec(vec![in alloc; line].map_err(AllocError::from)?))
 }

@@ -40,6 +40,19 @@ pub enum NumberSide {
     Right,
 }
 
+impl NumberSide {
+    /// The left end for `\leqno`, where `left` is true, and the right end for `\eqno`.
+    pub fn of(left: bool) -> NumberSide
+        ensures { is_left result ≡ left }
+    {
+        if left {
+            NumberSide::Left
+        } else {
+            NumberSide::Right
+        }
+    }
+}
+
 impl LineStack {
     /// No line.
     pub fn new(alloc: Global) -> LineStack
@@ -103,9 +116,9 @@ impl LineStack {
         Ok(())
     }
 
-    /// The same for a display with a number: the pieces from number `first` up to `end` are the row
-    /// of the display, and those from `end` on are that of the number. They become one line or two,
-    /// as by [`crate::place_display`].
+    /// The pieces from number `first` on, which are of no line yet, are the rows of a display and of
+    /// its number: that of the display goes up to `end`, and that of the number is from `end` on. They
+    /// become one line or two, as by [`crate::place_display`].
     ///
     /// The width of the line is from 1 to 2^30 - 1 scaled points. Refused with `Overflow` of the
     /// first of width, height and depth that is out of range: of the display as it is set, then of

@@ -17,7 +17,7 @@ ghost use Rattle.mt_display.specs.DisplayLines.{at_left_end, boxes_level};
 ghost use Rattle.mt_display.specs.inner.OpenRows.{depth_or_0 as depth_of_last, depth_value, gap_before as gap_of, row_entries, strut as strut_of_width};
 
 use crate::Lines;
-use crate::display::one_line;
+use crate::inline::line_at_left_end;
 use mt_box::{Column, Entry, Extents, PackError, Packed, Piece, Row, hpack, vpack};
 use mt_rules::{PackedList, open_gap};
 use mt_scaled::{Length, in_range};
@@ -54,7 +54,7 @@ pub(crate) fn line_of_rows(
     ensures fits { IfOk result (LinesFit (boxes_level rows + 1)) }
 {
     let body = box_of_rows(alloc, rows, line)?;
-    one_line(alloc, Length { sp: 0 }, body)
+    line_at_left_end(alloc, body)
 }
 
 // The box of rows that are as wide as the line.
@@ -97,7 +97,11 @@ fn column_of_rows(alloc: Global, rows: PackedList, line: Length) -> Result<RowCo
 {
     let strut = strut(alloc, line)?;
     let mut entries = Vec::with_capacity(alloc, 2 * rows.len() + 1)?;
-    push_unshifted(&mut entries, strut)?;
+    let strut = Entry::Boxed {
+        shift: 0,
+        body: strut,
+    };
+    push_to(&mut entries, strut)?;
     let mut reach = RowsSoFar {
         total: Length { sp: 0 },
         depth: None,
@@ -174,13 +178,17 @@ fn push_row(entries: &mut Vec<Entry>, gap: Length, row: Packed) -> Result<(), Al
         ≡ entries.old.items ++ Kern gap.sp ∷ Boxed (pos 0) row ∷ []) }
 {
     entries.push(Entry::Kern(gap.sp))?;
-    push_unshifted(entries, row)
+    entries.push(Entry::Boxed {
+        shift: 0,
+        body: row,
+    })?;
+    Ok(())
 }
 
-fn push_unshifted(entries: &mut Vec<Entry>, body: Packed) -> Result<(), AllocError>
-    ensures { OnOk result (entries.new.items ≡ entries.old.items ++ Boxed (pos 0) body ∷ []) }
+pub(crate) fn push_to<T: Drop>(items: &mut Vec<T>, item: T) -> Result<(), AllocError>
+    ensures { OnOk result (items.new.items ≡ items.old.items ++ item ∷ []) }
 {
-    entries.push(Entry::Boxed { shift: 0, body })?;
+    items.push(item)?;
     Ok(())
 }
 

@@ -10,7 +10,7 @@ ghost use Rattle.mt_display.specs.Lines.{LinesAnswer, LinesFit};
 ghost use Rattle.mt_display.specs.DisplayLines.{boxes_level, row_lines};
 
 use crate::Lines;
-use crate::open_rows::{line_of_rows, pack_in_range};
+use crate::open_rows::{line_of_rows, pack_in_range, push_to};
 use mt_box::{Extents, PackError, Packed, Piece, Row};
 use mt_rules::PackedList;
 use mt_scaled::{Items, Length};
@@ -57,16 +57,9 @@ fn centred_rows(alloc: Global, rows: PackedList, line: Length) -> Result<PackedL
     let mut made = Vec::with_capacity(alloc, rows.len())?;
     for row in rows.into_vec() {
         let row = centred(alloc, row, line)?;
-        push_box(&mut made, row)?;
+        push_to(&mut made, row)?;
     }
     Ok(Items::from_vec(made))
-}
-
-pub(crate) fn push_box(boxes: &mut Vec<Packed>, body: Packed) -> Result<(), AllocError>
-    ensures { OnOk result (boxes.new.items ≡ boxes.old.items ++ body ∷ []) }
-{
-    boxes.push(body)?;
-    Ok(())
 }
 
 // A row in the middle of the line.

@@ -1,6 +1,7 @@
 //! Where a display is in its line, and what that leaves (tex.web §1202 to §1204).
 ghost use Rattle.std.specs.Prelude.{◌≡◌, ◌^◌, ◌+◌, ◌-ℤ◌, ℕ};
-ghost use Rattle.mt_scaled.specs.Number.{Within};
+ghost use Rattle.mt_scaled.specs.Number.{Within, max_dimen};
+ghost use Rattle.mt_box.specs.Extents.{ExtentsInRange};
 ghost use Rattle.mt_display.specs.Displays.{indent as indent_of, room_between as room_of};
 ghost use Rattle.mt_display.specs.inner.Fits.{IsSmallSlot};
 
@@ -59,7 +60,8 @@ pub(crate) fn right_end(z: Length, number: Length) -> Length
 
 pub(crate) fn width_of(body: &Packed) -> Length
     ensures is { result.sp ≡ body.now.extents.width }
-    ensures in_range { Within (2 ^ 30) result.sp }
+    ensures small { Within max_dimen result.sp }
+    ensures in_range { ExtentsInRange body.now.extents }
 {
     Length {
         sp: body.extents().width,

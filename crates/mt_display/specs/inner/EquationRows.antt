@@ -1,12 +1,11 @@
 -- The widths of both sides of equations so far (`side_widths`), and the pieces of one equation (`equation_pieces`).
 use Rattle.std.specs.Prelude.{◌^◌, ℤ, pos, List, [], ◌∷◌, Option, Some, None}
 use Rattle.std.specs.Int.{int_max}
-use Rattle.mt_scaled.specs.Number.{Within}
+use Rattle.mt_scaled.specs.Number.{Within, max_dimen}
 use Rattle.mt_box.specs.Extents.{ExtentsInRange}
 use Rattle.mt_box.specs.Rows.{PieceValue, PieceBox, PieceKern}
 use Rattle.mt_rules.specs.DisplayRows.{EquationLayout}
 use Rattle.mt_display.specs.declared.equations.SideWidths.{SideWidths}
-use Rattle.mt_display.specs.declared.equations.EquationExtents.{EquationExtents}
 use Rattle.mt_display.specs.declared.equations.EquationKerns.{EquationKerns}
 
 -- the widths of the columns, of which there are none before the first row
@@ -21,13 +20,13 @@ joined (v ∷ vs) [] = v ∷ vs
 joined (v ∷ vs) (w ∷ ws) = int_max w v ∷ joined vs ws
 
 pub record AreSmallSides (w : SideWidths) : Type 0 where
-  pub first : Within (2 ^ 30) w.first.sp
-  pub second : Within (2 ^ 30) w.second.sp
+  pub first : Within max_dimen w.first.sp
+  pub second : Within max_dimen w.second.sp
 
-pub record AreInRange (e : EquationExtents) : Type 0 where
-  pub first : ExtentsInRange e.first
-  pub second : ExtentsInRange e.second
-  pub number : ExtentsInRange e.number
+pub record AreInRange (e : EquationLayout) : Type 0 where
+  pub first : ExtentsInRange e.first.extents
+  pub second : ExtentsInRange e.second.extents
+  pub number : ExtentsInRange e.number.extents
 
 pub record AreSmallKerns (k : EquationKerns) : Type 0 where
   pub before : Within (2 ^ 40) k.before.sp

@@ -36,10 +36,14 @@ pub record DisplaySet (before row : List PieceValue) (display : Layout) (room li
   pub pieces : now ≡ before ++ PieceBox (pos 0) display ∷ []
   pub slot : IsSlot line room row display s
 
+-- a slot of which this holds, or the fault of setting; memory may run out in place of both
+abbrev pub SetsSlot : {A : Type 0} → (Slot → Type 0) → Setting A → Result Slot PackError → Type 0
+SetsSlot Is setting (Ok slot) = Is slot
+SetsSlot Is setting (Err (PackOverflow value)) = setting ≡ Err (Overflow value)
+SetsSlot Is setting (Err NoPackMemory) = ⊤
+
 abbrev pub SetsDisplay : List PieceValue → List PieceValue → Fit → ℤ → Result Slot PackError → List PieceValue → Type 0
-SetsDisplay before row f z (Ok slot) now = DisplaySet before row (fitted row f.target) f.e z slot now
-SetsDisplay before row f z (Err (PackOverflow value)) now = make_box (fitted row f.target) ≡ Err (Overflow value)
-SetsDisplay before row f z (Err NoPackMemory) now = ⊤
+SetsDisplay before row f z result now = SetsSlot (λ slot. DisplaySet before row (fitted row f.target) f.e z slot now) (make_box (fitted row f.target)) result
 
 -- the boxes of display and number, the first of which is tested first
 abbrev pub both_boxes : Layout → List PieceValue → Setting (Layout × Layout)
@@ -55,9 +59,7 @@ pub record BothSet (before row number : List PieceValue) (body : Layout) (room l
   pub slot : IsSlot line room row body s
 
 abbrev pub SetsBoth : List PieceValue → List PieceValue → List PieceValue → Fit → ℤ → Result Slot PackError → List PieceValue → Type 0
-SetsBoth before row number f z (Ok slot) now = BothSet before row number (fitted row f.target) f.e z slot now
-SetsBoth before row number f z (Err (PackOverflow value)) now = both_boxes (fitted row f.target) number ≡ Err (Overflow value)
-SetsBoth before row number f z (Err NoPackMemory) now = ⊤
+SetsBoth before row number f z result now = SetsSlot (λ slot. BothSet before row number (fitted row f.target) f.e z slot now) (both_boxes (fitted row f.target) number) result
 
 -- two boxes in one line, with so much between them
 abbrev pub lines_beside : ℤ → ℤ → Layout → Layout → Setting (List LineValue)

@@ -1,8 +1,7 @@
 use Rattle.std.proofs.Common.{◌≡◌, ◌++◌, ◌∷◌, ◌∙◌, [], List, ap, arith, drop, length, refl, sym}
-use Rattle.std.proofs.lemmas.List.{drop_at}
+use Rattle.mt_display.proofs.Common.{drop_at, PieceValue, piece_values}
 use Rattle.mt_box.proofs.Packing.{measurable}
 use Rattle.mt_box.specs.declared.piece.Piece.{Piece}
-use Rattle.mt_box.specs.Rows.{PieceValue, piece_values}
 use Rattle.mt_display.proofs.Displaying.{number_here}
 use Rattle.mt_display.proofs.display.put_lines.Goals as goal
 

@@ -1,5 +1,5 @@
 use Rattle.std.proofs.Common.{◌∙◌, ap}
-use Rattle.mt_display.specs.Lines.{line_values}
+use Rattle.mt_display.proofs.Common.{line_values}
 use Rattle.mt_display.proofs.TakenLines.{none_left, one_taken, some_left, two_taken}
 use Rattle.mt_display.proofs.display.take_lines.Goals as goal
 

@@ -1,5 +1,5 @@
 use Rattle.std.proofs.Common.{◌≡◌, ◌∙◌, refl, ap, take, drop}
-use Rattle.mt_display.specs.Displays.{Fit}
+use Rattle.mt_display.proofs.Common.{Fit}
 use Rattle.mt_display.specs.inner.Fits.{fit_value, target_value}
 use Rattle.mt_display.specs.inner.OnStack.{fit_of_row}
 use Rattle.mt_display.proofs.Displaying.{display_set, same_fit}

@@ -1,7 +1,5 @@
 use Rattle.std.proofs.Common.{◌∙◌}
-use Rattle.mt_box.proofs.Lists.{no_more}
-use Rattle.mt_rules.specs.DisplayRows.{equation_row}
-use Rattle.mt_display.specs.DisplayLines.{equation_layout, equation_level}
+use Rattle.mt_display.proofs.Common.{no_more, equation_row, equation_layout, equation_level}
 use Rattle.mt_display.proofs.RowMaps.{made_start, made_step, made_values, made_level, next_level}
 use Rattle.mt_display.proofs.equations.numbered_rows.Goals as goal
 
@@ -19,7 +17,7 @@ pub loop-row-preserved : goal.loop-row-preserved
 loop-row-preserved c = (
   tt,
   tt,
-  made_step equation_level equation_layout (equation_row c.args.place.line.sp c.args.place.axis.sp c.args.place.left) c.args.rows _ _ c.in-Some.row _ _ c.in_ok-row.row c.loop-row.invariant.2 c.in-Some.ensures.steps.0 c.in_ok-row.ensures.is c.in_ok-row.ensures.level c.in_ok-push_box.ensures,
+  made_step equation_level equation_layout (equation_row c.args.place.line.sp c.args.place.axis.sp c.args.place.left) c.args.rows _ _ c.in-Some.row _ _ c.in_ok-row.row c.loop-row.invariant.2 c.in-Some.ensures.steps.0 c.in_ok-row.ensures.is c.in_ok-row.ensures.level c.in_ok-push_to.ensures,
 )
 
 pub returns-clause-is : goal.returns-clause-is

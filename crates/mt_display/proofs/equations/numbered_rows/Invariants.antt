@@ -1,6 +1,4 @@
-use Rattle.std.specs.Vec.Iter.{into_iter_items}
-use Rattle.mt_rules.specs.DisplayRows.{equation_row}
-use Rattle.mt_display.specs.DisplayLines.{equation_layout, equation_level}
+use Rattle.mt_display.proofs.Common.{into_iter_items, equation_row, equation_layout, equation_level}
 use Rattle.mt_display.proofs.RowMaps.{Made}
 use Rattle.mt_display.proofs.equations.numbered_rows.Given as goal
 

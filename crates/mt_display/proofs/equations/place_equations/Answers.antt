@@ -1,6 +1,5 @@
 use Rattle.std.proofs.Common.{map, refl}
-use Rattle.mt_rules.specs.DisplayRows.{equation_row}
-use Rattle.mt_display.specs.DisplayLines.{equation_layout}
+use Rattle.mt_display.proofs.Common.{equation_row, equation_layout}
 use Rattle.mt_display.proofs.RowMaps.{all_wide}
 use Rattle.mt_display.proofs.equations.place_equations.Goals as goal
 

@@ -1,4 +1,4 @@
-use Rattle.mt_box.proofs.Lists.{next_item}
+use Rattle.mt_display.proofs.Common.{next_item}
 use Rattle.mt_display.proofs.EquationSides.{widened_step}
 use Rattle.mt_display.proofs.equations.widths_of_sides.Goals as goal
 

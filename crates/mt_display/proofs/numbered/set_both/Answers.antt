@@ -1,8 +1,6 @@
 use Rattle.std.proofs.Common.{◌++◌, ◌∷◌, [], ◌∙◌, ◌+ℤ◌, ◌-◌, ap, pos, refl, Ok, Err}
+use Rattle.mt_display.proofs.Common.{err_from_is_err_and, PieceBox, row_shrink, row_width, fitted}
 use Rattle.std.specs.Prelude.{⊤}
-use Rattle.std.proofs.lemmas.Result.{err_from_is_err_and}
-use Rattle.mt_box.specs.Rows.{PieceBox, row_shrink, row_width}
-use Rattle.mt_display.specs.Displays.{fitted}
 use Rattle.mt_display.specs.inner.OnStack.{fit_of_row}
 use Rattle.mt_display.proofs.Displaying.{both_set, both_unset, fit_e, number_behind, number_refused, packs_as, row_set}
 use Rattle.mt_display.proofs.numbered.set_both.Goals as goal

@@ -1,5 +1,5 @@
 use Rattle.std.proofs.Common.{map, sym, ◌∙◌}
-use Rattle.mt_box.specs.Layout.{layout_of}
+use Rattle.mt_display.proofs.Common.{layout_of}
 use Rattle.mt_box.specs.Columns.{entry_values}
 use Rattle.mt_display.proofs.OpenRows.{boxed, too_high, line_in_range, top_is}
 use Rattle.mt_display.proofs.open_rows.box_of_rows.Goals as goal

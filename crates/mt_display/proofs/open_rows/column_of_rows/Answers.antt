@@ -1,6 +1,6 @@
 use Rattle.std.proofs.Common.{◌∷◌, [], ◌++◌, ◌∙◌, ap, pos}
+use Rattle.mt_display.proofs.Common.{no_more}
 use Rattle.mt_box.specs.declared.entry.Entry.TheVariants.{Boxed}
-use Rattle.mt_box.proofs.Lists.{no_more}
 use Rattle.mt_display.proofs.OpenRows.{opened_start, opened_step, opened_end}
 use Rattle.mt_display.proofs.open_rows.column_of_rows.Goals as goal
 
@@ -8,8 +8,8 @@ pub loop-row-init : goal.loop-row-init
 loop-row-init c = (
   tt,
   tt,
-  opened_start c.args.line.sp c.args.rows _ c.push_unshifted.new.entries.items c.in_ok-strut.strut c.requires.some c.in_ok-strut.ensures.is c.in_ok-strut.ensures.level
-      (c.in_ok-push_unshifted.ensures ∙ ap (λ es. es ++ Boxed (pos 0) c.in_ok-strut.strut ∷ []) c.in_ok-entries.ensures.items)
+  opened_start c.args.line.sp c.args.rows _ c.push_to.new.items.items c.in_ok-strut.strut c.requires.some c.in_ok-strut.ensures.is c.in_ok-strut.ensures.level
+      (c.in_ok-push_to.ensures ∙ ap (λ es. es ++ Boxed (pos 0) c.in_ok-strut.strut ∷ []) c.in_ok-entries.ensures.items)
       (c.into_iter-row-iterator.ensures.into_iter_gives.0 ∙ c.into_vec-row-items.ensures)
       c.requires.few c.requires.level c.requires.wide,
 )

@@ -1,4 +1,4 @@
-use Rattle.std.specs.Vec.Iter.{into_iter_items}
+use Rattle.mt_display.proofs.Common.{into_iter_items}
 use Rattle.mt_display.proofs.OpenRows.{Opened}
 use Rattle.mt_display.proofs.open_rows.column_of_rows.Given as goal
 

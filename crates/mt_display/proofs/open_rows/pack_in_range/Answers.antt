@@ -1,4 +1,4 @@
-use Rattle.mt_box.specs.Rows.{pack, piece_values}
+use Rattle.mt_display.proofs.Common.{pack, piece_values}
 use Rattle.mt_display.proofs.PackedRows.{memory_alone}
 use Rattle.mt_display.proofs.open_rows.pack_in_range.Goals as goal
 

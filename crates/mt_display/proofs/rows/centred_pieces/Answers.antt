@@ -1,8 +1,5 @@
 use Rattle.std.proofs.Common.{◌∙◌, ap, sym, subst, ◌^◌, lit<}
-use Rattle.mt_scaled.proofs.Products.{kept}
-use Rattle.mt_box.specs.Extents.{ExtentsInRange}
-use Rattle.mt_box.specs.Layout.{Layout, layout_of}
-use Rattle.mt_box.specs.Rows.{pack, piece_values}
+use Rattle.mt_display.proofs.Common.{kept, ExtentsInRange, Layout, layout_of, pack, piece_values}
 use Rattle.mt_display.proofs.RowPieces.{centred_packed, centred_in_range}
 use Rattle.mt_display.proofs.rows.centred_pieces.Goals as goal
 

@@ -1,6 +1,4 @@
-use Rattle.std.specs.Vec.Iter.{into_iter_items}
-use Rattle.mt_box.specs.Layout.{BoxValue, layout_of}
-use Rattle.mt_rules.specs.DisplayRows.{centred_row}
+use Rattle.mt_display.proofs.Common.{into_iter_items, BoxValue, layout_of, centred_row}
 use Rattle.mt_display.proofs.RowMaps.{Made}
 use Rattle.mt_display.proofs.rows.centred_rows.Given as goal
 

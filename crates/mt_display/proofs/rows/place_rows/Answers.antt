@@ -1,6 +1,5 @@
 use Rattle.std.proofs.Common.{map, refl}
-use Rattle.mt_box.specs.Layout.{layout_of}
-use Rattle.mt_rules.specs.DisplayRows.{centred_row}
+use Rattle.mt_display.proofs.Common.{layout_of, centred_row}
 use Rattle.mt_display.proofs.RowMaps.{all_wide}
 use Rattle.mt_display.proofs.rows.place_rows.Goals as goal
 

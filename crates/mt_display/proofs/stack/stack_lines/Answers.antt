@@ -1,9 +1,5 @@
-use Rattle.std.proofs.Common.{◌∙◌, ◌^◌, ℤ, List, [], ap, arith, length, subst, sym}
-use Rattle.std.proofs.lemmas.List.{length-map, take_all}
-use Rattle.std.specs.Prelude.{All}
-use Rattle.mt_scaled.specs.Number.{Within}
-use Rattle.mt_display.specs.LineStack.{IsStack, line_shifts}
-use Rattle.mt_display.specs.Lines.{LineValue, line_values}
+use Rattle.std.proofs.Common.{◌∙◌, ◌^◌, ℤ, List, [], ap, arith, length, subst, sym, All}
+use Rattle.mt_display.proofs.Common.{length-map, take_all, Within, IsStack, line_shifts, LineValue, line_values}
 use Rattle.mt_display.proofs.TakenLines.{lines_length, one_more_put, small_shifts}
 use Rattle.mt_display.proofs.stack.stack_lines.Goals as goal
 

@@ -1,6 +1,5 @@
 use Rattle.std.proofs.Common.{[], take}
-use Rattle.mt_display.specs.LineStack.{IsStack}
-use Rattle.mt_display.specs.Lines.{line_values}
+use Rattle.mt_display.proofs.Common.{IsStack, line_values}
 use Rattle.mt_display.proofs.stack.stack_lines.Given as goal
 
 abbrev pub invariant-loop-line : goal.invariant-loop-line

@@ -1,7 +1,5 @@
 use Rattle.std.proofs.Common.{◌∙◌, ◌^◌, lit<, pos, refl}
-use Rattle.std.proofs.lemmas.List.{drop_all, drop_more}
-use Rattle.std.proofs.lemmas.Result.{err_from_is_err_and}
-use Rattle.mt_scaled.proofs.Products.{kept}
+use Rattle.mt_display.proofs.Common.{drop_all, drop_more, err_from_is_err_and, kept}
 use Rattle.mt_display.proofs.Stacking.{shift_here, walking_end, walking_err, walking_step}
 use Rattle.mt_display.proofs.line_stack.LineStack.places.Goals as goal
 

@@ -1,11 +1,7 @@
 use Rattle.std.proofs.Common.{[], ◌∷◌, ◌∙◌, ◌-◌, ap, pos, Ok, Err}
+use Rattle.mt_display.proofs.Common.{err_from_is_err_and, PieceBox, PieceKern, pack, ◌>>=◌, one_line, line_boxes}
 use Rattle.std.specs.Prelude.{⊤}
-use Rattle.std.proofs.lemmas.Result.{err_from_is_err_and}
-use Rattle.mt_box.specs.Rows.{PieceBox, PieceKern, pack}
-use Rattle.mt_rules.specs.Setting.{◌>>=◌}
 use Rattle.mt_pieces.proofs.Packed.{fails_then, packed, refused}
-use Rattle.mt_display.specs.Displays.{one_line}
-use Rattle.mt_display.specs.LineStack.{line_boxes}
 use Rattle.mt_display.proofs.Displaying.{kern_between, packs_as, puts_err}
 use Rattle.mt_display.proofs.LineStacks.{one_more_line}
 use Rattle.mt_display.proofs.line_stack.LineStack.put_beside.Goals as goal

@@ -1,7 +1,5 @@
 use Rattle.std.proofs.Common.{◌∙◌, ◌∷◌, ◌++◌, [], ◌-ℤ◌, ◌^◌, ap, append_assoc, arith, pos, subst, sym, if◌then◌else◌}
-use Rattle.mt_box.specs.Rows.{PieceBox}
-use Rattle.mt_display.specs.Displays.{indent, room_between}
-use Rattle.mt_display.specs.LineStack.{MoreLines, PutsLines, is_left, line_boxes}
+use Rattle.mt_display.proofs.Common.{PieceBox, indent, room_between, MoreLines, PutsLines, is_left, line_boxes}
 use Rattle.mt_display.proofs.Displaying.{boxes_in_order, lines_apart, lines_in_one, wider}
 use Rattle.mt_display.proofs.LineStacks.{two_more_lines, zero_small}
 use Rattle.mt_display.proofs.line_stack.LineStack.put_both.Goals as goal

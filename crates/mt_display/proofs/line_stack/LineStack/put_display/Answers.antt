@@ -1,7 +1,5 @@
 use Rattle.std.proofs.Common.{[], arith, pos, refl, Ok, Err}
-use Rattle.std.proofs.lemmas.Result.{err_from_is_err_and}
-use Rattle.mt_display.specs.Displays.{fitted}
-use Rattle.mt_display.specs.LineStack.{line_boxes}
+use Rattle.mt_display.proofs.Common.{err_from_is_err_and, fitted, line_boxes}
 use Rattle.mt_display.specs.inner.OnStack.{fit_of_row}
 use Rattle.mt_display.proofs.Displaying.{alone_made, alone_refused, line_kept, puts_err, sets_as, wider}
 use Rattle.mt_display.proofs.LineStacks.{behind_lines, one_more_line, up_to_lines}

@@ -1,11 +1,7 @@
 use Rattle.std.proofs.Common.{◌∙◌, ◌+ℤ◌, ◌^◌, lit<, subst, Ok, Err}
-use Rattle.std.proofs.lemmas.Result.{err_from_is_err_and}
-use Rattle.mt_scaled.proofs.Products.{kept}
-use Rattle.mt_box.specs.Rows.{pack, row_width}
+use Rattle.mt_display.proofs.Common.{err_from_is_err_and, kept, pack, row_width, fitted, PutsLines, is_left, line_boxes}
 use Rattle.mt_family.specs.Sets.{sy}
 use Rattle.mt_family.specs.declared.size.Size.TheVariants.{Text}
-use Rattle.mt_display.specs.Displays.{fitted}
-use Rattle.mt_display.specs.LineStack.{PutsLines, is_left, line_boxes}
 use Rattle.mt_display.specs.inner.OnStack.{fit_of_row}
 use Rattle.mt_display.proofs.Displaying.{both_as, line_kept, numbered_made, numbered_refused, puts_err}
 use Rattle.mt_display.proofs.LineStacks.{boxes_length}
