@@ -1,21 +1,13 @@
 -- Each brace of a formula, as it is cut off at its dollars, has its partner (`balanced`).
-use Rattle.std.proofs.Common.{◌≡◌, ℕ, zero, suc, ◌+◌, ◌-◌, Bool, true, false, List, [], ◌∷◌, refl, sym, ap, subst, ◌∙◌, arith}
-use Rattle.std.specs.Prelude.{Option, Some, None, is_some, is_none, ◌==◌, ◌&&◌, ◌||◌}
-use Rattle.std.proofs.lemmas.Bool.Decides.{nat_tests}
-use Rattle.mt_token.specs.declared.token.Token.{Token}
+use Rattle.std.proofs.Common.{◌≡◌, ℕ, zero, suc, ◌+◌, ◌-◌, Bool, true, false, List, [], ◌∷◌, refl, sym, ap, subst, ◌∙◌, arith, Option, Some, None, is_some, is_none, ◌==◌, ◌&&◌, ◌||◌}
+use Rattle.mt_pages.proofs.Common.{Token}
 use Rattle.mt_macro.specs.Braces.{Taken, onto, group, level_after, is_open, is_close, first_unmatched}
-use Rattle.mt_macro.proofs.Unmatched.{group_on}
+use Rattle.mt_macro.proofs.Unmatched.{group_on, inside_not, level_other, not_both, suc_zero}
 use Rattle.mt_reader.specs.Dollars.{up_to_end, ends_formula, after_end}
-
-not_both : (t : Token) → is_open t ≡ true → is_close t ≡ false
-not_both t o = grind (arith, nat_tests, o)
 
 and_no : (b : Bool) → b && false ≡ false
 and_no true = refl
 and_no false = refl
-
-suc_zero : (level : ℕ) → (suc level == 0) ≡ false
-suc_zero level = grind (arith, nat_tests)
 
 is_some_onto : (t : Token) (o : Option Taken) → is_some (onto t o) ≡ is_some o
 is_some_onto t None = refl
@@ -26,9 +18,6 @@ level_open level t o = rw o (let e : level + 1 ≡ suc level = omega arith in e)
 
 level_close : (level : ℕ) (t : Token) → is_open t ≡ false → is_close t ≡ true → level_after (suc level) t ≡ level
 level_close level t o c = rw (o, c) (let e : suc level - 1 ≡ level = omega arith in e)
-
-level_other : (level : ℕ) (t : Token) → is_open t ≡ false → is_close t ≡ false → level_after level t ≡ level
-level_other level t o c = rw (o, c) refl
 
 -- what a token that goes on with the formula leaves
 goes_on : (display : Bool) (level : ℕ) (t : Token) (rest : List Token) → (level == 0) && is_close t ≡ false → (level == 0) && ends_formula display t rest ≡ false
@@ -53,9 +42,6 @@ taken_after_by display level t rest taken (Some inner) e h = record { inner = in
 taken_after : (display : Bool) (level : ℕ) (t : Token) (rest : List Token) (taken : Taken) → (level == 0) && is_close t ≡ false → (level == 0) && ends_formula display t rest ≡ false
     → up_to_end display level (t ∷ rest) ≡ Some taken → TakenAfter display (level_after level t) t rest taken
 taken_after display level t rest taken c e h = taken_after_by display (level_after level t) t rest taken _ refl (sym (goes_on display level t rest c e) ∙ h)
-
-inside_not : (level : ℕ) (b : Bool) → (suc level == 0) && b ≡ false
-inside_not level b = ap (λ x. x && b) (suc_zero level)
 
 taken_inside_after : (display : Bool) (level level' : ℕ) (t : Token) (rest : List Token) (taken : Taken) → level_after (suc level) t ≡ level'
     → up_to_end display (suc level) (t ∷ rest) ≡ Some taken → TakenAfter display level' t rest taken

@@ -1,39 +1,17 @@
 -- The rows of a display of several lines, one after another, and the places of their line.
-use Rattle.std.proofs.Common.{◌≡◌, ℕ, ℤ, pos, ◌-ℤ◌, ◌+◌, ◌-◌, ◌≤◌, ◌^◌, Bool, List, [], ◌∷◌, ◌++◌, length, length-append, map, take, drop, refl, sym, ◌∙◌, ap, subst, arith, All}
-use Rattle.std.proofs.lemmas.List.Elements.{All-append, All-cons, All-head, All-nil, All-tail}
-use Rattle.std.specs.Prelude.{Option, Some, None, Result, Ok, Err}
+use Rattle.std.proofs.Common.{◌≡◌, ℕ, ℤ, pos, ◌-ℤ◌, ◌+◌, ◌-◌, ◌≤◌, ◌^◌, Bool, List, [], ◌∷◌, ◌++◌, length, length-append, map, take, drop, refl, sym, ◌∙◌, ap, subst, arith, All, Option, Some, None, Result, Ok, Err}
+use Rattle.mt_pages.proofs.Common.{All-append, All-cons, All-head, All-nil, All-tail, Layout, all_moved, PieceValue, PieceBox, pack, Place, Within, ◌>>=◌, SetValue, EquationLayout, centred_row, equation_row, equation_rows, equations_axis, equations_line, margin, number_place, rows_line, stacked_rows, ◌>>◌, make_box, pack_row, pass_unless, rows_of, Sequence, Rows, NoRows, MoreRows, rows_length, PlaceHolds, at_left_end, equation_lines, greatest_level, row_lines, one_line, IsStack, LineValue, line_values, LineStack, are, made_then, one_has, each_set, equations_lines, equations_set, formula_box, formula_row, lists_of, rows_lines, rows_set, set_by, IsPure, Status, pure_err}
 use Rattle.mt_box.specs.Extents.{first_out}
-use Rattle.mt_box.specs.Layout.{Layout, all_moved}
-use Rattle.mt_box.specs.Rows.{PieceValue, PieceBox, pack}
-use Rattle.mt_box.specs.declared.place.Place.{Place}
 use Rattle.mt_box.proofs.Still.{moved_have, pack_has}
-use Rattle.mt_scaled.specs.Number.{Within}
-use Rattle.mt_scaled.specs.Results.{◌>>=◌}
-use Rattle.mt_family.specs.SetValue.{SetValue}
 use Rattle.mt_rules.specs.declared.document.Equation.{Equation}
-use Rattle.mt_rules.specs.DisplayRows.{EquationLayout, centred_row, equation_row, equation_rows, equations_axis, equations_line, margin, number_place, rows_line, stacked_rows}
-use Rattle.mt_rules.specs.Setting.{◌>>◌, make_box, pack_row, pass_unless}
 use Rattle.mt_rules.specs.declared.style.Style.{Style}
-use Rattle.mt_rules.specs.Rows.{rows_of}
-use Rattle.mt_rules.specs.Sequence.{Sequence, Rows, NoRows, MoreRows, rows_length}
 use Rattle.mt_rules.specs.Tables.{open_gap, open_places, rows_places}
-use Rattle.mt_convert.specs.Holding.{PlaceHolds}
 use Rattle.mt_convert.proofs.Behind.{rest_before, row_behind}
-use Rattle.mt_display.specs.DisplayLines.{at_left_end, equation_lines, greatest_level, row_lines}
-use Rattle.mt_display.specs.Displays.{one_line}
 use Rattle.mt_pieces.specs.Putting.{boxed_on}
-use Rattle.mt_display.specs.LineStack.{IsStack}
-use Rattle.mt_display.specs.Lines.{LineValue, line_values}
 use Rattle.mt_display.specs.declared.line.Line.{Line as LineFields}
-use Rattle.mt_display.specs.declared.line_stack.LineStack.{LineStack}
-use Rattle.mt_display.proofs.PagePlaces.{are, made_then, one_has}
-use Rattle.mt_pages.specs.FormulaLines.{each_set, equations_lines, equations_set, formula_box, formula_row, lists_of, rows_lines, rows_set, set_by}
 use Rattle.mt_pages.specs.inner.Lines.{BoxHolds, EquationHolds, LinesHold, LinesPut, RowPut}
 use Rattle.mt_pages.proofs.LineLemmas.{line_put}
 use Rattle.mt_pages.proofs.PageLemmas.{places_still, row_has}
-use Rattle.mt_status.specs.Origins.{IsPure}
-use Rattle.mt_status.specs.declared.status.Status.{Status}
-use Rattle.mt_status.proofs.PureLemmas.{pure_err}
 
 -- ---- rows that are set one after another
 

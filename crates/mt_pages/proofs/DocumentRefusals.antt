@@ -1,44 +1,63 @@
--- Reading a source is never refused for lack of memory (`document_avoids`).
-use Rattle.std.proofs.Common.{◌≡◌, ◌+◌, ◌-◌, ℕ, zero, suc, length, map, Bool, true, false, List, [], ◌∷◌, refl, cond}
-use Rattle.std.specs.Prelude.{Option, Some, None, Result, Ok, Err, nat_lt, drop, ⊤}
+-- A source that is not read is refused for a reason (`document_explains`): memory did not run out, and a formula is refused for a cause with a
+-- number.
+use Rattle.std.proofs.Common.{◌≡◌, ◌+◌, ◌-◌, ℕ, zero, suc, length, map, Bool, true, false, List, [], ◌∷◌, refl, cond, Option, Some, None, Result, Ok, Err, nat_lt, drop, sym, ap, ◌∙◌, true≢false, if◌then◌else◌}
+use Rattle.mt_pages.proofs.Common.{Token, Expansion, Expanded, OverBudget, NoArgument, NoPartner, ListTooLong, MacroStep, Done, Missing, Next, macro_step, at_last, further, within_budget, run, unless_unmatched, expansion, CodeTables, plain_codes, plain_table, token_of, SetValue, units_of, DocumentState, DocumentAnswer, DocumentTurn, Goes, Ends, Stops, StopsOutside, after_assignment, after_definition, after_expansion, after_reading, formula_in, formula_turn, is_page_limit, outside_role, pages_from, start_state, turn_answer, turn_by, with_table, document_from, document_of, document_refusal, reading_refusal, token_refusal, OutOfMemory, Status, BadFormula, Avoids, ◌>>=◌}
+use Rattle.std.specs.Prelude.{⊤}
 use Rattle.mt_scaled.specs.declared.unit.Units.{Units}
-use Rattle.mt_token.specs.declared.token.Token.{Token}
 use Rattle.mt_token.specs.declared.token.TokenError.{TokenError}
 use Rattle.mt_token.specs.declared.token.TokenError.TheVariants.{NotAscii, BadByte, TooLong as SourceTooLong, OutOfMemory as NoTokenMemory}
 use Rattle.mt_token.specs.declared.lexeme.State.{State}
 use Rattle.mt_token.specs.declared.lexeme.State.TheVariants.{New}
-use Rattle.mt_token.specs.declared.lexeme.Lexeme.{Lexeme}
-use Rattle.mt_token.specs.declared.lexeme.Lexeme.TheVariants as lexemes
-use Rattle.mt_token.specs.Lexemes.{lexeme}
+use Rattle.mt_token.specs.Lexemes as lexemes
+use Rattle.mt_token.specs.Lexemes.{Lexeme, lexeme}
 use Rattle.mt_token.specs.Tokens.{Answer, Spanned, before, at_lexeme, lex, max_source, source_tokens}
 use Rattle.mt_macro.specs.declared.definition.MacroError.{MacroError}
 use Rattle.mt_macro.specs.Braces.{Taken, first_unmatched}
 use Rattle.mt_macro.specs.Definition.{define}
-use Rattle.mt_macro.specs.Expansion.{Expansion, Expanded, OverBudget, NoArgument, NoPartner, ListTooLong, MacroStep, Done, Missing, Next, macro_step, at_last, further, within_budget, run, unless_unmatched, expansion}
 use Rattle.mt_macro.specs.Limits.{max_tokens, max_steps}
 use Rattle.mt_macro.specs.Table.{Table}
-use Rattle.mt_plain.specs.CodeTables.{CodeTables, plain_codes}
-use Rattle.mt_plain.specs.PlainMacros.{plain_table, token_of}
-use Rattle.mt_family.specs.SetValue.{SetValue}
-use Rattle.mt_family.specs.Sets.{units_of}
 use Rattle.mt_scan.specs.declared.fault.ReadCause.{ReadCause}
 use Rattle.mt_scan.specs.declared.fault.ReadCause.TheVariants.{UnknownName, DoubleScript, TwoFractions, BadDelimiter, Unbalanced, MisplacedLimits, MissingField, BadNumber, BadDimension, MisplacedNumber, TooDeep as TooManyGroups, ExtraCell}
 use Rattle.mt_scan.specs.Parts.{Read, ReadOr, Got, Fault, NoTurn, IsAnswered}
 use Rattle.mt_formula.specs.Formulas.{Reading, Reads, ReadFault, reading}
 use Rattle.mt_reader.specs.Limits.{max_total_tokens}
+use Rattle.mt_reader.specs.Causes.{outside_number}
 use Rattle.mt_reader.specs.declared.outside_cause.OutsideCause.{OutsideCause}
+use Rattle.mt_reader.specs.declared.outside_cause.OutsideCause.TheVariants.{Misplaced as MisplacedToken, OpenFormula, BadDefinition, OpenBody, TooManyNames, BadAssignment}
 use Rattle.mt_reader.specs.declared.outside_role.OutsideRole.{OutsideRole}
 use Rattle.mt_reader.specs.declared.outside_role.OutsideRole.TheVariants.{Passed, Defines, SetsMathCode, SetsDelimiterCode, BeginsFormula, EndsPage, EndsDocument, Misplaced}
 use Rattle.mt_reader.specs.Assignments.{math_code_assignment, delcode_assignment}
 use Rattle.mt_reader.specs.Definitions.{MacroDefinition, macro_definition}
-use Rattle.mt_reader.specs.Documents.{DocumentState, DocumentAnswer, DocumentTurn, Goes, Ends, Stops, StopsOutside, after_assignment, after_definition, after_expansion, after_reading, formula_in, formula_turn, is_page_limit, outside_role, pages_from, start_state, turn_answer, turn_by, with_table}
 use Rattle.mt_reader.specs.Dollars.{begins_display, between_dollars, up_to_end}
 use Rattle.mt_reader.specs.Sources.{document_by}
-use Rattle.mt_pages.specs.Documents.{document_from, document_of, document_refusal, reading_refusal, token_refusal}
-use Rattle.mt_status.specs.declared.status.Status.TheVariants.{OutOfMemory}
-use Rattle.mt_status.proofs.Avoiding.{Avoids, avoids_err}
 use Rattle.mt_pages.proofs.Balanced.{balanced}
 use Rattle.mt_reader.specs.Answered.{definition_answered, math_code_answered, delcode_answered}
+
+-- a refusal that says what is wrong: memory did not run out, and a formula is refused for a cause with a number
+abbrev pub says_why : Status → Bool
+says_why OutOfMemory = false
+says_why (BadFormula n token zero) = false
+says_why status = true
+
+-- what is answered, or a refusal that says what is wrong
+abbrev pub Explains : {T : Type 0} → Result T Status → Type 0
+Explains (Ok x) = ⊤
+Explains (Err status) = says_why status ≡ true
+
+pub explains_then : {T U : Type 0} (step : Result T Status) (next : T → Result U Status) → Explains step → ((x : T) → Explains (next x)) → Explains (step >>= next)
+explains_then (Ok x) next first rest = rest x
+explains_then (Err status) next first rest = first
+
+pub explains_if : {T : Type 0} (b : Bool) (x y : Result T Status) → Explains x → Explains y → Explains (if b then x else y)
+explains_if true x y p q = p
+explains_if false x y p q = q
+
+-- so it is no other refusal
+pub avoids : {T : Type 0} (bad : Status) (answer : Result T Status) → says_why bad ≡ false → Explains answer → Avoids bad answer
+avoids bad (Ok x) silent why same = absurd (cc)
+avoids bad (Err status) silent why same =
+    let is : status ≡ bad = cc in
+    true≢false (sym why ∙ (ap says_why is ∙ silent))
 
 -- ---- tokens
 
@@ -75,12 +94,12 @@ lex_fits state at zero (b ∷ rest) = lexeme_fits (lexeme state (b ∷ rest)) at
 tokens_fit : (bytes : List ℕ) → nat_lt max_source (length bytes) ≡ false → fits (source_tokens bytes) ≡ true
 tokens_fit bytes e = rw e (lex_fits New 0 0 bytes)
 
-token_avoids : (cause : TokenError) → fits (Err cause) ≡ true → token_refusal cause ≡ OutOfMemory → ⊥
+token_explained : (cause : TokenError) → fits (Err cause) ≡ true → says_why (token_refusal cause) ≡ true
 unfolding fits
-token_avoids (NotAscii offset) fit same = cc
-token_avoids (BadByte offset) fit same = cc
-token_avoids SourceTooLong fit same = cc
-token_avoids NoTokenMemory fit same = cc
+token_explained (NotAscii offset) fit = refl
+token_explained (BadByte offset) fit = refl
+token_explained SourceTooLong fit = fit
+token_explained NoTokenMemory fit = fit
 
 -- ---- expansion
 
@@ -135,102 +154,114 @@ between_matched table rest taken h = between_by table rest taken (begins_display
 
 -- ---- turns
 
--- a turn that is not refused for lack of memory
-abbrev TurnAvoids : DocumentTurn → Type 0
-TurnAvoids (Goes state rest) = ⊤
-TurnAvoids (Ends state) = ⊤
-TurnAvoids (Stops refusal) = document_refusal refusal ≡ OutOfMemory → ⊥
-TurnAvoids (StopsOutside n cause left) = ⊤
+-- a turn that is not refused, or its refusal says what is wrong
+abbrev TurnExplains : DocumentTurn → Type 0
+TurnExplains (Goes state rest) = ⊤
+TurnExplains (Ends state) = ⊤
+TurnExplains (Stops refusal) = says_why (document_refusal refusal) ≡ true
+TurnExplains (StopsOutside n cause left) = ⊤
 
-table_avoids : (s : DocumentState) (left : ℕ) (rest : List Token) (made : Result Table MacroError) → TurnAvoids (with_table s left rest made)
-table_avoids s left rest (Ok macros) = tt
-table_avoids s left rest (Err e) = tt
+table_explains : (s : DocumentState) (left : ℕ) (rest : List Token) (made : Result Table MacroError) → TurnExplains (with_table s left rest made)
+table_explains s left rest (Ok macros) = tt
+table_explains s left rest (Err e) = tt
 
-definition_avoids : (s : DocumentState) (left : ℕ) (read : ReadOr OutsideCause MacroDefinition) (a : IsAnswered read) → TurnAvoids (after_definition s left read a)
-definition_avoids s left (Fault cause at) a = tt
-definition_avoids s left NoTurn a = elim a [ ]
-definition_avoids s left (Got d rest) a = table_avoids s left rest (define s.macros d.name d.params d.body)
+definition_explains : (s : DocumentState) (left : ℕ) (read : ReadOr OutsideCause MacroDefinition) (a : IsAnswered read) → TurnExplains (after_definition s left read a)
+definition_explains s left (Fault cause at) a = tt
+definition_explains s left NoTurn a = elim a [ ]
+definition_explains s left (Got d rest) a = table_explains s left rest (define s.macros d.name d.params d.body)
 
-assignment_avoids : (s : DocumentState) (left : ℕ) (read : Read CodeTables) (a : IsAnswered read) → TurnAvoids (after_assignment s left read a)
-assignment_avoids s left (Fault cause at) a = tt
-assignment_avoids s left NoTurn a = elim a [ ]
-assignment_avoids s left (Got tables rest) a = tt
+assignment_explains : (s : DocumentState) (left : ℕ) (read : Read CodeTables) (a : IsAnswered read) → TurnExplains (after_assignment s left read a)
+assignment_explains s left (Fault cause at) a = tt
+assignment_explains s left NoTurn a = elim a [ ]
+assignment_explains s left (Got tables rest) a = tt
 
-cause_avoids : (n : ℕ) (cause : ReadCause) (place : ℕ) → reading_refusal n cause place ≡ OutOfMemory → ⊥
-cause_avoids n UnknownName place h = cc
-cause_avoids n DoubleScript place h = cc
-cause_avoids n TwoFractions place h = cc
-cause_avoids n BadDelimiter place h = cc
-cause_avoids n Unbalanced place h = cc
-cause_avoids n MisplacedLimits place h = cc
-cause_avoids n MissingField place h = cc
-cause_avoids n BadNumber place h = cc
-cause_avoids n BadDimension place h = cc
-cause_avoids n MisplacedNumber place h = cc
-cause_avoids n TooManyGroups place h = cc
-cause_avoids n ExtraCell place h = cc
+cause_explained : (n : ℕ) (cause : ReadCause) (place : ℕ) → says_why (reading_refusal n cause place) ≡ true
+cause_explained n UnknownName place = refl
+cause_explained n DoubleScript place = refl
+cause_explained n TwoFractions place = refl
+cause_explained n BadDelimiter place = refl
+cause_explained n Unbalanced place = refl
+cause_explained n MisplacedLimits place = refl
+cause_explained n MissingField place = refl
+cause_explained n BadNumber place = refl
+cause_explained n BadDimension place = refl
+cause_explained n MisplacedNumber place = refl
+cause_explained n TooManyGroups place = refl
+cause_explained n ExtraCell place = refl
 
-reading_avoids : (units : Units) (s : DocumentState) (display : Bool) (total : ℕ) (rest : List Token) (read : Reading) → TurnAvoids (after_reading units s display total rest read)
-reading_avoids units s display total rest (ReadFault cause place) = cause_avoids (s.count + 1) cause place
-reading_avoids units s display total rest (Reads body tag) = tt
+reading_explains : (units : Units) (s : DocumentState) (display : Bool) (total : ℕ) (rest : List Token) (read : Reading) → TurnExplains (after_reading units s display total rest read)
+reading_explains units s display total rest (ReadFault cause place) = cause_explained (s.count + 1) cause place
+reading_explains units s display total rest (Reads body tag) = tt
 
-expanded_avoids : (units : Units) (s : DocumentState) (display : Bool) (rest list : List Token) (b : Bool) → nat_lt max_total_tokens (s.total + length list) ≡ b
-    → TurnAvoids (after_expansion units s display rest (Expanded list))
-expanded_avoids units s display rest list true e = rw (e, TurnAvoids) (λ same. cc)
-expanded_avoids units s display rest list false e = rw (e, TurnAvoids) (reading_avoids units s display (s.total + length list) rest (reading s.tables units display list))
+expanded_explains : (units : Units) (s : DocumentState) (display : Bool) (rest list : List Token) (b : Bool) → nat_lt max_total_tokens (s.total + length list) ≡ b
+    → TurnExplains (after_expansion units s display rest (Expanded list))
+expanded_explains units s display rest list true e = rw (e, TurnExplains) refl
+expanded_explains units s display rest list false e = rw (e, TurnExplains) (reading_explains units s display (s.total + length list) rest (reading s.tables units display list))
 
-expansion_avoids : (units : Units) (s : DocumentState) (display : Bool) (rest : List Token) (outcome : Expansion) → is_unmatched outcome ≡ false
-    → TurnAvoids (after_expansion units s display rest outcome)
+expansion_explains : (units : Units) (s : DocumentState) (display : Bool) (rest : List Token) (outcome : Expansion) → is_unmatched outcome ≡ false
+    → TurnExplains (after_expansion units s display rest outcome)
 unfolding is_unmatched
-expansion_avoids units s display rest (Expanded list) h = expanded_avoids units s display rest list _ refl
-expansion_avoids units s display rest (OverBudget steps n) h = λ same. cc
-expansion_avoids units s display rest (NoArgument place) h = λ same. cc
-expansion_avoids units s display rest (NoPartner place) h = λ same. cc
-expansion_avoids units s display rest ListTooLong h = λ same. cc
+expansion_explains units s display rest (Expanded list) h = expanded_explains units s display rest list _ refl
+expansion_explains units s display rest (OverBudget steps n) h = refl
+expansion_explains units s display rest (NoArgument place) h = refl
+expansion_explains units s display rest (NoPartner place) h = sym h
+expansion_explains units s display rest ListTooLong h = refl
 
-formula_in_avoids : (units : Units) (s : DocumentState) (display : Bool) (left : ℕ) (o : Option Taken)
-    → ((taken : Taken) → o ≡ Some taken → is_unmatched (expansion s.macros taken.argument) ≡ false) → TurnAvoids (formula_in units s display left o)
-formula_in_avoids units s display left None matched = tt
-formula_in_avoids units s display left (Some taken) matched = expansion_avoids units s display taken.after (expansion s.macros taken.argument) (matched taken refl)
+formula_in_explains : (units : Units) (s : DocumentState) (display : Bool) (left : ℕ) (o : Option Taken)
+    → ((taken : Taken) → o ≡ Some taken → is_unmatched (expansion s.macros taken.argument) ≡ false) → TurnExplains (formula_in units s display left o)
+formula_in_explains units s display left None matched = tt
+formula_in_explains units s display left (Some taken) matched = expansion_explains units s display taken.after (expansion s.macros taken.argument) (matched taken refl)
 
-formula_avoids : (units : Units) (s : DocumentState) (rest : List Token) (limit : Bool) → TurnAvoids (formula_turn units s rest limit)
-formula_avoids units s rest true = λ same. cc
-formula_avoids units s rest false = formula_in_avoids units s (begins_display rest) (length rest + 1) (between_dollars rest) (λ taken h. between_matched s.macros rest taken h)
+formula_explains : (units : Units) (s : DocumentState) (rest : List Token) (limit : Bool) → TurnExplains (formula_turn units s rest limit)
+formula_explains units s rest true = refl
+formula_explains units s rest false = formula_in_explains units s (begins_display rest) (length rest + 1) (between_dollars rest) (λ taken h. between_matched s.macros rest taken h)
 
-turn_by_avoids : (units : Units) (s : DocumentState) (rest : List Token) (role : OutsideRole) → TurnAvoids (turn_by units s rest role)
-turn_by_avoids units s rest Passed = tt
-turn_by_avoids units s rest Defines = definition_avoids s (length rest + 1) (macro_definition rest) (definition_answered rest)
-turn_by_avoids units s rest SetsMathCode = assignment_avoids s (length rest + 1) (math_code_assignment s.tables rest) (math_code_answered s.tables rest)
-turn_by_avoids units s rest SetsDelimiterCode = assignment_avoids s (length rest + 1) (delcode_assignment s.tables rest) (delcode_answered s.tables rest)
-turn_by_avoids units s rest BeginsFormula = formula_avoids units s rest (is_page_limit s)
-turn_by_avoids units s rest EndsPage = tt
-turn_by_avoids units s rest EndsDocument = tt
-turn_by_avoids units s rest Misplaced = tt
+turn_by_explains : (units : Units) (s : DocumentState) (rest : List Token) (role : OutsideRole) → TurnExplains (turn_by units s rest role)
+turn_by_explains units s rest Passed = tt
+turn_by_explains units s rest Defines = definition_explains s (length rest + 1) (macro_definition rest) (definition_answered rest)
+turn_by_explains units s rest SetsMathCode = assignment_explains s (length rest + 1) (math_code_assignment s.tables rest) (math_code_answered s.tables rest)
+turn_by_explains units s rest SetsDelimiterCode = assignment_explains s (length rest + 1) (delcode_assignment s.tables rest) (delcode_answered s.tables rest)
+turn_by_explains units s rest BeginsFormula = formula_explains units s rest (is_page_limit s)
+turn_by_explains units s rest EndsPage = tt
+turn_by_explains units s rest EndsDocument = tt
+turn_by_explains units s rest Misplaced = tt
 
 -- ---- documents
 
-abbrev AnswerAvoids : DocumentAnswer → Type 0
-AnswerAvoids answer = Avoids OutOfMemory (document_from answer)
+outside_explained : (n place : ℕ) (cause : OutsideCause) → says_why (BadFormula n place (outside_number cause)) ≡ true
+outside_explained n place MisplacedToken = refl
+outside_explained n place OpenFormula = refl
+outside_explained n place BadDefinition = refl
+outside_explained n place OpenBody = refl
+outside_explained n place TooManyNames = refl
+outside_explained n place BadAssignment = refl
 
-turn_answer_avoids : (units : Units) (whole : ℕ) (again : DocumentState → List Token → DocumentAnswer) (turn : DocumentTurn)
-    → ((s : DocumentState) (rest : List Token) → AnswerAvoids (again s rest)) → TurnAvoids turn → AnswerAvoids (turn_answer units whole again turn)
-turn_answer_avoids units whole again (Goes s rest) more h = more s rest
-turn_answer_avoids units whole again (Ends s) more h = λ same. cc
-turn_answer_avoids units whole again (Stops refusal) more h = avoids_err OutOfMemory (document_refusal refusal) h
-turn_answer_avoids units whole again (StopsOutside n cause left) more h = λ same. cc
+abbrev AnswerExplains : DocumentAnswer → Type 0
+AnswerExplains answer = Explains (document_from answer)
 
-pages_avoid : (units : Units) (whole turns : ℕ) (s : DocumentState) (tokens : List Token) → AnswerAvoids (pages_from units whole turns s tokens)
+turn_answer_explains : (units : Units) (whole : ℕ) (again : DocumentState → List Token → DocumentAnswer) (turn : DocumentTurn)
+    → ((s : DocumentState) (rest : List Token) → AnswerExplains (again s rest)) → TurnExplains turn → AnswerExplains (turn_answer units whole again turn)
+turn_answer_explains units whole again (Goes s rest) more h = more s rest
+turn_answer_explains units whole again (Ends s) more h = tt
+turn_answer_explains units whole again (Stops refusal) more h = h
+turn_answer_explains units whole again (StopsOutside n cause left) more h = outside_explained n (whole - left) cause
+
+pages_explain : (units : Units) (whole turns : ℕ) (s : DocumentState) (tokens : List Token) → AnswerExplains (pages_from units whole turns s tokens)
 unfolding pages_from
-pages_avoid units whole zero s tokens = λ same. cc
-pages_avoid units whole (suc turns) s [] = λ same. cc
-pages_avoid units whole (suc turns) s (t ∷ rest) =
-    turn_answer_avoids units whole (pages_from units whole turns) (turn_by units s rest (outside_role t.kind)) (λ s' rest'. pages_avoid units whole turns s' rest') (turn_by_avoids units s rest (outside_role t.kind))
+pages_explain units whole zero s tokens = tt
+pages_explain units whole (suc turns) s [] = tt
+pages_explain units whole (suc turns) s (t ∷ rest) =
+    turn_answer_explains units whole (pages_from units whole turns) (turn_by units s rest (outside_role t.kind)) (λ s' rest'. pages_explain units whole turns s' rest') (turn_by_explains units s rest (outside_role t.kind))
 
-answer_avoids : (units : Units) (tokens : Answer) → fits tokens ≡ true → AnswerAvoids (document_by units tokens)
-answer_avoids units (Ok list) h =
-    pages_avoid units (length (map token_of list)) (length (map token_of list)) (start_state plain_codes plain_table) (map token_of list)
-answer_avoids units (Err cause) h = avoids_err OutOfMemory (token_refusal cause) (token_avoids cause h)
+answer_explains : (units : Units) (tokens : Answer) → fits tokens ≡ true → AnswerExplains (document_by units tokens)
+answer_explains units (Ok list) h =
+    pages_explain units (length (map token_of list)) (length (map token_of list)) (start_state plain_codes plain_table) (map token_of list)
+answer_explains units (Err cause) h = token_explained cause h
 
--- a source within_matched its limit
-pub document_avoids : (set : SetValue) (bytes : List ℕ) → nat_lt max_source (length bytes) ≡ false → Avoids OutOfMemory (document_of set bytes)
-document_avoids set bytes short = answer_avoids (units_of set) (source_tokens bytes) (tokens_fit bytes short)
+-- a source within its limit
+pub document_explains : (set : SetValue) (bytes : List ℕ) → nat_lt max_source (length bytes) ≡ false → Explains (document_of set bytes)
+document_explains set bytes short = answer_explains (units_of set) (source_tokens bytes) (tokens_fit bytes short)
+
+-- and a longer one is refused as for lack of memory
+pub long_refused : (set : SetValue) (bytes : List ℕ) → nat_lt max_source (length bytes) ≡ true → document_of set bytes ≡ Err OutOfMemory
+long_refused set bytes long = rw long refl

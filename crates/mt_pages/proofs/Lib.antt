@@ -1,3 +1,5 @@
+-- the names that most proofs cite
+mod Common
 -- the lines of a formula
 pub mod LineLemmas
 -- the places of a page
@@ -16,9 +18,7 @@ pub mod ListingLemmas
 mod ListingWorked
 -- each brace of a formula has its partner
 pub mod Balanced
--- a document is never refused for lack of memory
+-- a source that is not read is refused for a reason
 pub mod DocumentRefusals
--- pages are never refused for lack of memory
+-- and one that is not set
 pub mod PageRefusals
--- a source that is refused at a formula is refused for a cause with a number
-mod Causes

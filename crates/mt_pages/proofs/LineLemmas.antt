@@ -1,42 +1,21 @@
 -- The lines of a formula on the stack of a page, and those of the formulas of a page.
-use Rattle.std.proofs.Common.{◌≡◌, ℕ, ℤ, pos, suc, ◌+◌, ◌≤◌, ◌^◌, List, [], ◌∷◌, ◌++◌, length, refl, sym, ◌∙◌, ap, subst, arith, append_assoc}
-use Rattle.std.specs.Prelude.{Bool, Option, Some, None, Result, Ok, Err, All}
-use Rattle.std.proofs.lemmas.List.{append-nil, length-append, length-map}
-use Rattle.std.proofs.lemmas.List.Sums.{sum_by-append, sum_by-cons}
-use Rattle.std.proofs.lemmas.List.Elements.{All-append, All-cons, All-head, All-map, All-nil, All-tail}
-use Rattle.mt_scaled.specs.Number.{Within}
-use Rattle.mt_scaled.specs.Results.{◌>>=◌}
-use Rattle.mt_family.specs.SetValue.{SetValue}
-use Rattle.mt_family.specs.Sets.{sy}
-use Rattle.mt_family.specs.declared.size.Size.TheVariants.{Text}
+use Rattle.std.proofs.Common.{◌≡◌, ℕ, ℤ, pos, ◌+◌, ◌≤◌, ◌^◌, List, [], ◌∷◌, ◌++◌, length, refl, sym, ◌∙◌, ap, subst, arith, append_assoc, Bool, Option, Some, None, Result, Ok, Err, All}
+use Rattle.mt_pages.proofs.Common.{append-nil, sum_by-append, sum_by-cons, All-append, All-map, All-nil, Within, ◌>>=◌, SetValue, sy, Text, PieceValue, pack, formula_weight, page_weight, Formula, D, T, Sequence, Setting, PlaceHolds, RowHolds, LineStack, NumberValue, display_lines, one_line, IsStack, line_boxes, LineValue, inline_lines, line_values, LineHas, NumberHas, display_has, inline_has, made_then, displayed_lines, formula_lines, formula_row, number_row, set_by, text_lines, PageLinesValue, no_lines, page_lines, with_formula_lines, IsPure, Status}
+use Rattle.std.proofs.lemmas.List.{length-append}
 use Rattle.mt_box.specs.Extents.{first_out}
-use Rattle.mt_box.specs.Rows.{PieceValue, pack}
-use Rattle.mt_reader.specs.Weights.{formula_weight, page_weight}
-use Rattle.mt_rules.specs.declared.document.Formula.{Formula}
 use Rattle.mt_rules.specs.declared.document.Tag.{Tag}
-use Rattle.mt_rules.specs.declared.style.Style.TheVariants.{D, T}
-use Rattle.mt_rules.specs.Sequence.{Sequence}
-use Rattle.mt_rules.specs.Setting.{Setting}
-use Rattle.mt_convert.specs.Holding.{PlaceHolds, RowHolds}
 use Rattle.mt_display.specs.declared.line.Line.{Line as LineFields}
-use Rattle.mt_display.specs.declared.line_stack.LineStack.{LineStack}
-use Rattle.mt_display.specs.Displays.{NumberValue, display_lines, one_line}
-use Rattle.mt_display.specs.LineStack.{IsStack, line_box, line_boxes}
-use Rattle.mt_display.specs.Lines.{LineValue, inline_lines, line_value, line_values}
-use Rattle.mt_display.proofs.PagePlaces.{LineHas, NumberHas, display_has, inline_has, made_then}
-use Rattle.mt_pages.specs.FormulaLines.{displayed_lines, formula_lines, formula_row, number_row, set_by, text_lines}
-use Rattle.mt_pages.specs.Pages.{PageLinesValue, no_lines, page_lines, with_formula_lines}
+use Rattle.mt_display.proofs.LineStacks.{boxes_length}
+use Rattle.mt_display.proofs.TakenLines.{lines_length, small_values}
 use Rattle.mt_pages.specs.inner.Lines.{AreLaid, IsPage, IsStackable, LinesHold, LinesPut, PageSet, PutsFor, RowPut, SetsLines}
 use Rattle.mt_pages.specs.declared.page_lines.PageLines.{PageLines}
 use Rattle.mt_pages.proofs.DocumentLemmas.{page_err, page_next}
 use Rattle.mt_pages.proofs.PageLemmas.{places_still, row_has}
-use Rattle.mt_status.specs.Origins.{IsPure}
-use Rattle.mt_status.specs.declared.status.Status.{Status}
 
 -- ---- rows
 
 pub stack_count : (lines : List LineValue) (s : LineStack) → IsStack lines [] s → length lines ≡ length s.pieces
-stack_count lines s on = sym (ap length (on.pieces ∙ append-nil (line_boxes lines)) ∙ length-map lines line_box)
+stack_count lines s on = sym (ap length (on.pieces ∙ append-nil (line_boxes lines)) ∙ boxes_length lines)
 
 -- a row behind the lines
 pub row_behind_lines : (lines : List LineValue) (before row : List PieceValue) (old new : LineStack) → IsStack lines before old → new.pieces ≡ old.pieces ++ row → new.shifts ≡ old.shifts → IsStack lines (before ++ row) new
@@ -106,20 +85,10 @@ module _ {U : Type 0} (r : Result U Status) (set : SetValue) (n : ℕ) (list : S
 
 -- ---- the line of a display of several lines
 
-values_small : (ls : List LineFields) → All (λ (l : LineFields). Within (2 ^ 40) l.shift) ls → All (λ (l : LineValue). Within (2 ^ 40) l.shift) (line_values ls)
-values_small [] small = All-nil (λ (l : LineValue). Within (2 ^ 40) l.shift)
-values_small (l ∷ ls) small =
-    let P = λ (l : LineFields). Within (2 ^ 40) l.shift in
-    All-cons (λ (l : LineValue). Within (2 ^ 40) l.shift) (line_value l) (line_values ls) (All-head P l ls small) (values_small ls (All-tail P l ls small))
-
-values_length : (ls : List LineFields) → length (line_values ls) ≡ length ls
-values_length [] = refl
-values_length (l ∷ ls) = ap (λ (n : ℕ). suc n) (values_length ls)
-
 -- a line that was made
 pub line_put : (set : SetValue) (lines : List LineValue) (ls : List LineFields) (s : LineStack) (answer : Result (List LineValue) Status) → answer ≡ Ok (line_values ls) → length ls ≡ 1
     → All (λ (l : LineFields). Within (2 ^ 40) l.shift) ls → LinesHold set (line_values ls) → IsStack (lines ++ line_values ls) [] s → LinesPut set 1 lines s answer
-line_put set lines ls s answer is one small hold on = record { added = line_values ls; is = is; stack = on; laid = record { few = omega (arith, one, values_length ls); shifts = values_small ls small; hold = hold } }
+line_put set lines ls s answer is one small hold on = record { added = line_values ls; is = is; stack = on; laid = record { few = omega (arith, one, lines_length ls); shifts = small_values ls small; hold = hold } }
 
 -- ---- the lines of a page
 

@@ -1,11 +1,7 @@
 -- Lines of the listing, one after another.
-use Rattle.std.proofs.Common.{◌≡◌, ◌∙◌, ℕ, suc, ◌+◌, ◌<◌, ◌≤◌, Bool, List, [], ◌∷◌, ◌++◌, length, get_or, take, sym, ap, subst, append_assoc, arith}
-use Rattle.std.specs.Prelude.{Result, Ok, Err, OnOk, codes, cond, count_by}
-use Rattle.std.proofs.lemmas.List.Sums.{sum_by-append}
-use Rattle.std.proofs.lemmas.List.{append-nil, length-append, take_all, take_more}
-use Rattle.mt_box.specs.declared.place.Place.{Place}
-use Rattle.mt_dvi.specs.WrittenPlaces.{all_places}
-use Rattle.mt_pages.specs.Listing.{is_glyph_place, is_rule_place, listing, number_line, page_text, pages_text}
+use Rattle.std.proofs.Common.{◌≡◌, ◌∙◌, ℕ, suc, ◌+◌, ◌<◌, ◌≤◌, Bool, List, [], ◌∷◌, ◌++◌, length, get_or, take, sym, ap, subst, append_assoc, arith, Result, Ok, Err, OnOk, codes, cond, count_by}
+use Rattle.mt_pages.proofs.Common.{sum_by-append, append-nil, take_all, take_more, Place, all_places, is_glyph_place, is_rule_place, listing, number_line, page_text, pages_text}
+use Rattle.std.proofs.lemmas.List.{length-append}
 use Rattle.mt_pages.specs.inner.Texts.{AreCountsOf, IsListingOf}
 use Rattle.mt_pages.specs.declared.listings.ListingText.{ListingText}
 use Rattle.mt_pages.specs.declared.summaries.Counts.{Counts}

@@ -1,22 +1,10 @@
 -- The places of a page can be written, and they are not too many.
-use Rattle.std.proofs.Common.{◌≡◌, ℕ, ◌+◌, ◌-◌, ◌≤◌, List, [], ◌∷◌, ◌++◌, length, sym, ◌∙◌, ap, subst, arith}
-use Rattle.std.specs.Prelude.{Option, Ok, All, IsSomeAnd}
-use Rattle.std.proofs.lemmas.List.{append-nil, append_assoc, length-append}
-use Rattle.std.proofs.lemmas.List.Elements.{All-cons, All-head, All-nil, All-tail}
+use Rattle.std.proofs.Common.{◌≡◌, ℕ, ◌+◌, List, [], ◌∷◌, ◌++◌, length, sym, ◌∙◌, ap, subst, Option, Ok, All, IsSomeAnd}
+use Rattle.mt_pages.proofs.Common.{append-nil, All-cons, All-nil, SetValue, PieceValue, PieceGlyph, PieceBox, PieceKern, PieceSpace, Place, Glyph, Rule, HasGlyph, IsWritable, all_places, LineValue, stacked_lines, LineHas, page_has, PlaceHolds, PieceHolds, RowHolds}
+use Rattle.std.proofs.lemmas.List.{append_assoc, length-append}
 use Rattle.mt_tfm.specs.Font.{Metrics}
-use Rattle.mt_family.specs.SetValue.{SetValue}
-use Rattle.mt_box.specs.Rows.{PieceValue, PieceGlyph, PieceBox, PieceKern, PieceSpace}
 use Rattle.mt_box.proofs.Room.{PlaceInRange}
 use Rattle.mt_box.proofs.Still.{IsStill, PieceHas}
-use Rattle.mt_box.specs.declared.place.Place.{Place}
-use Rattle.mt_box.specs.declared.place.Place.TheVariants.{Glyph, Rule}
-use Rattle.mt_dvi.specs.Writable.{HasGlyph, IsWritable}
-use Rattle.mt_dvi.specs.WrittenPlaces.{all_places}
-use Rattle.mt_dvi.specs.Limits.{max_places}
-use Rattle.mt_display.specs.Lines.{LineValue}
-use Rattle.mt_display.specs.Stack.{stacked_lines}
-use Rattle.mt_display.proofs.PagePlaces.{LineHas, page_has}
-use Rattle.mt_convert.specs.Holding.{PlaceHolds, PieceHolds, RowHolds}
 use Rattle.mt_convert.proofs.holds.Boxes.{all_places_hold}
 
 -- that a glyph exists and that a rule marks something does not depend on where it is
@@ -51,22 +39,12 @@ place_writable set (Rule h v height width) holds near = record {
   wide = holds.wide;
 }
 
-pub places_writable : (set : SetValue) (ps : List Place) → All (PlaceHolds set) ps → All PlaceInRange ps → All (IsWritable set) ps
-places_writable set [] holds near = All-nil (IsWritable set)
-places_writable set (p ∷ ps) holds near =
-    All-cons (IsWritable set) p ps (place_writable set p (All-head (PlaceHolds set) p ps holds) (All-head PlaceInRange p ps near))
-    (places_writable set ps (All-tail (PlaceHolds set) p ps holds) (All-tail PlaceInRange p ps near))
-
 pub all_places_append : (pages : List (List Place)) (page : List Place) → all_places (pages ++ page ∷ []) ≡ all_places pages ++ page
 all_places_append [] page = append-nil page
 all_places_append (p ∷ ps) page = ap (λ (l : List Place). p ++ l) (all_places_append ps page) ∙ sym (append_assoc p (all_places ps) page)
 
--- one page more, and so much less room
-pub less_room : (pages : List (List Place)) (page : List Place) (room : ℕ) → length page ≤ room → length (all_places pages) + room ≡ max_places
-    → length (all_places (pages ++ page ∷ [])) + (room - length page) ≡ max_places
-less_room pages page room fits full =
-    let more : length (all_places (pages ++ page ∷ [])) ≡ length (all_places pages) + length page = ap length (all_places_append pages page) ∙ length-append (all_places pages) page in
-    omega (arith, more, fits, full)
+pub all_places_length : (pages : List (List Place)) (page : List Place) → length (all_places (pages ++ page ∷ [])) ≡ length (all_places pages) + length page
+all_places_length pages page = ap length (all_places_append pages page) ∙ length-append (all_places pages) page
 
 -- the places of lines that hold can be written
 pub stacked_writable : (set : SetValue) (room : ℕ) (lines : List LineValue) (page : List Place) → All (LineHas (PlaceHolds set)) lines → stacked_lines room lines ≡ Ok page → All (IsWritable set) page

@@ -1,118 +1,22 @@
 -- Pages that are set and placed one after another, with the first fault held back.
-use Rattle.std.proofs.Common.{◌≡◌, ℕ, ◌+◌, ◌-◌, ◌≤◌, true, false, List, [], ◌∷◌, ◌++◌, length, refl, sym, ◌∙◌, ap, subst, arith}
-use Rattle.std.specs.Prelude.{ℤ, Option, Some, None, Result, Ok, Err, All, IfOk, IfSome, IsErr, nat_lt}
+use Rattle.std.proofs.Common.{◌≡◌, ℕ, ◌+◌, ◌≤◌, false, List, [], ◌∷◌, ◌++◌, length, refl, sym, ◌∙◌, ap, subst, arith, ℤ, Option, Some, None, Result, Ok, Err, All, IfSome, nat_lt}
+use Rattle.mt_pages.proofs.Common.{All-append, All-cons, All-nil, append-nil, count_by-le-length, ◌>>=◌, Token, SetValue, units_of, Place, max_dvi_pages, max_places, IsWritable, all_places, plain_codes, plain_table, Formula, document, CanGoOn, GoesOn, IsBounded, IsNextPage, IsReadOf, left_to_read, document_from, document_of, document_pages, source_pages, is_glyph_place, is_rule_place, IsPure, Origin, PureBy, Status, pure_err}
 use Rattle.std.proofs.lemmas.Bool.Decides.{nat_tests}
-use Rattle.std.proofs.lemmas.List.Elements.{All-append, All-cons, All-nil}
-use Rattle.std.proofs.lemmas.List.{append-nil, append_assoc, length-append}
-use Rattle.std.proofs.lemmas.List.Sums.{count_by-le-length}
-use Rattle.mt_scaled.specs.Results.{◌>>=◌}
-use Rattle.mt_token.specs.declared.token.Token.{Token}
-use Rattle.mt_family.specs.SetValue.{SetValue}
-use Rattle.mt_family.specs.Sets.{units_of}
-use Rattle.mt_box.specs.declared.place.Place.{Place}
+use Rattle.std.proofs.lemmas.List.{append_assoc, length-append}
 use Rattle.mt_dvi.specs.FileOf.{CanTake, IsFileOf}
-use Rattle.mt_dvi.specs.Limits.{max_dvi_pages, max_places}
 use Rattle.mt_dvi.specs.Refusal.{refusal_of}
-use Rattle.mt_dvi.specs.Writable.{IsWritable}
 use Rattle.mt_dvi.specs.declared.file.DviFile.{DviFile}
-use Rattle.mt_dvi.specs.WrittenPlaces.{all_places}
-use Rattle.mt_plain.specs.CodeTables.{plain_codes}
-use Rattle.mt_plain.specs.PlainMacros.{plain_table}
-use Rattle.mt_rules.specs.declared.document.Formula.{Formula}
-use Rattle.mt_reader.specs.Documents.{document}
-use Rattle.mt_reader.specs.Limits.{max_document_pages}
-use Rattle.mt_reader.specs.PageReading.{CanGoOn, GoesOn, IsBounded, IsNextPage, IsReadOf, left_to_read}
 use Rattle.mt_scaled.specs.declared.unit.Units.{Units}
 use Rattle.mt_reader.specs.declared.page_reader.PageReader.{PageReader}
-use Rattle.mt_pages.specs.Documents.{document_from, document_of}
-use Rattle.mt_pages.specs.Pages.{PageLinesValue, document_pages, no_lines, page_lines, page_places, source_pages}
-use Rattle.mt_pages.specs.Listing.{is_glyph_place, is_rule_place}
-use Rattle.mt_pages.specs.inner.Texts.{AreCountsOf, HasRoom, IsListingOf}
-use Rattle.mt_pages.specs.declared.listings.ListingText.{ListingText}
+use Rattle.mt_pages.specs.inner.Texts.{AreCountsOf, HasRoom}
 use Rattle.mt_pages.specs.declared.summaries.Counts.{Counts}
-use Rattle.mt_pages.specs.inner.SetPages.{AreFormulasOf, ArePagesOf, AreTokensOf, GoesOnAfter, IsNextOf, SetsPage, IsTold, KeepsPlaces, count_places, end_of, is_nothing, is_setting, rest_after, rest_pages, append_page}
+use Rattle.mt_pages.specs.inner.Added.{AreFit, CanAdd}
+use Rattle.mt_pages.specs.inner.SetPages.{AreFormulasOf, ArePagesOf, AreTokensOf, GoesOnAfter, IsNextOf, SetsPage, IsTold, KeepsPlaces, count_places, end_of, rest_after, rest_pages, append_page}
 use Rattle.mt_pages.specs.declared.pages.FirstFault.{FirstFault}
 use Rattle.mt_pages.specs.declared.pages.FirstFault.TheVariants.{Nothing, Place as HeldPlace, Setting as HeldSetting}
 use Rattle.mt_pages.specs.declared.pages.PageSetter.{PageSetter}
-use Rattle.mt_pages.proofs.DocumentLemmas.{pages_err, pages_next, pages_start}
-use Rattle.mt_pages.proofs.PageLemmas.{all_places_append}
-use Rattle.mt_status.specs.Origins.{IsPure, Origin, PureBy, Told, refusal_origin}
-use Rattle.mt_status.specs.declared.status.Status.{Status}
-use Rattle.mt_status.proofs.PureLemmas.{pure_err}
-
--- ---- one page
-
-module _ (set : SetValue) (width : ℤ) (page : List Formula) where
-  held_on : (lines : PageLinesValue) (room : ℕ) (held : FirstFault) (pages : List (List Place)) (rest : List (List Formula)) → page_lines set width no_lines page ≡ Ok lines → is_nothing held ≡ false
-      → rest_after set width pages room held (page ∷ rest) ≡ rest_after set width pages room held rest
-  held_on lines room Nothing pages rest lined some = absurd (cc)
-  held_on lines room (HeldPlace status) pages rest lined some = pages_next set width (Err status) page rest lines lined
-  held_on lines room (HeldSetting status) pages rest lined some = refl
-
-  -- no place is found after a fault
-  pub held_placed : (lines : PageLinesValue) (s : PageSetter) → page_lines set width no_lines page ≡ Ok lines → is_nothing s.held ≡ false → SetsPage set width page s s None
-  held_placed lines s lined some = record { is = λ pages rest. held_on lines s.room s.held pages rest lined some; told = λ told. told; room = omega arith }
-
-  nothing_held : (held : FirstFault) → is_nothing held ≡ true → held ≡ Nothing
-  nothing_held Nothing none = refl
-  nothing_held (HeldPlace status) none = absurd (cc)
-  nothing_held (HeldSetting status) none = absurd (cc)
-
-  add_placed : (lines : PageLinesValue) (room : ℕ) (held : FirstFault) (pages : List (List Place)) (rest : List (List Formula)) (r : Result (List Place) Status) → page_lines set width no_lines page ≡ Ok lines → held ≡ Nothing
-      → page_places room lines ≡ r → rest_after set width pages room held (page ∷ rest) ≡ rest_pages set width (r >>= (λ places. Ok (record { pages = pages ++ places ∷ []; room = room - length places }))) rest
-  add_placed lines room held pages rest r lined none are =
-      ap (λ (h : FirstFault). rest_after set width pages room h (page ∷ rest)) none
-      ∙ (pages_next set width (Ok (record { pages = pages; room = room })) page rest lines lined
-      ∙ ap (λ (x : Result (List Place) Status). rest_pages set width (x >>= (λ places. Ok (record { pages = pages ++ places ∷ []; room = room - length places }))) rest) are)
-
-  -- the places of a page
-  pub placed : (lines : PageLinesValue) (old new : PageSetter) (places : List Place) → page_lines set width no_lines page ≡ Ok lines → is_nothing old.held ≡ true → new.held ≡ old.held
-      → page_places old.room lines ≡ Ok places → new.room ≡ old.room - length places → length places ≤ old.room → SetsPage set width page old new (Some places)
-  placed lines old new places lined none same are room few =
-      let nothing : old.held ≡ Nothing = nothing_held old.held none in
-      record {
-        is = λ pages rest.
-            add_placed lines old.room old.held pages rest (Ok places) lined nothing are
-            ∙ sym (ap (λ (h : FirstFault). rest_after set width (pages ++ places ∷ []) new.room h rest) (same ∙ nothing)
-            ∙ ap (λ (n : ℕ). rest_pages set width (Ok (record { pages = pages ++ places ∷ []; room = n })) rest) room);
-        told = λ told. subst IsTold (sym same) told;
-        room = omega (arith, room, few);
-      }
-
-  -- a place is at fault
-  pub place_refused : (lines : PageLinesValue) (old new : PageSetter) (status : Status) → page_lines set width no_lines page ≡ Ok lines → is_nothing old.held ≡ true → page_places old.room lines ≡ Err status
-      → refusal_origin status ≡ Told → new.held ≡ HeldPlace status → new.room ≡ old.room → SetsPage set width page old new None
-  place_refused lines old new status lined none are told held room = record {
-    is = λ pages rest.
-        add_placed lines old.room old.held pages rest (Err status) lined (nothing_held old.held none) are
-        ∙ sym (ap (λ (h : FirstFault). rest_after set width pages new.room h rest) held);
-    told = λ before. subst IsTold (sym held) told;
-    room = omega (arith, room);
-  }
-
-  setting_on : (room : ℕ) (held : FirstFault) (pages : List (List Place)) (rest : List (List Formula)) → is_setting held ≡ true → rest_after set width pages room held (page ∷ rest) ≡ rest_after set width pages room held rest
-  setting_on room Nothing pages rest some = absurd (cc)
-  setting_on room (HeldPlace status) pages rest some = absurd (cc)
-  setting_on room (HeldSetting status) pages rest some = refl
-
-  -- no formula is set after one that was not
-  pub held_set : (s : PageSetter) → is_setting s.held ≡ true → SetsPage set width page s s None
-  held_set s some = record { is = λ pages rest. setting_on s.room s.held pages rest some; told = λ told. told; room = omega arith }
-
-  refused_on : (room : ℕ) (held : FirstFault) (pages : List (List Place)) (rest : List (List Formula)) (status : Status) → page_lines set width no_lines page ≡ Err status → is_setting held ≡ false
-      → rest_after set width pages room held (page ∷ rest) ≡ Err status
-  refused_on room Nothing pages rest status refused some = pages_err set width (Ok (record { pages = pages; room = room })) page rest status refused
-  refused_on room (HeldPlace first) pages rest status refused some = pages_err set width (Err first) page rest status refused
-  refused_on room (HeldSetting first) pages rest status refused some = absurd (cc)
-
-  -- a formula is not set
-  pub set_refused : (old new : PageSetter) (status : Status) → page_lines set width no_lines page ≡ Err status → is_setting old.held ≡ false → refusal_origin status ≡ Told → new.held ≡ HeldSetting status → new.room ≡ old.room
-      → SetsPage set width page old new None
-  set_refused old new status refused some told held room = record {
-    is = λ pages rest. refused_on old.room old.held pages rest status refused some ∙ sym (ap (λ (h : FirstFault). rest_after set width pages new.room h rest) held);
-    told = λ before. subst IsTold (sym held) told;
-    room = omega (arith, room);
-  }
+use Rattle.mt_pages.proofs.DocumentLemmas.{pages_start}
+use Rattle.mt_pages.proofs.PageLemmas.{all_places_length}
 
 -- ---- the pages of a source
 
@@ -138,7 +42,7 @@ module _ (set : SetValue) (width : ℤ) (source : List ℕ) where
 
   with_room : (pages : List (List Place)) (places : Option (List Place)) (room new : ℕ) → length (all_places pages) + room ≡ max_places → count_places places + new ≡ room → length (all_places (append_page pages places)) + new ≡ max_places
   with_room pages None room new full less = omega (arith, full, less)
-  with_room pages (Some places) room new full less = omega (arith, full, less, ap length (all_places_append pages places), length-append (all_places pages) places)
+  with_room pages (Some places) room new full less = omega (arith, full, less, all_places_length pages places)
 
   -- one page more
   pub are_more : (tokens : List Token) (pages : List (List Place)) (read : List (List Formula)) (page : List Formula) (old mid new : PageSetter) (places : Option (List Place)) → AreTokensOf set source (Ok tokens)
@@ -227,13 +131,6 @@ pub source_err : (set : SetValue) (width : ℤ) (source : List ℕ) (status : St
 unfolding source_pages
 source_err set width source status is = pure_err (document_of set source) (document_pages set width) status is
 
-pub next_some : (set : SetValue) (width : ℤ) (source : List ℕ) (pages : List (List Place)) (new : PageSetter) (found : Option (List Place)) (places : List Place) → found ≡ Some places → IsNextOf set width source pages new (Ok found)
-    → ArePagesOf set width source (pages ++ places ∷ []) new
-next_some set width source pages new found places some is = subst (λ (o : Option (List Place)). IsNextOf set width source pages new (Ok o)) some is
-
-pub after_some : (set : SetValue) (old new : PageSetter) (found : Option (List Place)) (places : List Place) → found ≡ Some places → IfSome found (λ page. GoesOnAfter set old new page) → GoesOnAfter set old new places
-after_some set old new found places some is = subst (λ (o : Option (List Place)). IfSome o (λ page. GoesOnAfter set old new page)) some is
-
 pub next_none : (set : SetValue) (w v : ℤ) (source : List ℕ) (pages : List (List Place)) (new : PageSetter) (found : Option (List Place)) → w ≡ v → found ≡ None → IsNextOf set w source pages new (Ok found) → source_pages set v source ≡ Ok pages
 next_none set w v source pages new found e none is =
     subst (λ (x : ℤ). source_pages set x source ≡ Ok pages) e (subst (λ (o : Option (List Place)). IsNextOf set w source pages new (Ok o)) none is)
@@ -241,73 +138,67 @@ next_none set w v source pages new found e none is =
 pub next_refused : (set : SetValue) (w v : ℤ) (source : List ℕ) (status : Status) → w ≡ v → IsPure (source_pages set w source) (Err status) → IsPure (source_pages set v source) (Err status)
 next_refused set w v source status e is = subst (λ (x : ℤ). IsPure (source_pages set x source) (Err status)) e is
 
--- a page more can be written
-pub can_take : (set : SetValue) (width : ℤ) (source : List ℕ) (pages : List (List Place)) (places : List Place) (s : PageSetter) (file : DviFile) → ArePagesOf set width source (pages ++ places ∷ []) s
-    → s.reader.state.ended ≤ max_document_pages → All (IsWritable set) places → IsFileOf set pages file → CanTake set file places
-can_take set width source pages places s file are few writable file_of =
-    let more : length (all_places (pages ++ places ∷ [])) ≡ length (all_places pages) + length places = ap length (all_places_append pages places) ∙ length-append (all_places pages) places in
+-- ---- the pages that were added
+
+pub none_fit : (set : SetValue) → AreFit set []
+none_fit set = record { writable = All-nil (λ (page : List Place). All (IsWritable set) page); few = omega arith; few_places = omega arith }
+
+-- the pages that were handed out were added
+pub record AddedSoFar {S : Type 0} (set : SetValue) (width : ℤ) (source : List ℕ) (Has : List (List Place) → S → Type 0) (s : PageSetter) (sink : S) : Type 0 where
+  pub pages : List (List Place)
+  pub are : ArePagesOf set width source pages s
+  pub fit : AreFit set pages
+  pub has : Has pages sink
+
+-- a page that is handed out is the next one, and can be added
+pub record IsHandedOut (set : SetValue) (width : ℤ) (source : List ℕ) (pages : List (List Place)) (places : List Place) (s : PageSetter) : Type 0 where
+  pub are : ArePagesOf set width source (pages ++ places ∷ []) s
+  pub writable : All (IsWritable set) places
+  pub fit : AreFit set (pages ++ places ∷ [])
+  pub more : CanGoOn s.reader
+
+pub handed_out : (set : SetValue) (width : ℤ) (source : List ℕ) (pages : List (List Place)) (places : List Place) (old new : PageSetter) (found : Option (List Place)) → found ≡ Some places → AreFit set pages
+    → IsNextOf set width source pages new (Ok found) → IfSome found (λ page. GoesOnAfter set old new page) → IsHandedOut set width source pages places new
+handed_out set width source pages places old new found some fit next goes =
+    let every = λ (page : List Place). All (IsWritable set) page in
+    let are : ArePagesOf set width source (pages ++ places ∷ []) new = subst (λ (o : Option (List Place)). IsNextOf set width source pages new (Ok o)) some next in
+    let on : GoesOnAfter set old new places = subst (λ (o : Option (List Place)). IfSome o (λ page. GoesOnAfter set old new page)) some goes in
     record {
-      pages = pages;
-      file_of = file_of;
-      can = writable;
-      few_pages = omega (arith, few, are.few, length-append pages (places ∷ []));
-      few_places = omega (arith, more, are.room);
+      are = are;
+      writable = on.writable;
+      fit = record {
+        writable = All-append every pages (places ∷ []) fit.writable (All-cons every places [] on.writable (All-nil every));
+        few = omega (arith, are.few, on.pages);
+        few_places = omega (arith, are.room);
+      };
+      more = on.more;
     }
 
--- the pages that were handed out are written
-pub record IsFiled (set : SetValue) (width : ℤ) (source : List ℕ) (s : PageSetter) (file : DviFile) : Type 0 where
-  pub pages : List (List Place)
-  pub are : ArePagesOf set width source pages s
-  pub file_of : IsFileOf set pages file
-
-pub record IsListed (set : SetValue) (width : ℤ) (source : List ℕ) (s : PageSetter) (text : ListingText) : Type 0 where
-  pub pages : List (List Place)
-  pub are : ArePagesOf set width source pages s
-  pub few : length pages ≤ max_document_pages
-  pub listing : IsListingOf pages text
-
-pub record IsCounted (set : SetValue) (width : ℤ) (source : List ℕ) (s : PageSetter) (counts : Counts) : Type 0 where
-  pub pages : List (List Place)
-  pub are : ArePagesOf set width source pages s
-  pub few : length pages ≤ max_document_pages
-  pub counted : AreCountsOf pages counts
-
-pub few_more : (set : SetValue) (width : ℤ) (source : List ℕ) (pages : List (List Place)) (s : PageSetter) → ArePagesOf set width source pages s → s.reader.state.ended ≤ max_document_pages → length pages ≤ max_document_pages
-few_more set width source pages s are few = omega (arith, are.few, few)
-
-pub has_room : (set : SetValue) (width : ℤ) (source : List ℕ) (pages : List (List Place)) (s : PageSetter) (counts : Counts) → ArePagesOf set width source pages s → length pages ≤ max_document_pages → AreCountsOf pages counts → HasRoom counts
-has_room set width source pages s counts are few is = record {
-  pages = omega (arith, few, is.count);
-  glyphs = omega (arith, is.glyphs, count_by-le-length is_glyph_place (all_places pages), are.room);
-  rules = omega (arith, is.rules, count_by-le-length is_rule_place (all_places pages), are.room);
-}
-
--- the pages that were handed out can be written, and are few
-pub record AreFit (set : SetValue) (pages : List (List Place)) : Type 0 where
-  pub writable : All (λ (page : List Place). All (IsWritable set) page) pages
-  pub few : length pages ≤ max_document_pages
-
-pub none_fit : (set : SetValue) (pages : List (List Place)) → pages ≡ [] → AreFit set pages
-none_fit set pages e = subst (AreFit set) (sym e) (record { writable = All-nil (λ (page : List Place). All (IsWritable set) page); few = omega arith })
-
-pub more_fit : (set : SetValue) (width : ℤ) (source : List ℕ) (pages more : List (List Place)) (places : List Place) (s : PageSetter)
-    → AreFit set pages → All (IsWritable set) places → ArePagesOf set width source (pages ++ places ∷ []) s → s.reader.state.ended ≤ max_document_pages
-    → more ≡ pages ++ places ∷ [] → AreFit set more
-more_fit set width source pages more places s fit writable are few e =
-    let every = λ (page : List Place). All (IsWritable set) page in
-    subst (AreFit set) (sym e) (record {
-      writable = All-append every pages (places ∷ []) fit.writable (All-cons every places [] writable (All-nil every));
-      few = few_more set width source (pages ++ places ∷ []) s are few;
-    })
-
--- they are not refused
-pub fit_none_refused : (set : SetValue) (width : ℤ) (source : List ℕ) (pages : List (List Place)) (s : PageSetter)
-    → AreFit set pages → ArePagesOf set width source pages s → refusal_of pages ≡ None
-fit_none_refused set width source pages s fit are =
+-- pages that can be added are not refused
+pub fit_none_refused : (set : SetValue) (pages : List (List Place)) → AreFit set pages → refusal_of pages ≡ None
+fit_none_refused set pages fit =
     let pages_in : nat_lt max_dvi_pages (length pages) ≡ false = grind (arith, nat_tests, fit.few) in
-    let places_in : nat_lt max_places (length (all_places pages)) ≡ false = grind (arith, nat_tests, are.room) in
+    let places_in : nat_lt max_places (length (all_places pages)) ≡ false = grind (arith, nat_tests, fit.few_places) in
     rw (pages_in, places_in) refl
 
-pub ok_of_err : {T E : Type 0} (r : Result T E) (P : T → Type 0) → IsErr r → IfOk r P
-ok_of_err (Ok x) P is = absurd (cc)
-ok_of_err (Err e) P is = tt
+-- a page more can be written
+pub can_take : (set : SetValue) (file : DviFile) (page : List Place) → CanAdd set (λ (pages : List (List Place)) (f : DviFile). IsFileOf set pages f) file page → CanTake set file page
+can_take set file page can =
+    let more = all_places_length can.pages page in
+    record {
+      pages = can.pages;
+      file_of = can.has;
+      can = can.writable;
+      few_pages = omega (arith, can.fit.few, length-append can.pages (page ∷ []));
+      few_places = omega (arith, more, can.fit.few_places);
+    }
+
+-- and counted
+pub has_room : (set : SetValue) (counts : Counts) (page : List Place) → CanAdd set AreCountsOf counts page → HasRoom counts
+has_room set counts page can =
+    let more = all_places_length can.pages page in
+    record {
+      pages = omega (arith, can.has.count, can.fit.few, length-append can.pages (page ∷ []));
+      glyphs = omega (arith, can.has.glyphs, count_by-le-length is_glyph_place (all_places can.pages), more, can.fit.few_places);
+      rules = omega (arith, can.has.rules, count_by-le-length is_rule_place (all_places can.pages), more, can.fit.few_places);
+    }

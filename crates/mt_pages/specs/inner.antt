@@ -6,3 +6,5 @@ pub mod Placed
 pub mod SetPages
 -- texts to which pages are added
 pub mod Texts
+-- pages that are added to what is made of them
+pub mod Added

@@ -49,13 +49,6 @@ fn formula_box(
     }
 }
 
-fn push_to<T: Drop>(items: &mut Vec<T>, item: T) -> Result<(), AllocError>
-    ensures { OnOk result (items.new.items ≡ items.old.items ++ item ∷ []) }
-{
-    items.push(item)?;
-    Ok(())
-}
-
 // The boxes of an equation of formula n, and that of its number.
 fn set_equation(
     pieces: &mut Pieces,
@@ -100,7 +93,7 @@ fn set_equations(
     let mut rows = Vec::with_capacity(alloc, equations.len())?;
     for equation in equations.into_vec() {
         let row = set_equation(pieces, arena, alloc, fonts, n, equation)?;
-        push_to(&mut rows, row)?;
+        rows.push(row)?;
     }
     Ok(Items::from_vec(rows))
 }
@@ -123,7 +116,7 @@ fn set_rows(
     let mut boxes = Vec::with_capacity(alloc, rows.len())?;
     for list in rows.into_vec() {
         let row = formula_box(pieces, arena, alloc, fonts, n, Style::D, list)?;
-        push_to(&mut boxes, row)?;
+        boxes.push(row)?;
     }
     Ok(Items::from_vec(boxes))
 }

@@ -3,7 +3,7 @@ ghost use Rattle.std.specs.Prelude.{◌≡◌, ◌≤◌, ◌^◌, [], Err, IfSo
 ghost use Rattle.mt_box.specs.Layout.{Layout};
 ghost use Rattle.mt_box.specs.Rows.{PieceValue};
 ghost use Rattle.mt_convert.specs.Calls.{SetFails};
-ghost use Rattle.mt_display.specs.LineStack.{IsStack, PutsLines, is_left};
+ghost use Rattle.mt_display.specs.LineStack.{IsStack, PutsLines};
 ghost use Rattle.mt_display.specs.Lines.{LineValue, LinesAnswer};
 ghost use Rattle.mt_display.specs.declared.line_stack.LineStack.{LineStack as LineStackFields};
 ghost use Rattle.mt_pieces.specs.Putting.{PacksPieces, boxed_on};
@@ -123,16 +123,6 @@ fn text_lines(
     put_for(n, lines.put_inline(first))
 }
 
-fn side_of(left: bool) -> NumberSide
-    ensures { is_left result ≡ left }
-{
-    if left {
-        NumberSide::Left
-    } else {
-        NumberSide::Right
-    }
-}
-
 // The lines of a displayed list and its number.
 fn displayed_lines(
     space: &mut Workspace,
@@ -156,7 +146,7 @@ fn displayed_lines(
         return put_for(n, lines.put_display(fonts, first, width));
     };
     let end = lines.pieces.len();
-    let side = side_of(tag.left);
+    let side = NumberSide::of(tag.left);
     put_row(
         &mut lines.pieces,
         arena,

@@ -6,7 +6,7 @@ ghost use Rattle.mt_status.specs.declared.status.Status.TheVariants.{BadFormula}
 
 /// A source that is refused at a formula, or at a token outside of formulas, is refused for a cause
 /// that has a number: 0 is the number of none.
-#[tactic(auto, using(crate::proofs::Causes::source_has_cause))]
+#[tactic(auto, using(crate::proofs::PageRefusals::source_has_cause))]
 pub fn refused_formula_has_a_cause()
     ensures { (set : SetValue) → (width : ℤ) → (source : List ℕ) → (n token : ℕ)
         → source_pages set width source ≡ Err (BadFormula n token 0) → ⊥ }

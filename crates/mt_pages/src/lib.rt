@@ -7,6 +7,7 @@ mod formula_lines;
 mod laws;
 mod listings;
 mod page_lines;
+mod page_sink;
 mod pages;
 mod source;
 mod summaries;

@@ -4,8 +4,10 @@ ghost use Rattle.mt_box.specs.declared.place.Place.{Place as PlaceFields};
 ghost use Rattle.mt_pages.specs.Listing.{listing, page_text, place_line};
 ghost use Rattle.mt_pages.specs.inner.Texts.{IsListingOf};
 
+use crate::page_sink::PageSink;
 use crate::text_line::{push_number, push_number_line};
-use mt_box::{PageList, Place};
+use mt_box::{PageList, Place, PlaceList};
+use mt_family::FontSet;
 use mt_scaled::{Bytes, Items};
 use std::alloc::{AllocError, Global};
 
@@ -102,6 +104,14 @@ impl ListingText {
         let mut out = self.out;
         push_number_line(&mut out, b"pages", self.pages as u128)?;
         Ok(Items::from_vec(out))
+    }
+}
+
+impl PageSink for ListingText {
+    ghost HasPages = { λ _ pages text. IsListingOf pages text };
+
+    fn add(&mut self, _: &FontSet, page: PlaceList) -> Result<(), AllocError> {
+        self.add_page(page.as_slice())
     }
 }
 

@@ -1,5 +1,6 @@
 //! A source that is set: its DVI file, its pages, its listing, its summary.
 ghost use Rattle.std.specs.Prelude.{◌≡◌, ◌++◌, ◌∷◌, [], All, IfOk, None, OnOk};
+ghost use Rattle.mt_dvi.specs.FileOf.{IsFileOf};
 ghost use Rattle.mt_dvi.specs.Refusal.{refusal_of};
 ghost use Rattle.mt_dvi.specs.Writable.{IsWritable};
 ghost use Rattle.mt_pages.specs.LineWidth.{IsLineWidth};
@@ -7,9 +8,8 @@ ghost use Rattle.mt_status.specs.Origins.{IsPure};
 ghost use Rattle.mt_pages.specs.Output.{IsFileOfSource, listed, summed_up};
 ghost use Rattle.mt_pages.specs.Pages.{source_pages};
 
-use crate::document::tokens_of;
 use crate::listings::ListingText;
-use crate::pages::PageSetter;
+use crate::page_sink::{PageSink, add_pages};
 use crate::summaries::Counts;
 use mt_box::{PageList, PlaceList};
 use mt_dvi::{DviBytes, DviFile};
@@ -18,12 +18,20 @@ use mt_scaled::{Bytes, Items};
 use mt_status::Status;
 use std::alloc::{AllocError, Global};
 
+impl PageSink for DviFile {
+    ghost HasPages = { λ fonts pages file. IsFileOf fonts pages file };
+
+    fn add(&mut self, fonts: &FontSet, page: PlaceList) -> Result<(), AllocError> {
+        self.add_page(fonts, page.as_slice())
+    }
+}
+
 /// The DVI file of a source of at most 4,194,304 bytes, set in these fonts on lines of `width` scaled points. A page is
 /// written as soon as it is set.
 ///
 /// # Errors
 ///
-/// The first fault of the source, as [`tokens_of`] and [`PageSetter::next_page`] say.
+/// The first fault of the source, as [`add_pages`] says.
 pub fn source_file(
     alloc: Global,
     fonts: &FontSet,
@@ -33,20 +41,18 @@ pub fn source_file(
     requires width { IsLineWidth width }
     ensures is { IsFileOfSource fonts.now (source_pages fonts.now width source.now) result }
 {
-    let tokens = tokens_of(alloc, source)?;
-    let mut setter = PageSetter::new(alloc, tokens.as_slice())?;
     let mut file = DviFile::new(alloc, fonts)?;
-    while let Some(places) = setter.next_page(alloc, fonts, width)? {
-        file.add_page(fonts, places.as_slice())?;
-    }
+    add_pages(&mut file, alloc, fonts, width, source)?;
     Ok(file.finish(fonts)?)
 }
 
-fn push_page(pages: &mut Vec<PlaceList>, places: PlaceList) -> Result<(), AllocError>
-    ensures { OnOk result (pages.new.items ≡ pages.old.items ++ places ∷ []) }
-{
-    pages.push(places)?;
-    Ok(())
+impl PageSink for Vec<PlaceList> {
+    ghost HasPages = { λ _ pages list. list.items ≡ pages };
+
+    fn add(&mut self, _: &FontSet, page: PlaceList) -> Result<(), AllocError> {
+        self.push(page)?;
+        Ok(())
+    }
 }
 
 /// The pages of a source, as [`source_file`] writes them.
@@ -65,16 +71,12 @@ pub fn source_pages(
     ensures writable { IfOk result (λ pages. All (λ page. All (IsWritable fonts.now) page) pages) }
     ensures few_places { IfOk result (λ pages. refusal_of pages ≡ None) }
 {
-    let tokens = tokens_of(alloc, source)?;
-    let mut setter = PageSetter::new(alloc, tokens.as_slice())?;
     let mut pages = Vec::new(alloc);
-    while let Some(places) = setter.next_page(alloc, fonts, width)? {
-        push_page(&mut pages, places)?;
-    }
+    add_pages(&mut pages, alloc, fonts, width, source)?;
     Ok(Items::from_vec(pages))
 }
 
-/// The listing of the same pages.
+/// The listing of the pages of a source, as [`listing`](crate::listing) says.
 ///
 /// # Errors
 ///
@@ -88,16 +90,12 @@ pub fn source_listing(
     requires width { IsLineWidth width }
     ensures is { IsPure (listed (source_pages fonts.now width source.now)) result }
 {
-    let tokens = tokens_of(alloc, source)?;
-    let mut setter = PageSetter::new(alloc, tokens.as_slice())?;
     let mut text = ListingText::new(alloc);
-    while let Some(places) = setter.next_page(alloc, fonts, width)? {
-        text.add_page(places.as_slice())?;
-    }
+    add_pages(&mut text, alloc, fonts, width, source)?;
     Ok(text.finish()?)
 }
 
-/// The summary of the same pages, which so many formulas gave.
+/// The summary of the pages of a source, which so many formulas gave, as [`summary`](crate::summary) says.
 ///
 /// # Errors
 ///
@@ -112,11 +110,7 @@ pub fn source_summary(
     requires width { IsLineWidth width }
     ensures is { IsPure (summed_up formulas (source_pages fonts.now width source.now)) result }
 {
-    let tokens = tokens_of(alloc, source)?;
-    let mut setter = PageSetter::new(alloc, tokens.as_slice())?;
     let mut counts = Counts::new();
-    while let Some(places) = setter.next_page(alloc, fonts, width)? {
-        counts.add_page(places.as_slice());
-    }
+    add_pages(&mut counts, alloc, fonts, width, source)?;
     Ok(counts.text(alloc, formulas)?)
 }

@@ -5,8 +5,10 @@ ghost use Rattle.mt_dvi.specs.WrittenPlaces.{all_places};
 ghost use Rattle.mt_pages.specs.Listing.{is_glyph_place, is_rule_place, summary};
 ghost use Rattle.mt_pages.specs.inner.Texts.{AreCountsOf, GrowsByPage, HasRoom};
 
+use crate::page_sink::PageSink;
 use crate::text_line::push_number_line;
-use mt_box::{PageList, Place};
+use mt_box::{PageList, Place, PlaceList};
+use mt_family::FontSet;
 use mt_scaled::{Bytes, Items};
 use std::alloc::{AllocError, Global};
 
@@ -72,6 +74,15 @@ impl Counts {
         push_number_line(&mut out, b"glyphs", self.glyphs)?;
         push_number_line(&mut out, b"rules", self.rules)?;
         Ok(Items::from_vec(out))
+    }
+}
+
+impl PageSink for Counts {
+    ghost HasPages = { λ _ pages counts. AreCountsOf pages counts };
+
+    fn add(&mut self, _: &FontSet, page: PlaceList) -> Result<(), AllocError> {
+        self.add_page(page.as_slice());
+        Ok(())
     }
 }
 

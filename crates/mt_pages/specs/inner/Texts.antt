@@ -1,5 +1,5 @@
 -- Texts to which pages are added: a listing (`IsListingOf`) and the counts of a summary (`AreCountsOf`).
-use Rattle.std.specs.Prelude.{◌≡◌, ◌≤◌, ◌<◌, ◌+◌, ◌-◌, ◌^◌, List, length, count_by}
+use Rattle.std.specs.Prelude.{◌≡◌, ◌<◌, ◌+◌, ◌-◌, ◌^◌, List, length, count_by}
 use Rattle.mt_box.specs.declared.place.Place.{Place}
 use Rattle.mt_dvi.specs.WrittenPlaces.{all_places}
 use Rattle.mt_pages.specs.Listing.{is_glyph_place, is_rule_place, pages_text}

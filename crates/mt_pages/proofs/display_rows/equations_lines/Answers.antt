@@ -1,6 +1,5 @@
 use Rattle.std.proofs.Common.{map, refl, to_z-of_z}
-use Rattle.mt_display.specs.DisplayLines.{equation_layout}
-use Rattle.mt_display.specs.declared.line_stack.LineStack.{LineStack}
+use Rattle.mt_pages.proofs.Common.{equation_layout, LineStack}
 use Rattle.mt_pages.proofs.DisplayLemmas.{equations_put}
 use Rattle.mt_pages.proofs.display_rows.equations_lines.Goals as goal
 

@@ -1,7 +1,5 @@
-use Rattle.std.proofs.Common.{subst, sym, pos, arith, drop, ap, ◌∙◌}
-use Rattle.std.specs.Prelude.{Ok}
-use Rattle.mt_box.specs.Layout.{Layout}
-use Rattle.mt_rules.specs.Setting.{pack_row}
+use Rattle.std.proofs.Common.{subst, sym, pos, arith, drop, ap, ◌∙◌, Ok}
+use Rattle.mt_pages.proofs.Common.{Layout, pack_row}
 use Rattle.mt_pages.proofs.DisplayLemmas.{BoxMade, formula_boxed, formula_not_boxed}
 use Rattle.mt_pages.specs.inner.Lines.{BoxHolds}
 use Rattle.mt_pages.proofs.display_rows.formula_box.Goals as goal

@@ -1,6 +1,5 @@
 use Rattle.std.proofs.Common.{map, refl, to_z-of_z}
-use Rattle.mt_box.specs.Layout.{layout_of}
-use Rattle.mt_display.specs.declared.line_stack.LineStack.{LineStack}
+use Rattle.mt_pages.proofs.Common.{layout_of, LineStack}
 use Rattle.mt_pages.proofs.DisplayLemmas.{rows_put}
 use Rattle.mt_pages.proofs.display_rows.rows_lines.Goals as goal
 

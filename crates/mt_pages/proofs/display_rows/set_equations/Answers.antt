@@ -1,9 +1,5 @@
 use Rattle.std.proofs.Common.{refl, subst, sym, arith, ◌∙◌}
-use Rattle.std.proofs.lemmas.Result.{err_from_is_err_and}
-use Rattle.mt_box.proofs.Lists.{no_more}
-use Rattle.mt_formula.specs.Counts.{AreModestEquations}
-use Rattle.mt_display.specs.DisplayLines.{equation_layout, equation_level}
-use Rattle.mt_pages.specs.FormulaLines.{equation_boxes}
+use Rattle.mt_pages.proofs.Common.{err_from_is_err_and, no_more, AreModestEquations, equation_layout, equation_level, equation_boxes}
 use Rattle.mt_pages.specs.inner.Lines.{EquationHolds}
 use Rattle.mt_pages.proofs.DisplayLemmas.{rows_start, rows_next, rows_err, rows_done}
 use Rattle.mt_pages.proofs.display_rows.set_equations.Goals as goal
@@ -34,7 +30,7 @@ loop-equation-preserved c =
       tt,
       tt,
       rows_next (equation_boxes c.args.fonts.now c.args.n) equation_layout equation_level (EquationHolds c.args.fonts.now) c.args.equations _ _ c.in-Some.equation _ _ c.in_ok-row.row
-          c.loop-equation.invariant.2 steps row.is row.fits.level row.fits.holds c.in_ok-push_to.ensures,
+          c.loop-equation.invariant.2 steps row.is row.fits.level row.fits.holds c.in_ok-push.ensures.items,
       (subst AreModestEquations steps c.loop-equation.invariant.3).3,
       row.stay ∙ c.loop-equation.invariant.4,
     )

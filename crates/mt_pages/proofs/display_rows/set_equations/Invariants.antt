@@ -1,8 +1,5 @@
 use Rattle.std.proofs.Common.{◌≡◌}
-use Rattle.std.specs.Vec.Iter.{into_iter_items}
-use Rattle.mt_formula.specs.Counts.{AreModestEquations}
-use Rattle.mt_display.specs.DisplayLines.{equation_layout, equation_level}
-use Rattle.mt_pages.specs.FormulaLines.{equation_boxes}
+use Rattle.mt_pages.proofs.Common.{into_iter_items, AreModestEquations, equation_layout, equation_level, equation_boxes}
 use Rattle.mt_pages.specs.inner.Lines.{EquationHolds}
 use Rattle.mt_pages.proofs.DisplayLemmas.{RowsSet}
 use Rattle.mt_pages.proofs.display_rows.set_equations.Given as goal

@@ -1,11 +1,5 @@
 use Rattle.std.proofs.Common.{ap, refl, subst, sym, arith, ◌∙◌}
-use Rattle.std.proofs.lemmas.Result.{err_from_is_err_and}
-use Rattle.mt_box.proofs.Lists.{no_more}
-use Rattle.mt_box.specs.Layout.{BoxValue, layout_of}
-use Rattle.mt_formula.specs.Counts.{AreModestRows}
-use Rattle.mt_rules.specs.Rows.{rows_of}
-use Rattle.mt_rules.specs.declared.style.Style.TheVariants.{D}
-use Rattle.mt_pages.specs.FormulaLines.{formula_box, lists_of}
+use Rattle.mt_pages.proofs.Common.{err_from_is_err_and, no_more, BoxValue, layout_of, AreModestRows, rows_of, D, formula_box, lists_of}
 use Rattle.mt_pages.specs.inner.Lines.{BoxHolds}
 use Rattle.mt_pages.proofs.DisplayLemmas.{lists_back, lists_few, rows_start, rows_next, rows_err, rows_done}
 use Rattle.mt_pages.proofs.display_rows.set_rows.Goals as goal
@@ -28,7 +22,7 @@ loop-list-preserved c =
       tt,
       tt,
       rows_next (formula_box c.args.fonts.now c.args.n D) layout_of (λ (b : BoxValue). b.level) (BoxHolds c.args.fonts.now) (lists_of c.args.rows) _ _ c.in-Some.list _ _ c.in_ok-row.row
-          c.loop-list.invariant.2 steps row.is row.fits.level row.fits.holds c.in_ok-push_to.ensures,
+          c.loop-list.invariant.2 steps row.is row.fits.level row.fits.holds c.in_ok-push.ensures.items,
       (subst AreModestRows (ap rows_of steps) c.loop-list.invariant.3).1,
       row.stay ∙ c.loop-list.invariant.4,
     )

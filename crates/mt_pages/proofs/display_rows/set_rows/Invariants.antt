@@ -1,10 +1,5 @@
 use Rattle.std.proofs.Common.{◌≡◌}
-use Rattle.std.specs.Vec.Iter.{into_iter_items}
-use Rattle.mt_box.specs.Layout.{BoxValue, layout_of}
-use Rattle.mt_formula.specs.Counts.{AreModestRows}
-use Rattle.mt_rules.specs.Rows.{rows_of}
-use Rattle.mt_rules.specs.declared.style.Style.TheVariants.{D}
-use Rattle.mt_pages.specs.FormulaLines.{formula_box, lists_of}
+use Rattle.mt_pages.proofs.Common.{into_iter_items, BoxValue, layout_of, AreModestRows, rows_of, D, formula_box, lists_of}
 use Rattle.mt_pages.specs.inner.Lines.{BoxHolds}
 use Rattle.mt_pages.proofs.DisplayLemmas.{RowsSet}
 use Rattle.mt_pages.proofs.display_rows.set_rows.Given as goal

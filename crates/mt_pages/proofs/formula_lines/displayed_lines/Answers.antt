@@ -1,10 +1,5 @@
-use Rattle.std.proofs.Common.{refl, to_z-of_z, to_z, of_z, w64}
-use Rattle.std.specs.Prelude.{Some, None}
-use Rattle.mt_family.specs.Sets.{sy}
-use Rattle.mt_family.specs.declared.size.Size.TheVariants.{Text}
-use Rattle.mt_display.specs.Displays.{display_lines}
-use Rattle.mt_display.specs.LineStack.{is_left}
-use Rattle.mt_display.specs.declared.line_stack.LineStack.{LineStack}
+use Rattle.std.proofs.Common.{refl, to_z-of_z, to_z, of_z, w64, Some, None}
+use Rattle.mt_pages.proofs.Common.{sy, Text, display_lines, is_left, LineStack}
 use Rattle.mt_pages.proofs.LineLemmas.{alone_put, both_put}
 use Rattle.mt_pages.proofs.formula_lines.displayed_lines.Goals as goal
 
@@ -25,8 +20,8 @@ returns c =
     let both : LineStack = record { pieces = c.put_row-2.new.pieces; shifts = old.shifts } in
     let new = c.put_numbered.new.self in
     let w = to_z w64 (of_z w64 c.args.width) in
-    let left = is_left c.side_of-side.result in
+    let left = is_left c.of-side.result in
     λ lines on.
     both_put c.put_for-2.result c.args.fonts.now c.args.n c.args.list lines old mid new c.len-first.result w c.args.width c.args.tag c.in-Some.tag left both c.len-end.result (to_z-of_z c.ranges.width) c.in-Some.is
-    c.side_of-side.ensures on c.len-first.ensures c.in_ok-put_row.ensures.is refl c.len-end.ensures c.in_ok-put_row-2.ensures.is refl
+    c.of-side.ensures on c.len-first.ensures c.in_ok-put_row.ensures.is refl c.len-end.ensures c.in_ok-put_row-2.ensures.is refl
     (λ ls row number e f s. c.put_for-2.ensures ls new (display_lines (sy c.args.fonts.now 6 Text) row (Some (record { row = number; left = left })) w) (c.put_numbered.ensures ls row number e f s))

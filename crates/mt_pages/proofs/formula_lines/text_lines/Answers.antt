@@ -1,6 +1,5 @@
 use Rattle.std.proofs.Common.{refl}
-use Rattle.mt_display.specs.Lines.{inline_lines}
-use Rattle.mt_display.specs.declared.line_stack.LineStack.{LineStack}
+use Rattle.mt_pages.proofs.Common.{inline_lines, LineStack}
 use Rattle.mt_pages.proofs.LineLemmas.{text_put}
 use Rattle.mt_pages.proofs.formula_lines.text_lines.Goals as goal
 

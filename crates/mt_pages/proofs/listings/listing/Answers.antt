@@ -1,5 +1,5 @@
 use Rattle.std.proofs.Common.{List, ◌∙◌, subst}
-use Rattle.mt_box.specs.declared.place.Place.{Place}
+use Rattle.mt_pages.proofs.Common.{Place}
 use Rattle.mt_pages.specs.inner.Texts.{IsListingOf}
 use Rattle.mt_pages.proofs.ListingLemmas.{all_taken, taken}
 use Rattle.mt_pages.proofs.listings.listing.Goals as goal

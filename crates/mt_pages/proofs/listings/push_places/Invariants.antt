@@ -1,5 +1,5 @@
 use Rattle.std.proofs.Common.{◌≡◌, ◌++◌, take, flat_map}
-use Rattle.mt_pages.specs.Listing.{place_line}
+use Rattle.mt_pages.proofs.Common.{place_line}
 use Rattle.mt_pages.proofs.listings.push_places.Given as goal
 
 abbrev pub invariant-loop-place : goal.invariant-loop-place

@@ -1,4 +1,4 @@
-use Rattle.std.specs.Prelude.{codes}
+use Rattle.std.proofs.Common.{codes}
 use Rattle.std.proofs.Math.Facts.{to_z-of_z}
 use Rattle.mt_pages.proofs.ListingLemmas.{line_pushed}
 use Rattle.mt_pages.proofs.listings.push_rule.Goals as goal

@@ -1,13 +1,5 @@
-use Rattle.std.proofs.Common.{rules, ◌≡◌, ◌∙◌, List, [], ◌∷◌, length, sym, ap, subst, append_assoc, arith, of_z, to_z, to_z-of_z, w64, ℤ}
-use Rattle.std.specs.Prelude.{All, Err}
-use Rattle.std.specs.Vec.Iter.{into_iter_items}
-use Rattle.std.proofs.lemmas.List.Elements.{All-tail}
-use Rattle.std.proofs.lemmas.Result.{err_from_is_err_and}
-use Rattle.mt_box.proofs.Lists.{no_more}
-use Rattle.mt_reader.specs.Weights.{HasModestLists, page_weight}
-use Rattle.mt_rules.specs.declared.document.Formula.{Formula}
-use Rattle.mt_status.specs.Origins.{IsPure}
-use Rattle.mt_pages.specs.Pages.{no_lines, page_lines}
+use Rattle.std.proofs.Common.{rules, ◌≡◌, ◌∙◌, List, [], ◌∷◌, length, sym, ap, subst, append_assoc, arith, of_z, to_z, to_z-of_z, w64, ℤ, All, Err}
+use Rattle.mt_pages.proofs.Common.{into_iter_items, All-tail, err_from_is_err_and, no_more, HasModestLists, page_weight, Formula, IsPure, no_lines, page_lines}
 use Rattle.mt_pages.specs.inner.Lines.{PageSet}
 use Rattle.mt_pages.proofs.LineLemmas.{LinedSoFar, lined_done, lined_err, lined_more, lined_none}
 use Rattle.mt_pages.proofs.page_lines.page_lines.Goals as goal

@@ -1,7 +1,5 @@
-use Rattle.std.proofs.Common.{◌≡◌, ◌++◌, length}
-use Rattle.std.specs.Prelude.{All}
-use Rattle.std.specs.Vec.Iter.{into_iter_items, into_iter_len}
-use Rattle.mt_reader.specs.Weights.{HasModestLists}
+use Rattle.std.proofs.Common.{◌≡◌, ◌++◌, length, All}
+use Rattle.mt_pages.proofs.Common.{into_iter_items, into_iter_len, HasModestLists}
 use Rattle.mt_pages.proofs.LineLemmas.{LinedSoFar}
 use Rattle.mt_pages.proofs.page_lines.page_lines.Given as goal
 

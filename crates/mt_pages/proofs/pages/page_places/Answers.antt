@@ -1,4 +1,4 @@
-use Rattle.mt_display.proofs.PagePlaces.{page_few}
+use Rattle.mt_pages.proofs.Common.{page_few}
 use Rattle.mt_pages.proofs.LineLemmas.{shifts_small}
 use Rattle.mt_pages.proofs.PageLemmas.{stacked_writable}
 use Rattle.mt_pages.proofs.pages.page_places.Goals as goal

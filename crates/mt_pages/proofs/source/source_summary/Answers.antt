@@ -1,65 +1,18 @@
-use Rattle.std.proofs.Common.{List, [], ◌∷◌, ◌++◌, ◌∙◌, ap, subst, sym, to_z-of_z, arith}
-use Rattle.std.specs.Prelude.{Result, Ok}
-use Rattle.std.proofs.lemmas.Result.{err_from_is_err_and}
-use Rattle.mt_scaled.specs.Results.{◌>>=◌}
-use Rattle.mt_token.specs.declared.token.Token.{Token}
-use Rattle.mt_box.specs.declared.place.Place.{Place}
-use Rattle.mt_pages.specs.Listing.{summary}
-use Rattle.mt_pages.specs.Pages.{source_pages}
-use Rattle.mt_pages.specs.inner.Texts.{AreCountsOf}
-use Rattle.mt_pages.specs.inner.SetPages.{AreTokensOf}
-use Rattle.mt_pages.proofs.SetLemmas.{after_some, few_more, next_none, next_refused, next_some, source_err}
-use Rattle.mt_status.proofs.PureLemmas.{pure_err}
-use Rattle.mt_status.specs.declared.status.Status.{Status}
+use Rattle.std.proofs.Common.{List, ◌∙◌, ap, sym, to_z-of_z, Result, Ok}
+use Rattle.mt_pages.proofs.Common.{err_from_is_err_and, ◌>>=◌, Place, summary, source_pages, pure_err, Status}
 use Rattle.mt_pages.proofs.source.source_summary.Goals as goal
 
-pub loop-setter-init : goal.loop-setter-init
-loop-setter-init c = record {
-  so_far = record {
-    pages = [];
-    are = c.in_ok-setter.ensures.is c.args.fonts.now _ c.args.source.now (subst (λ (l : List Token). AreTokensOf c.args.fonts.now c.args.source.now (Ok l)) (sym c.as_slice.ensures) (c.in_ok-tokens.ensures.is c.args.fonts.now));
-    few = omega arith;
-    counted = c.new-counts.ensures;
-  };
-  more = c.in_ok-setter.ensures.more;
-}
-
-pub returns-in_err-tokens : goal.returns-in_err-tokens
-returns-in_err-tokens c = record {
+pub returns-in_err-add_pages : goal.returns-in_err-add_pages
+returns-in_err-add_pages c = record {
   is =
       let p = err_from_is_err_and c.from_residual.result c.from_residual.ensures.1 in
-      rw (p.1, p.2) (pure_err (source_pages c.args.fonts.now c.args.width c.args.source.now) (λ (p : List (List Place)). Ok (summary c.args.formulas p)) _ (source_err c.args.fonts.now c.args.width c.args.source.now c.in_err-tokens.field-0.0 (c.in_err-tokens.ensures.is c.args.fonts.now)));
+      rw (p.1, p.2) (pure_err (source_pages c.args.fonts.now c.args.width c.args.source.now) (λ (p : List (List Place)). Ok (summary c.args.formulas p)) _ (rw (to_z-of_z c.ranges.width) at c.in_err-add_pages.ensures));
 }
-
-pub returns-in_err-places : goal.returns-in_err-places
-returns-in_err-places c = record {
-  is =
-      let so = c.loop-setter.invariant.so_far in
-      let p = err_from_is_err_and c.from_residual-in_err-places.result c.from_residual-in_err-places.ensures.1 in
-      rw (p.1, p.2)
-      (pure_err (source_pages c.args.fonts.now c.args.width c.args.source.now) (λ (p : List (List Place)). Ok (summary c.args.formulas p)) _ (next_refused c.args.fonts.now _ c.args.width c.args.source.now c.in_err-places.field-0.0 (to_z-of_z c.ranges.width) (c.in_err-places.ensures.is c.args.source.now so.pages so.are)));
-}
-
-pub loop-setter-preserved : goal.loop-setter-preserved
-loop-setter-preserved c =
-    let so = c.loop-setter.invariant.so_far in
-    let on = after_some c.args.fonts.now c.loop-setter.setter c.next_page.new.self c.in_ok-places.field-0 c.in-Some.places c.in-Some.is c.in_ok-places.ensures.more in
-    let are = next_some c.args.fonts.now _ c.args.source.now so.pages c.next_page.new.self c.in_ok-places.field-0 c.in-Some.places c.in-Some.is (c.in_ok-places.ensures.is c.args.source.now so.pages so.are) in
-    record {
-      so_far = record {
-        pages = so.pages ++ c.in-Some.places ∷ [];
-        are = are;
-        few = few_more c.args.fonts.now _ c.args.source.now (so.pages ++ c.in-Some.places ∷ []) c.next_page.new.self are on.pages;
-        counted = subst (λ (l : List Place). AreCountsOf (so.pages ++ l ∷ []) c.add_page.new.self) c.as_slice-in-Some.ensures (c.add_page.ensures.counts so.pages so.counted);
-      };
-      more = on.more;
-    }
 
 pub returns : goal.returns
 returns c = record {
   is =
-      let so = c.loop-setter.invariant.so_far in
-      ap (λ (r : Result (List (List Place)) Status). r >>= (λ (p : List (List Place)). Ok (summary c.args.formulas p)))
-      (next_none c.args.fonts.now _ c.args.width c.args.source.now so.pages c.next_page.new.self c.in_ok-places.field-0 (to_z-of_z c.ranges.width) c.in_default.is (c.in_ok-places.ensures.is c.args.source.now so.pages so.are))
-      ∙ ap Ok (sym (c.in_ok-text.ensures so.pages so.counted));
+      let a = rw (to_z-of_z c.ranges.width) at c.in_ok-add_pages.ensures in
+      ap (λ (r : Result (List (List Place)) Status). r >>= (λ (p : List (List Place)). Ok (summary c.args.formulas p))) a.is
+      ∙ ap Ok (sym (c.in_ok-text.ensures a.pages a.has));
 }

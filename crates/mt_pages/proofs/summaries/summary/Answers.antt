@@ -1,6 +1,5 @@
 use Rattle.std.proofs.Common.{◌≡◌, List, length, take, ◌∙◌, subst, arith}
-use Rattle.std.proofs.lemmas.List.{length-take-le}
-use Rattle.mt_box.specs.declared.place.Place.{Place}
+use Rattle.mt_pages.proofs.Common.{length-take-le, Place}
 use Rattle.mt_pages.specs.inner.Texts.{AreCountsOf}
 use Rattle.mt_pages.proofs.ListingLemmas.{all_taken, taken}
 use Rattle.mt_pages.proofs.summaries.summary.Goals as goal

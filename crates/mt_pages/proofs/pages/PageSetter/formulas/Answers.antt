@@ -1,8 +1,5 @@
 use Rattle.std.proofs.Common.{refl}
-use Rattle.mt_family.specs.Sets.{units_of}
-use Rattle.mt_plain.specs.CodeTables.{plain_codes}
-use Rattle.mt_plain.specs.PlainMacros.{plain_table}
-use Rattle.mt_reader.specs.Documents.{document}
+use Rattle.mt_pages.proofs.Common.{units_of, plain_codes, plain_table, document}
 use Rattle.mt_pages.proofs.SetLemmas.{formulas_ok}
 use Rattle.mt_pages.proofs.pages.PageSetter.formulas.Goals as goal
 

@@ -1,5 +1,5 @@
 use Rattle.std.proofs.Common.{refl}
-use Rattle.mt_family.specs.Sets.{units_of}
+use Rattle.mt_pages.proofs.Common.{units_of}
 use Rattle.mt_pages.proofs.SetLemmas.{are_none}
 use Rattle.mt_pages.proofs.pages.PageSetter.new.Goals as goal
 

@@ -1,7 +1,5 @@
-use Rattle.std.proofs.Common.{ap, refl, subst, to_z-of_z, ◌∙◌, List}
-use Rattle.std.specs.Prelude.{Option, Some, None, Ok}
-use Rattle.std.proofs.lemmas.Result.{err_from_is_err_and}
-use Rattle.mt_rules.specs.declared.document.Formula.{Formula}
+use Rattle.std.proofs.Common.{ap, refl, subst, to_z-of_z, ◌∙◌, List, Option, Some, None, Ok}
+use Rattle.mt_pages.proofs.Common.{err_from_is_err_and, Formula}
 use Rattle.mt_pages.specs.inner.SetPages.{AreFormulasOf, end_of}
 use Rattle.mt_pages.proofs.SetLemmas.{are_set, go_set, kept_at, next_end, next_err}
 use Rattle.mt_pages.proofs.pages.PageSetter.next_page.Goals as goal

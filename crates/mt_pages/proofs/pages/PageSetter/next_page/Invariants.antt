@@ -1,6 +1,5 @@
 use Rattle.std.proofs.Common.{ℕ, List, ◌≤◌}
-use Rattle.mt_box.specs.declared.place.Place.{Place}
-use Rattle.mt_reader.specs.PageReading.{CanGoOn, left_to_read}
+use Rattle.mt_pages.proofs.Common.{Place, CanGoOn, left_to_read}
 use Rattle.mt_pages.specs.inner.SetPages.{ArePagesOf}
 use Rattle.mt_pages.proofs.pages.PageSetter.next_page.Given as goal
 

@@ -1,8 +1,5 @@
-use Rattle.std.proofs.Common.{List, subst}
-use Rattle.std.specs.Prelude.{All, IfOk, Result}
-use Rattle.mt_box.specs.declared.place.Place.{Place}
-use Rattle.mt_dvi.specs.Writable.{IsWritable}
-use Rattle.mt_status.specs.declared.status.Status.{Status}
+use Rattle.std.proofs.Common.{List, subst, All, IfOk, Result}
+use Rattle.mt_pages.proofs.Common.{Place, IsWritable, Status}
 use Rattle.mt_pages.proofs.pages.PageSetter.place.Goals as goal
 
 pub returns-in-Ok-clause-writable : goal.returns-in-Ok-clause-writable

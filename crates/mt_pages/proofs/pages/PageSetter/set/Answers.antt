@@ -1,5 +1,4 @@
-use Rattle.std.proofs.Common.{of_z, subst, to_z, to_z-of_z, w64, ℤ}
-use Rattle.std.specs.Prelude.{IfOk}
+use Rattle.std.proofs.Common.{of_z, subst, to_z, to_z-of_z, w64, ℤ, IfOk}
 use Rattle.mt_pages.specs.inner.SetPages.{SetsPage}
 use Rattle.mt_pages.proofs.pages.PageSetter.set.Goals as goal
 

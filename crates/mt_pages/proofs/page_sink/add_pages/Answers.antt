@@ -1,0 +1,53 @@
+use Rattle.std.proofs.Common.{List, [], subst, sym, to_z-of_z, ◌∷◌, ◌++◌, Ok}
+use Rattle.mt_pages.proofs.Common.{err_from_is_err_and, Token}
+use Rattle.mt_pages.specs.inner.SetPages.{AreTokensOf}
+use Rattle.mt_pages.proofs.SetLemmas.{handed_out, next_none, next_refused, none_fit, source_err}
+use Rattle.mt_pages.proofs.page_sink.add_pages.Goals as goal
+
+pub loop-setter-init : goal.loop-setter-init
+loop-setter-init g c = record {
+  so_far = record {
+    pages = [];
+    are = c.in_ok-setter.ensures.is c.args.fonts.now _ c.args.source.now (subst (λ (l : List Token). AreTokensOf c.args.fonts.now c.args.source.now (Ok l)) (sym c.as_slice.ensures) (c.in_ok-tokens.ensures.is c.args.fonts.now));
+    fit = none_fit c.args.fonts.now;
+    has = c.requires.none;
+  };
+  more = c.in_ok-setter.ensures.more;
+}
+
+pub add-requires : goal.add-requires
+add-requires g c =
+    let so = c.loop-setter.invariant.so_far in
+    let out = handed_out c.args.fonts.now _ c.args.source.now so.pages c.in-Some.page c.loop-setter.setter c.next_page.new.self c.in_ok-page.field-0 c.in-Some.is so.fit (c.in_ok-page.ensures.is c.args.source.now so.pages so.are) c.in_ok-page.ensures.more in
+    record { pages = so.pages; has = so.has; writable = out.writable; fit = out.fit }
+
+pub returns-in_err-tokens : goal.returns-in_err-tokens
+returns-in_err-tokens g c =
+    let p = err_from_is_err_and c.from_residual.result c.from_residual.ensures.1 in
+    rw (p.1, p.2) (source_err c.args.fonts.now c.args.width c.args.source.now c.in_err-tokens.field-0.0 (c.in_err-tokens.ensures.is c.args.fonts.now))
+
+pub returns-in_err-page : goal.returns-in_err-page
+returns-in_err-page g c =
+    let so = c.loop-setter.invariant.so_far in
+    let p = err_from_is_err_and c.from_residual-in_err-page.result c.from_residual-in_err-page.ensures.1 in
+    rw (p.1, p.2)
+    (next_refused c.args.fonts.now _ c.args.width c.args.source.now c.in_err-page.field-0.0 (to_z-of_z c.ranges.width) (c.in_err-page.ensures.is c.args.source.now so.pages so.are))
+
+pub loop-setter-preserved : goal.loop-setter-preserved
+loop-setter-preserved g c =
+    let so = c.loop-setter.invariant.so_far in
+    let out = handed_out c.args.fonts.now _ c.args.source.now so.pages c.in-Some.page c.loop-setter.setter c.next_page.new.self c.in_ok-page.field-0 c.in-Some.is so.fit (c.in_ok-page.ensures.is c.args.source.now so.pages so.are) c.in_ok-page.ensures.more in
+    record {
+      so_far = record { pages = so.pages ++ c.in-Some.page ∷ []; are = out.are; fit = out.fit; has = c.in_ok-add.ensures so.pages so.has };
+      more = out.more;
+    }
+
+pub returns : goal.returns
+returns g c =
+    let so = c.loop-setter.invariant.so_far in
+    record {
+      pages = so.pages;
+      is = next_none c.args.fonts.now _ c.args.width c.args.source.now so.pages c.next_page.new.self c.in_ok-page.field-0 (to_z-of_z c.ranges.width) c.in_default.is (c.in_ok-page.ensures.is c.args.source.now so.pages so.are);
+      has = so.has;
+      fit = so.fit;
+    }

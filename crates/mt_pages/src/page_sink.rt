@@ -1,0 +1,50 @@
+//! What the pages of a source are added to.
+ghost use Rattle.std.specs.Prelude.{◌++◌, ◌∷◌, [], List, OnOk};
+ghost use Rattle.mt_box.specs.declared.place.Place.{Place as PlaceFields};
+ghost use Rattle.mt_family.specs.SetValue.{SetValue};
+ghost use Rattle.mt_pages.specs.LineWidth.{IsLineWidth};
+ghost use Rattle.mt_pages.specs.Pages.{source_pages};
+ghost use Rattle.mt_pages.specs.inner.Added.{AddsPages, CanAdd};
+
+use crate::document::tokens_of;
+use crate::pages::PageSetter;
+use mt_box::PlaceList;
+use mt_family::FontSet;
+use mt_status::Status;
+use std::alloc::{AllocError, Global};
+
+/// What is made of pages that are added one after another.
+pub trait PageSink {
+    /// It is made of these pages, set in these fonts.
+    ghost HasPages: { SetValue → List (List PlaceFields) → Self → Type 0 };
+
+    /// Adds a page.
+    fn add(&mut self, fonts: &FontSet, page: PlaceList) -> Result<(), AllocError>
+        requires { CanAdd fonts.now (HasPages fonts.now) self.old page }
+        ensures { (pages : List (List PlaceFields)) → HasPages fonts.now pages self.old
+            → OnOk result (HasPages fonts.now (pages ++ page ∷ []) self.new) };
+}
+
+/// Adds the pages of a source, set in these fonts on lines of `width` scaled points. A page is added as soon as it is set.
+///
+/// # Errors
+///
+/// The first fault of the source, as [`tokens_of`] and [`PageSetter::next_page`] say.
+pub fn add_pages<S: PageSink>(
+    sink: &mut S,
+    alloc: Global,
+    fonts: &FontSet,
+    width: i64,
+    source: &[u8],
+) -> Result<(), Status>
+    requires width { IsLineWidth width }
+    requires none { S.HasPages fonts.now [] sink.old }
+    ensures { AddsPages fonts.now (S.HasPages fonts.now) (source_pages fonts.now width source.now) result sink.new }
+{
+    let tokens = tokens_of(alloc, source)?;
+    let mut setter = PageSetter::new(alloc, tokens.as_slice())?;
+    while let Some(page) = setter.next_page(alloc, fonts, width)? {
+        sink.add(fonts, page)?;
+    }
+    Ok(())
+}
