@@ -10,7 +10,7 @@ mod thing;
 mod to_lists;
 
 pub use arena::Arena;
-pub use from_lists::put_list;
+pub use from_lists::{put_list, short_amount, short_glue, short_thickness};
 pub use rest::Rest;
 pub use thing::{Cell, ChoiceSpans, FractionNoad, Noad, RootParts, ShortGlue, Span, Thing};
 pub use to_lists::list_of;

@@ -12,7 +12,7 @@ use Rattle.mt_scan.specs.declared.role.Role.TheVariants.{CloseBrace, HboxWord}
 use Rattle.mt_scan.specs.Role.{role_of, is_middle}
 use Rattle.mt_scan.specs.Parts.{Read, Got, Fault, NoTurn, then_read, after_spaces}
 use Rattle.mt_scan.specs.Delimiters.{scan_delimiter}
-use Rattle.mt_formula.specs.declared.open.open_list.Ending.TheVariants.{AtRight, AtCell}
+use Rattle.mt_formula.specs.declared.reading.ends.Ending.TheVariants.{AtRight, AtCell}
 use Rattle.mt_formula.specs.declared.open.table.Column.{Column}
 use Rattle.mt_formula.specs.declared.open.table.TableStep.{TableStep}
 use Rattle.mt_formula.specs.declared.open.table.TableStep.TheVariants.{NextCell, NextRow, Closes}

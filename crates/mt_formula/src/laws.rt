@@ -8,7 +8,7 @@ ghost use Rattle.mt_formula.specs.Answers.{IsFaultWithin, IsFormula};
 ghost use Rattle.mt_formula.specs.Formulas.{reading};
 ghost use Rattle.mt_formula.specs.Rules.{formula, item_run, run_of};
 ghost use Rattle.mt_formula.specs.Runs.{items, tail};
-ghost use Rattle.mt_formula.specs.declared.open.open_list.Ending.TheVariants.{AtCell, AtRight};
+ghost use Rattle.mt_formula.specs.declared.reading.ends.Ending.TheVariants.{AtCell, AtRight};
 ghost use Rattle.mt_formula.specs.declared.open.table.Column.{Column};
 ghost use Rattle.mt_rules.specs.Sequence.{End, MoreRows, Rows, Sequence};
 ghost use Rattle.mt_scan.specs.Parts.{Got, after_spaces, then_read};

@@ -1,11 +1,11 @@
 //! Formulas: tokens are read into math lists (The TeXbook, chapters 17, 18 and 26).
 #![tactic(auto)]
 
-mod forms;
 mod formula;
 mod laws;
 mod open;
 mod read_error;
+mod reading;
 mod step;
 
 pub use formula::read_formula;

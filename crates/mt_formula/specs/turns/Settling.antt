@@ -17,9 +17,9 @@ use Rattle.mt_scan.specs.Parts.{Read, ReadOr, Got, Fault, NoTurn, then_read, aft
 use Rattle.mt_scan.specs.Numbers.{whole_number, number_to}
 use Rattle.mt_scan.specs.Delimiters.{scan_delimiter}
 use Rattle.mt_formula.specs.Atoms.{AtomValue, append, element_of_atom, takes_scripts, root_atom, nucleus_atom, plain_atom, with_script, prime_atom, prime_items}
-use Rattle.mt_formula.specs.declared.open.open_list.Ending.{Ending}
-use Rattle.mt_formula.specs.declared.open.open_list.Ending.TheVariants.{AtEnd, AtBrace, AtRight, AtDollar, AtCell, AtOf}
-use Rattle.mt_formula.specs.declared.open.open_list.FractionHead.{FractionHead}
+use Rattle.mt_formula.specs.declared.reading.ends.Ending.{Ending}
+use Rattle.mt_formula.specs.declared.reading.ends.Ending.TheVariants.{AtEnd, AtBrace, AtRight, AtDollar, AtCell, AtOf}
+use Rattle.mt_formula.specs.declared.reading.fraction.FractionHead.{FractionHead}
 use Rattle.mt_formula.specs.declared.open.table.TableForm.{TableForm}
 use Rattle.mt_formula.specs.declared.open.table.TableForm.TheVariants.{Spaced, Enclosed}
 use Rattle.mt_formula.specs.declared.open.table.Column.{Column}

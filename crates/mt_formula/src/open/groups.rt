@@ -3,7 +3,7 @@ ghost use Rattle.std.specs.Prelude.{◌≡◌, ◌<◌, length, IfOk};
 ghost use Rattle.mt_scan.specs.Parts.{opening};
 ghost use Rattle.mt_scan.specs.Role.{is_open_brace};
 ghost use Rattle.mt_scan.specs.declared.fault.ReadCause.TheVariants.{MissingField};
-ghost use Rattle.mt_formula.specs.machine.Actions.{AllowsGroup, Opens};
+ghost use Rattle.mt_formula.specs.reading.Actions.{AllowsGroup, Opens};
 ghost use Rattle.mt_scan.specs.Limits.{max_groups};
 
 use mt_plain::Codes;

@@ -1,6 +1,5 @@
 //! The table of what each token does in a list (The TeXbook, chapter 26).
-ghost use Rattle.std.specs.Prelude.{◌≡◌, ◌≤◌, ◌^◌, ◌+◌, ◌∷◌, length, IfOk, IfSome};
-ghost use Rattle.mt_scaled.specs.Number.{Within};
+ghost use Rattle.std.specs.Prelude.{◌≡◌, ◌≤◌, ◌+◌, ◌∷◌, List, length, IfOk, IfSome};
 ghost use Rattle.mt_scan.specs.Meets.{Meets};
 ghost use Rattle.mt_scan.specs.Parts.{Got};
 ghost use Rattle.mt_scan.specs.Role.{role_of};
@@ -8,21 +7,21 @@ ghost use Rattle.mt_scan.specs.declared.role.Side.TheVariants.{Up};
 ghost use Rattle.mt_formula.specs.Atoms.{is_free, is_op};
 ghost use Rattle.mt_formula.specs.Items.{free_action, limits_action, script_action, action, action_here};
 ghost use Rattle.mt_formula.specs.declared.step.action.Action.TheVariants.{Prime};
-ghost use Rattle.mt_formula.specs.machine.Actions.{spent, MeetsUnlessStop};
-ghost use Rattle.mt_formula.specs.machine.OpenLists.{last_atom_of};
-ghost use Rattle.mt_formula.specs.machine.Stops.{front_role};
+ghost use Rattle.mt_formula.specs.reading.Actions.{spent, MeetsUnlessStop};
+ghost use Rattle.mt_arena.specs.Arena.{Held};
+ghost use Rattle.mt_formula.specs.reading.Noads.{last_in};
 
-use crate::open::last_atom::{is_free, is_op};
-use crate::open::open_list::OpenList;
 use crate::open::table::TableForm;
+use crate::reading::context::{Grammar, Group};
+use crate::reading::noads::{is_free, is_op};
 use crate::step::action::{Action, coded_action, nucleus_action, script_action};
 use crate::step::words::{
     accent_word, amount_action, big_word, char_word, choice_word, delimiter_word, family_word,
     left_word, open_group, pmatrix_word, radical_word, root_word, vcenter_word,
 };
+use mt_arena::Noad;
 use mt_plain::Codes;
 use mt_rules::Limits;
-use mt_scaled::Units;
 use mt_scan::{Fault, ReadCause, Role, Scanned, Side, role_of};
 use mt_token::Token;
 
@@ -35,28 +34,29 @@ fn fault(cause: ReadCause, left: usize) -> Fault
 // At `^` or `_`.
 fn script_word<'a>(
     codes: &Codes,
-    list: &OpenList,
+    group: Group,
+    last: &Option<Noad>,
     side: Side,
     after: &'a [Token],
 ) -> Result<Scanned<'a, Action>, Fault>
-    ensures is { Meets result (free_action (is_free side (last_atom_of list.now.last)) (length after.now + 1)
-        (script_action codes.now list.now.level list.now.family side after.now)) }
+    ensures is { (es : List Held) → Meets result (free_action (is_free side (last_in es last.now)) (length after.now + 1)
+        (script_action codes.now group.level group.family side after.now)) }
     ensures falls { IfOk result (λ action. length action.rest.now ≤ length after.now) }
 {
-    if is_free(side, &list.last) {
-        script_action(codes, list.level, list.family, side, after)
+    if is_free(side, last) {
+        script_action(codes, group.level, group.family, side, after)
     } else {
         Err(fault(ReadCause::DoubleScript, after.len() + 1))
     }
 }
 
 // At a prime.
-fn prime_word<'a>(list: &OpenList, after: &'a [Token]) -> Result<Scanned<'a, Action>, Fault>
-    ensures is { Meets result (free_action (is_free Up (last_atom_of list.now.last)) (length after.now + 1)
+fn prime_word<'a>(last: &Option<Noad>, after: &'a [Token]) -> Result<Scanned<'a, Action>, Fault>
+    ensures is { (es : List Held) → Meets result (free_action (is_free Up (last_in es last.now)) (length after.now + 1)
         (Got Prime after.now)) }
     ensures falls { IfOk result (λ action. length action.rest.now ≤ length after.now) }
 {
-    if is_free(Side::Up, &list.last) {
+    if is_free(Side::Up, last) {
         Ok(Scanned {
             value: Action::Prime,
             rest: after,
@@ -68,14 +68,14 @@ fn prime_word<'a>(list: &OpenList, after: &'a [Token]) -> Result<Scanned<'a, Act
 
 // At a word that places the scripts of an operator.
 fn limits_word<'a>(
-    list: &OpenList,
+    last: &Option<Noad>,
     limits: Limits,
     after: &'a [Token],
 ) -> Result<Scanned<'a, Action>, Fault>
-    ensures is { Meets result (limits_action (is_op (last_atom_of list.now.last)) limits after.now) }
+    ensures is { (es : List Held) → Meets result (limits_action (is_op (last_in es last.now)) limits after.now) }
     ensures falls { IfOk result (λ action. length action.rest.now ≤ length after.now) }
 {
-    if is_op(&list.last) {
+    if is_op(last) {
         Ok(Scanned {
             value: Action::Limits(limits),
             rest: after,
@@ -87,24 +87,23 @@ fn limits_word<'a>(
 
 // What a token of this role does; `None` where it is no item.
 fn role_action<'a>(
-    codes: &Codes,
-    units: Units,
-    list: &OpenList,
+    grammar: Grammar<'_>,
+    group: Group,
+    last: &Option<Noad>,
     role: Role,
     token: &Token,
     after: &'a [Token],
 ) -> Result<Option<Scanned<'a, Action>>, Fault>
-    requires em { Within (2 ^ 31) units.em }
-    requires ex { Within (2 ^ 31) units.ex }
-    requires role { role_of codes.now token.now ≡ role }
-    ensures is { MeetsUnlessStop result
-        (action codes.now units list.now.level list.now.family (last_atom_of list.now.last) token.now after.now role)
+    requires role { role_of grammar.codes.now token.now ≡ role }
+    ensures is { (es : List Held) → MeetsUnlessStop result
+        (action grammar.entry.codes.now grammar.units group.level group.family (last_in es last.now) token.now after.now role)
         (token.now ∷ after.now) }
     ensures falls { IfOk result (λ read. IfSome read
         (λ action. length action.rest.now + spent action.value ≤ length after.now + 1)) }
 {
-    let level = list.level;
-    let family = list.family;
+    let codes = grammar.codes;
+    let level = group.level;
+    let family = group.family;
     let read = match role {
         Role::Blank => Ok(Scanned {
             value: Action::Nothing,
@@ -126,7 +125,7 @@ fn role_action<'a>(
         Role::RootWord => root_word(codes, level, token, after),
         Role::BigWord(class, size) => big_word(codes, class, size, after),
         Role::FamilyWord => family_word(after),
-        Role::AmountWord(amount) => amount_action(units, amount, after),
+        Role::AmountWord(amount) => amount_action(grammar.units, amount, after),
         Role::OpenBrace => open_group(codes, level, token, after),
         Role::LeftWord => left_word(codes, level, token, after),
         Role::VcenterWord => vcenter_word(codes, level, after),
@@ -136,9 +135,9 @@ fn role_action<'a>(
             rest: after,
         }),
         Role::PmatrixWord => pmatrix_word(codes, level, token, after),
-        Role::Script(side) => script_word(codes, list, side, after),
-        Role::Prime => prime_word(list, after),
-        Role::LimitsWord(limits) => limits_word(list, limits, after),
+        Role::Script(side) => script_word(codes, group, last, side, after),
+        Role::Prime => prime_word(last, after),
+        Role::LimitsWord(limits) => limits_word(last, limits, after),
         Role::HboxWord | Role::Unknown => Err(fault(ReadCause::UnknownName, after.len() + 1)),
         Role::CloseBrace
         | Role::Dollar
@@ -159,43 +158,27 @@ fn role_action<'a>(
     }
 }
 
-/// The role of the token in front, if there is one.
-pub fn front_role(codes: &Codes, tokens: &[Token]) -> Option<Role>
-    ensures { result ≡ front_role codes.now tokens.now }
-{
-    match tokens {
-        [token, ..] => Some(role_of(codes, token)),
-        [] => None,
-    }
-}
-
-/// What the token in front, of this role, does in a list, and the tokens after those that were read
-/// for it. It is `Stop`, and no token is read, where no item begins or none is left.
+/// What the token in front does in a list where this atom is at hand, and the tokens after those that were read for it. It is `Stop`, and no token is read, where no item begins or none is left.
 pub fn action_here<'a>(
-    codes: &Codes,
-    units: Units,
-    list: &OpenList,
-    front: Option<Role>,
+    grammar: Grammar<'_>,
+    group: Group,
+    last: &Option<Noad>,
     tokens: &'a [Token],
 ) -> Result<Scanned<'a, Action>, Fault>
-    requires em { Within (2 ^ 31) units.em }
-    requires ex { Within (2 ^ 31) units.ex }
-    requires front { front ≡ front_role codes.now tokens.now }
-    ensures is { Meets result
-        (action_here codes.now units list.now.level list.now.family (last_atom_of list.now.last) tokens.now) }
+    ensures is { (es : List Held) → Meets result
+        (action_here grammar.entry.codes.now grammar.units group.level group.family (last_in es last.now) tokens.now) }
     ensures falls { IfOk result (λ part. length part.rest.now + spent part.value ≤ length tokens.now) }
 {
-    match (front, tokens) {
-        (Some(role), [token, after @ ..]) => {
-            match role_action(codes, units, list, role, token, after)? {
-                Some(part) => Ok(part),
-                None => Ok(Scanned {
-                    value: Action::Stop,
-                    rest: tokens,
-                }),
-            }
-        }
-        _ => Ok(Scanned {
+    let [token, after @ ..] = tokens else {
+        return Ok(Scanned {
+            value: Action::Stop,
+            rest: tokens,
+        });
+    };
+    let role = role_of(grammar.codes, token);
+    match role_action(grammar, group, last, role, token, after)? {
+        Some(part) => Ok(part),
+        None => Ok(Scanned {
             value: Action::Stop,
             rest: tokens,
         }),
