@@ -1,5 +1,5 @@
 -- What the reading of an action answers.
-use Rattle.std.specs.Prelude.{◌≡◌, ℕ, ◌<◌, ◌≤◌, List, Option, Some, None, Result, Ok, Err, ⊤}
+use Rattle.std.specs.Prelude.{◌≡◌, ℕ, ◌<◌, ◌≤◌, Bool, true, false, List, Option, Some, None, Result, Ok, Err, ⊤}
 use Rattle.std.specs.Borrow.{Bor}
 use Rattle.mt_token.specs.declared.token.Token.{Token}
 use Rattle.mt_scan.specs.declared.fault.Fault.{Fault as FaultFields}
@@ -8,7 +8,7 @@ use Rattle.mt_scan.specs.declared.scanned.Scanned.{Scanned}
 use Rattle.mt_scan.specs.Limits.{max_groups}
 use Rattle.mt_scan.specs.Parts.{Read, Got, Fault}
 use Rattle.mt_formula.specs.declared.step.action.Action.{Action}
-use Rattle.mt_formula.specs.declared.step.action.Action.TheVariants.{Stop}
+use Rattle.mt_formula.specs.declared.step.action.Action.TheVariants.{Choice, Group, LeftRight, Root, ScriptGroup, Stop}
 
 -- one more group may be open, or the token that opens it is at fault
 abbrev pub AllowsGroup : Result (Unit {0}) FaultFields → ℕ → ℕ → Type 0
@@ -30,3 +30,12 @@ abbrev pub MeetsUnlessStop : Result (Option (Scanned Action)) FaultFields → Re
 MeetsUnlessStop (Ok (Some part)) read tokens = read ≡ Got part.value part.rest.now
 MeetsUnlessStop (Ok None) read tokens = read ≡ Got Stop tokens
 MeetsUnlessStop (Err fault) read tokens = read ≡ Fault fault.cause fault.left
+
+-- the next list is in a group of this one
+abbrev pub opens_list : Action → Bool
+opens_list (Group kind) = true
+opens_list (ScriptGroup side) = true
+opens_list (LeftRight left) = true
+opens_list Choice = true
+opens_list Root = true
+opens_list _ = false

@@ -1,4 +1,12 @@
 //! Primes, and the argument after `^` (The TeXbook, chapter 18).
+ghost use Rattle.std.specs.Prelude.{◌≡◌, ◌≤◌, ◌<◌, ◌+◌, ℕ, length, take, drop, IfOk, IfSome};
+ghost use Rattle.mt_scan.specs.Meets.{IsAfter};
+ghost use Rattle.mt_plain.specs.CodeTables.{CodeTables};
+ghost use Rattle.mt_scaled.specs.declared.unit.Units.{Units};
+ghost use Rattle.mt_macro.specs.Braces.{group as braces};
+ghost use Rattle.mt_formula.specs.Lists.{ItemRunReader};
+ghost use Rattle.mt_formula.specs.Primes.{braced_argument, primes};
+ghost use Rattle.mt_formula.specs.reading.Arguments.{TakesArgument, after_superscript, argument_in, argument_left};
 
 use crate::open::groups::{check_level, missing_field};
 use crate::reading::context::Group;
@@ -33,7 +41,11 @@ pub enum ArgumentEnd<'a> {
 }
 
 /// How many primes are in front, and the tokens after them.
-pub fn primes<'a>(codes: &Codes, tokens: &'a [Token]) -> Scanned<'a, usize> {
+pub fn primes<'a>(codes: &Codes, tokens: &'a [Token]) -> Scanned<'a, usize>
+    ensures count { result.value ≡ (primes codes.now 0 tokens.now).count }
+    ensures rest { result.rest.now ≡ (primes codes.now 0 tokens.now).rest }
+    ensures falls { result.value + length result.rest.now ≤ length tokens.now }
+{
     let mut count = 0;
     let mut rest = tokens;
     while let [token, after @ ..] = rest {
@@ -49,7 +61,10 @@ pub fn primes<'a>(codes: &Codes, tokens: &'a [Token]) -> Scanned<'a, usize> {
 }
 
 /// The tokens after `^` and Spaces, if a `^` is in front.
-pub fn after_superscript<'a>(codes: &Codes, tokens: &'a [Token]) -> Option<&'a [Token]> {
+pub fn after_superscript<'a>(codes: &Codes, tokens: &'a [Token]) -> Option<&'a [Token]>
+    ensures is { IsAfter result (after_superscript codes.now tokens.now) }
+    ensures falls { IfSome result (λ after. length after.now < length tokens.now) }
+{
     match tokens {
         [token, after @ ..] => match role_of(codes, token) {
             Role::Script(Side::Up) => Some(after_spaces(after)),
@@ -59,16 +74,27 @@ pub fn after_superscript<'a>(codes: &Codes, tokens: &'a [Token]) -> Option<&'a [
     }
 }
 
-fn first_tokens<'a>(tokens: &'a [Token], count: usize) -> &'a [Token] {
+fn first_tokens<'a>(tokens: &'a [Token], count: usize) -> &'a [Token]
+    requires { count ≤ length tokens.now }
+    ensures { result.now ≡ take count tokens.now }
+{
     &tokens[..count]
 }
 
-fn tokens_from<'a>(tokens: &'a [Token], start: usize) -> &'a [Token] {
+fn tokens_from<'a>(tokens: &'a [Token], start: usize) -> &'a [Token]
+    requires { start ≤ length tokens.now }
+    ensures { result.now ≡ drop start tokens.now }
+{
     &tokens[start..]
 }
 
 // The argument of which the `{` is before the tokens.
-fn braced_argument<'a>(group: Group, tokens: &'a [Token]) -> ScriptArgument<'a> {
+fn braced_argument<'a>(group: Group, tokens: &'a [Token]) -> ScriptArgument<'a>
+    ensures is { (tables : CodeTables) (units : Units) (again : ItemRunReader) (count : ℕ)
+        → braced_argument tables units again count group.level group.family tokens.now (braces 0 tokens.now)
+        ≡ argument_in tables units again count result }
+    ensures falls { length result.inside.now + argument_left result ≤ length tokens.now }
+{
     match closing_brace(tokens) {
         Some(index) => {
             let after = tokens_from(tokens, index + 1);
@@ -95,7 +121,10 @@ pub fn argument_here<'a>(
     codes: &Codes,
     group: Group,
     tokens: &'a [Token],
-) -> Result<ScriptArgument<'a>, Fault> {
+) -> Result<ScriptArgument<'a>, Fault>
+    ensures is { TakesArgument result codes.now group.level group.family tokens.now }
+    ensures falls { IfOk result (λ argument. length argument.inside.now + argument_left argument ≤ length tokens.now) }
+{
     match tokens {
         [token, after @ ..] => match role_of(codes, token) {
             Role::CloseBrace => Err(missing_field(tokens.len())),

@@ -1,6 +1,10 @@
 //! Where lists end, and what becomes of a list where no item is.
-ghost use Rattle.std.specs.Prelude.{◌≡◌, ◌≤◌, drop, length};
-ghost use Rattle.mt_formula.specs.Lists.{ends_with_tokens, ends_at, misplaced_cause};
+ghost use Rattle.std.specs.Prelude.{◌≡◌, ◌≤◌, ℕ, drop, length};
+ghost use Rattle.mt_rules.specs.Sequence.{Sequence};
+ghost use Rattle.mt_scaled.specs.declared.unit.Units.{Units};
+ghost use Rattle.mt_formula.specs.Groups.{ends_at_middle};
+ghost use Rattle.mt_formula.specs.Lists.{ItemRun, ItemRunReader, ends_at, ends_with_tokens, list_end, misplaced_cause};
+ghost use Rattle.mt_formula.specs.reading.Ends.{EndsAtEnd, EndsAtRole, EndsHere, StopsHere};
 
 use mt_plain::Codes;
 use mt_scan::{Bar, Fault, ReadCause, Role, role_of};
@@ -35,12 +39,16 @@ pub enum ListStop {
 }
 
 // Whether a list ends with the tokens.
-fn ends_with_tokens(ending: Ending) -> bool {
+fn ends_with_tokens(ending: Ending) -> bool
+    ensures { result ≡ ends_with_tokens ending }
+{
     matches!(ending, Ending::AtEnd | Ending::AtNumber)
 }
 
 // Whether a list ends at a token of this role.
-fn ends_at(ending: Ending, role: Role) -> bool {
+fn ends_at(ending: Ending, role: Role) -> bool
+    ensures { result ≡ ends_at ending role }
+{
     match ending {
         Ending::AtEnd => false,
         Ending::AtNumber => matches!(role, Role::NumberWord(_)),
@@ -53,7 +61,9 @@ fn ends_at(ending: Ending, role: Role) -> bool {
 }
 
 // The cause of a fault at a token of this role, which is no item and does not end the list.
-fn misplaced_cause(role: Role) -> ReadCause {
+fn misplaced_cause(role: Role) -> ReadCause
+    ensures { result ≡ misplaced_cause role }
+{
     match role {
         Role::FractionWord(_, _) => ReadCause::TwoFractions,
         Role::NumberWord(_) | Role::DisplayWord(_, _) => ReadCause::MisplacedNumber,
@@ -61,54 +71,68 @@ fn misplaced_cause(role: Role) -> ReadCause {
     }
 }
 
-// A list that ends here, where a token of this role is, or none; so many tokens are left.
-fn ends_here(ending: Ending, front: Option<Role>, left: usize) -> Result<(), Fault> {
-    match front {
-        Some(role) => {
-            if ends_at(ending, role) {
-                return Ok(());
-            }
-            Err(Fault {
-                cause: misplaced_cause(role),
-                left,
-            })
-        }
-        None => {
-            if ends_with_tokens(ending) {
-                return Ok(());
-            }
-            Err(Fault {
-                cause: ReadCause::Unbalanced,
-                left: 0,
-            })
-        }
+// That a list ends at a token of this role, with which so many tokens are left.
+fn ends_at_role(ending: Ending, role: Role, left: usize) -> Result<(), Fault>
+    ensures { EndsAtRole result ending role left }
+{
+    if ends_at(ending, role) {
+        Ok(())
+    } else {
+        Err(Fault {
+            cause: misplaced_cause(role),
+            left,
+        })
     }
 }
 
-fn front_role(codes: &Codes, tokens: &[Token]) -> Option<Role> {
-    match tokens {
-        [token, ..] => Some(role_of(codes, token)),
-        [] => None,
+// That a list ends with the tokens.
+fn ends_at_end(ending: Ending) -> Result<(), Fault>
+    ensures { EndsAtEnd result ending }
+{
+    if ends_with_tokens(ending) {
+        Ok(())
+    } else {
+        Err(Fault {
+            cause: ReadCause::Unbalanced,
+            left: 0,
+        })
     }
 }
 
 /// That a list ends at these tokens.
-pub fn list_ends(codes: &Codes, ending: Ending, tokens: &[Token]) -> Result<(), Fault> {
-    ends_here(ending, front_role(codes, tokens), tokens.len())
+pub fn list_ends(codes: &Codes, ending: Ending, tokens: &[Token]) -> Result<(), Fault>
+    ensures { (units : Units) (list : Sequence) → EndsHere result list (list_end codes.now units ending list tokens.now) tokens.now }
+{
+    match tokens {
+        [token, ..] => ends_at_role(ending, role_of(codes, token), tokens.len()),
+        [] => ends_at_end(ending),
+    }
 }
 
 /// What becomes of a list at these tokens, which begin with no item.
-pub fn list_stop(codes: &Codes, ending: Ending, tokens: &[Token]) -> Result<ListStop, Fault> {
-    let front = front_role(codes, tokens);
-    if let Some(Role::FractionWord(delims, bar)) = front {
-        return Ok(ListStop::Divides(delims, bar));
+pub fn list_stop(codes: &Codes, ending: Ending, tokens: &[Token]) -> Result<ListStop, Fault>
+    ensures { (units : Units) (again : ItemRunReader) (level : ℕ) (run : ItemRun)
+        → StopsHere codes.now units again ending level run tokens.now result }
+{
+    match tokens {
+        [token, ..] => match role_of(codes, token) {
+            Role::FractionWord(delims, bar) => Ok(ListStop::Divides(delims, bar)),
+            role => {
+                ends_at_role(ending, role, tokens.len())?;
+                Ok(ListStop::Ends)
+            }
+        },
+        [] => {
+            ends_at_end(ending)?;
+            Ok(ListStop::Ends)
+        }
     }
-    ends_here(ending, front, tokens.len())?;
-    Ok(ListStop::Ends)
 }
 
 /// Whether a list ends here at `\middle`.
-pub fn is_at_middle(codes: &Codes, tokens: &[Token]) -> bool {
+pub fn is_at_middle(codes: &Codes, tokens: &[Token]) -> bool
+    ensures { result ≡ ends_at_middle codes.now tokens.now }
+{
     match tokens {
         [token, ..] => matches!(role_of(codes, token), Role::MiddleWord),
         [] => false,

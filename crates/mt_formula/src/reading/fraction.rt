@@ -1,6 +1,7 @@
 //! What a fraction word begins.
-ghost use Rattle.std.specs.Prelude.{◌≤◌, ◌^◌, length, IfOk};
+ghost use Rattle.std.specs.Prelude.{◌≡◌, ◌≤◌, ◌^◌, length, IfOk};
 ghost use Rattle.mt_scaled.specs.Number.{Within};
+ghost use Rattle.mt_arena.specs.declared.thing.Thing.TheVariants.{Fraction};
 ghost use Rattle.mt_scan.specs.Meets.{Meets};
 ghost use Rattle.mt_formula.specs.Lists.{bar_thickness, with_bar, fraction_head};
 
@@ -97,7 +98,9 @@ pub fn fraction_head<'a>(
 }
 
 /// The fraction of these two lists.
-pub fn fraction_thing(head: FractionHead, num: Span, den: Span) -> Result<Thing, AllocError> {
+pub fn fraction_thing(head: FractionHead, num: Span, den: Span) -> Result<Thing, AllocError>
+    ensures { IfOk result (λ thing. thing ≡ Fraction (record { thickness = head.thickness; left = head.left; right = head.right; num = num; den = den })) }
+{
     Ok(Thing::Fraction(FractionNoad {
         thickness: short_thickness(head.thickness)?,
         left: head.left,

@@ -1,5 +1,31 @@
 //! Lists of the items of a formula, by the rules of the grammar (The TeXbook, chapters 17, 18, 19 and 26). Lists are in
 //! lists, so reading is recursive: each list has at least one token less than the one round it.
+ghost use Rattle.std.specs.Prelude.{◌≡◌, ◌≢◌, ◌≤◌, ◌<◌, ◌+◌, IfOk, OnOk, None, Some, length, drop, true};
+ghost use Rattle.mt_rules.specs.Sequence.{More, LeftElement};
+ghost use Rattle.mt_arena.specs.Arena.{as_sequence, cell_part, grid_in, rows_in, sequence_in};
+ghost use Rattle.mt_arena.specs.declared.thing.Cell.TheVariants.{List as OfList};
+ghost use Rattle.mt_arena.specs.Keeping.{GridLists, RowsLists};
+ghost use Rattle.mt_scan.specs.Limits.{max_groups};
+ghost use Rattle.mt_scan.specs.Parts.{after_blanks, opening, then_read};
+ghost use Rattle.mt_scan.specs.Role.{is_open_brace};
+ghost use Rattle.mt_formula.specs.Atoms.{append, last_atom_items};
+ghost use Rattle.mt_formula.specs.Groups.{group_list, segments};
+ghost use Rattle.mt_formula.specs.Items.{choice_list, field, given};
+ghost use Rattle.mt_formula.specs.Lists.{denominator, list, list_after, then_give};
+ghost use Rattle.mt_formula.specs.Primes.{after_primes, prime_script};
+ghost use Rattle.mt_formula.specs.Rows.{first_rows, row};
+ghost use Rattle.mt_formula.specs.Tables.{table_rows};
+ghost use Rattle.mt_formula.specs.Whole.{whole_cells, whole_rows};
+ghost use Rattle.mt_formula.specs.declared.step.action.Action.TheVariants as acts;
+ghost use Rattle.mt_formula.specs.declared.reading.ends.Ending.TheVariants as ends;
+ghost use Rattle.mt_formula.specs.reading.Actions.{opens_list};
+ghost use Rattle.mt_formula.specs.reading.Arguments.{argument_in, argument_left};
+ghost use Rattle.mt_formula.specs.reading.Givens.{KeptGiven, given_in};
+ghost use Rattle.mt_formula.specs.reading.Inside.{are_inside};
+ghost use Rattle.mt_formula.specs.reading.Noads.{KeptField, KeptLast, last_in};
+ghost use Rattle.mt_formula.specs.reading.Reads.{ReadsInto, ReadsOpen, ReadsPrimes, ReadsRow, ReadsRun, ReadsSegment, whole_run};
+ghost use Rattle.mt_formula.specs.reading.Tables.{ReadsCell, ReadsCells, ends_row};
+ghost use Rattle.mt_formula.specs.reading.WholeLists.{KeptSpan, KeptWhole, list_in};
 
 use crate::open::groups::open_brace;
 use crate::open::table::{Column, TableForm, TableStep, first_column, preamble_of};
@@ -37,7 +63,12 @@ fn read_run<'a>(
     group: Group,
     last: Option<Noad>,
     tokens: &'a [Token],
-) -> Result<Scanned<'a, RunEnd>, Stop> {
+) -> Result<Scanned<'a, RunEnd>, Stop>
+    requires { KeptLast arena.old.closed last }
+    ensures is { ReadsRun result arena.old arena.new (whole_run grammar.entry.codes.now grammar.entry.units group.level group.family (last_in arena.old.closed last) tokens.now) }
+    ensures last { IfOk result (λ run. KeptLast arena.new.closed run.value.last) }
+    ensures falls { IfOk result (λ part. length part.rest.now ≤ length tokens.now) }
+{
     let mut run = RunEnd {
         last,
         family: group.family,
@@ -47,7 +78,10 @@ fn read_run<'a>(
         let here = group.with_family(run.family);
         let action = action_here(grammar, here, &run.last, rest)?;
         if let Action::Stop = action.value {
-            return Ok(Scanned { value: run, rest });
+            return Ok(Scanned {
+                value: run,
+                rest: action.rest,
+            });
         }
         let given = read_given(arena, grammar, here, action.value, action.rest)?;
         run = put_given(arena, run, given.value)?;
@@ -63,7 +97,13 @@ fn read_given<'a>(
     group: Group,
     action: Action,
     tokens: &'a [Token],
-) -> Result<Scanned<'a, Given>, Stop> {
+) -> Result<Scanned<'a, Given>, Stop>
+    requires not_stop { action ≢ acts.Stop }
+    requires level { opens_list action ≡ true → group.level < max_groups }
+    ensures is { ReadsInto given_in result arena.old arena.new (given grammar.entry.codes.now grammar.entry.units (whole_run grammar.entry.codes.now grammar.entry.units) group.level group.family action tokens.now) }
+    ensures kept { IfOk result (λ part. KeptGiven arena.new.closed part.value) }
+    ensures falls { IfOk result (λ part. length part.rest.now ≤ length tokens.now) }
+{
     match action {
         Action::Group(kind) => read_nucleus(arena, grammar, group, kind, tokens),
         Action::ScriptGroup(side) => {
@@ -112,7 +152,12 @@ fn read_nucleus<'a>(
     group: Group,
     kind: FieldKind,
     tokens: &'a [Token],
-) -> Result<Scanned<'a, Given>, Stop> {
+) -> Result<Scanned<'a, Given>, Stop>
+    requires { group.level < max_groups }
+    ensures is { ReadsInto given_in result arena.old arena.new (given grammar.entry.codes.now grammar.entry.units (whole_run grammar.entry.codes.now grammar.entry.units) group.level group.family (acts.Group kind) tokens.now) }
+    ensures kept { IfOk result (λ part. KeptGiven arena.new.closed part.value) }
+    ensures falls { IfOk result (λ part. length part.rest.now ≤ length tokens.now) }
+{
     let list = read_group(arena, grammar, group, tokens)?;
     Ok(Scanned {
         value: nucleus_given(arena, kind, list.value)?,
@@ -127,7 +172,12 @@ fn read_group<'a>(
     grammar: Grammar<'_>,
     group: Group,
     tokens: &'a [Token],
-) -> Result<Scanned<'a, WholeList>, Stop> {
+) -> Result<Scanned<'a, WholeList>, Stop>
+    requires { group.level < max_groups }
+    ensures is { ReadsInto list_in result arena.old arena.new (group_list grammar.entry.codes.now grammar.entry.units (whole_run grammar.entry.codes.now grammar.entry.units) group.level group.family tokens.now) }
+    ensures kept { IfOk result (λ part. KeptWhole arena.new.closed part.value) }
+    ensures falls { IfOk result (λ part. length part.rest.now ≤ length tokens.now) }
+{
     let list = read_list(arena, grammar, group.inside(), Ending::AtBrace, tokens)?;
     Ok(Scanned {
         value: list.value,
@@ -143,7 +193,11 @@ pub fn read_list<'a>(
     group: Group,
     ending: Ending,
     tokens: &'a [Token],
-) -> Result<Scanned<'a, WholeList>, Stop> {
+) -> Result<Scanned<'a, WholeList>, Stop>
+    ensures is { ReadsInto list_in result arena.old arena.new (list grammar.entry.codes.now grammar.entry.units (whole_run grammar.entry.codes.now grammar.entry.units) ending group.level group.family tokens.now) }
+    ensures kept { IfOk result (λ part. KeptWhole arena.new.closed part.value) }
+    ensures falls { IfOk result (λ part. length part.rest.now ≤ length tokens.now) }
+{
     arena.begin()?;
     let open = read_open(arena, grammar, group, ending, None, tokens)?;
     Ok(Scanned {
@@ -162,7 +216,13 @@ fn read_open<'a>(
     ending: Ending,
     last: Option<Noad>,
     tokens: &'a [Token],
-) -> Result<Scanned<'a, Option<Noad>>, Stop> {
+) -> Result<Scanned<'a, Option<Noad>>, Stop>
+    requires last { KeptLast arena.old.closed last }
+    requires inside { are_inside arena.old.top ≡ true }
+    ensures is { ReadsOpen result arena.old arena.new (list_after grammar.entry.codes.now grammar.entry.units (whole_run grammar.entry.codes.now grammar.entry.units) (as_sequence arena.old.top) (last_in arena.old.closed last) ending group.level group.family tokens.now) }
+    ensures last { IfOk result (λ part. KeptLast arena.new.closed part.value) }
+    ensures falls { IfOk result (λ part. length part.rest.now ≤ length tokens.now) }
+{
     let run = read_run(arena, grammar, group, last, tokens)?;
     match list_stop(grammar.codes, ending, run.rest)? {
         ListStop::Ends => Ok(Scanned {
@@ -187,7 +247,13 @@ fn read_denominator<'a>(
     ending: Ending,
     last: Option<Noad>,
     head: Scanned<'a, FractionHead>,
-) -> Result<Scanned<'a, Option<Noad>>, Stop> {
+) -> Result<Scanned<'a, Option<Noad>>, Stop>
+    requires last { KeptLast arena.old.closed last }
+    requires inside { are_inside arena.old.top ≡ true }
+    ensures is { ReadsOpen result arena.old arena.new (denominator grammar.entry.codes.now grammar.entry.units (whole_run grammar.entry.codes.now grammar.entry.units) ending group.level (record { items = append (as_sequence arena.old.top) (last_atom_items (last_in arena.old.closed last)); family = group.family }) head.entry.value head.entry.rest.now) }
+    ensures last { IfOk result (λ part. KeptLast arena.new.closed part.value) }
+    ensures falls { IfOk result (λ part. length part.rest.now ≤ length head.entry.rest.now) }
+{
     let num = close_list(arena, last)?;
     arena.begin()?;
     let run = read_run(arena, grammar, group, None, head.rest)?;
@@ -208,7 +274,11 @@ fn read_field<'a>(
     grammar: Grammar<'_>,
     group: Group,
     tokens: &'a [Token],
-) -> Result<Scanned<'a, Cell>, Stop> {
+) -> Result<Scanned<'a, Cell>, Stop>
+    ensures is { ReadsInto cell_part result arena.old arena.new (field grammar.entry.codes.now grammar.entry.units (whole_run grammar.entry.codes.now grammar.entry.units) group.level group.family tokens.now) }
+    ensures kept { IfOk result (λ part. KeptField arena.new.closed part.value) }
+    ensures falls { IfOk result (λ part. length part.rest.now ≤ length tokens.now) }
+{
     let start = field_start(grammar.codes, group.level, group.family, tokens)?;
     match start.value {
         FieldStart::Symbol(symbol) => Ok(Scanned {
@@ -232,7 +302,12 @@ fn read_root<'a>(
     grammar: Grammar<'_>,
     group: Group,
     tokens: &'a [Token],
-) -> Result<Scanned<'a, Given>, Stop> {
+) -> Result<Scanned<'a, Given>, Stop>
+    requires { group.level < max_groups }
+    ensures is { ReadsInto given_in result arena.old arena.new (given grammar.entry.codes.now grammar.entry.units (whole_run grammar.entry.codes.now grammar.entry.units) group.level group.family acts.Root tokens.now) }
+    ensures kept { IfOk result (λ part. KeptGiven arena.new.closed part.value) }
+    ensures falls { IfOk result (λ part. length part.rest.now ≤ length tokens.now) }
+{
     let list = read_list(arena, grammar, group.inside(), Ending::AtOf, tokens)?;
     let degree = span_of(arena, list.value)?;
     let body = read_field(arena, grammar, group, after_first(list.rest))?;
@@ -249,7 +324,12 @@ fn read_branch<'a>(
     grammar: Grammar<'_>,
     group: Group,
     tokens: &'a [Token],
-) -> Result<Scanned<'a, Span>, Stop> {
+) -> Result<Scanned<'a, Span>, Stop>
+    requires { group.level < max_groups }
+    ensures is { ReadsInto sequence_in result arena.old arena.new (group_list grammar.entry.codes.now grammar.entry.units (whole_run grammar.entry.codes.now grammar.entry.units) group.level group.family tokens.now) }
+    ensures kept { IfOk result (λ part. KeptSpan arena.new.closed part.value) }
+    ensures falls { IfOk result (λ part. length part.rest.now ≤ length tokens.now) }
+{
     let list = read_group(arena, grammar, group, tokens)?;
     Ok(Scanned {
         value: span_of(arena, list.value)?,
@@ -264,7 +344,11 @@ fn read_next_branch<'a>(
     grammar: Grammar<'_>,
     group: Group,
     tokens: &'a [Token],
-) -> Result<Scanned<'a, Span>, Stop> {
+) -> Result<Scanned<'a, Span>, Stop>
+    ensures is { ReadsInto sequence_in result arena.old arena.new (choice_list grammar.entry.codes.now grammar.entry.units (whole_run grammar.entry.codes.now grammar.entry.units) group.level group.family tokens.now) }
+    ensures kept { IfOk result (λ part. KeptSpan arena.new.closed part.value) }
+    ensures falls { IfOk result (λ part. length part.rest.now ≤ length tokens.now) }
+{
     let inside = open_brace(grammar.codes, group.level, after_spaces(tokens))?;
     read_branch(arena, grammar, group, inside)
 }
@@ -276,7 +360,12 @@ fn read_choice<'a>(
     grammar: Grammar<'_>,
     group: Group,
     tokens: &'a [Token],
-) -> Result<Scanned<'a, Given>, Stop> {
+) -> Result<Scanned<'a, Given>, Stop>
+    requires { group.level < max_groups }
+    ensures is { ReadsInto given_in result arena.old arena.new (given grammar.entry.codes.now grammar.entry.units (whole_run grammar.entry.codes.now grammar.entry.units) group.level group.family acts.Choice tokens.now) }
+    ensures kept { IfOk result (λ part. KeptGiven arena.new.closed part.value) }
+    ensures falls { IfOk result (λ part. length part.rest.now ≤ length tokens.now) }
+{
     let display = read_branch(arena, grammar, group, tokens)?;
     let text = read_next_branch(arena, grammar, group, display.rest)?;
     let script = read_next_branch(arena, grammar, group, text.rest)?;
@@ -300,7 +389,11 @@ fn read_left_right<'a>(
     group: Group,
     left: Delim,
     tokens: &'a [Token],
-) -> Result<Scanned<'a, Span>, Stop> {
+) -> Result<Scanned<'a, Span>, Stop>
+    ensures is { ReadsInto sequence_in result arena.old arena.new (then_give (segments grammar.entry.codes.now grammar.entry.units (whole_run grammar.entry.codes.now grammar.entry.units) group.level group.family tokens.now) (λ inner. More (LeftElement left) inner)) }
+    ensures kept { IfOk result (λ part. KeptField arena.new.closed (OfList part.value)) }
+    ensures falls { IfOk result (λ part. length part.rest.now ≤ length tokens.now) }
+{
     arena.begin()?;
     arena.push(Thing::Left(left))?;
     let mut rest = tokens;
@@ -327,7 +420,10 @@ fn read_segment<'a>(
     grammar: Grammar<'_>,
     group: Group,
     tokens: &'a [Token],
-) -> Result<&'a [Token], Stop> {
+) -> Result<&'a [Token], Stop>
+    ensures is { ReadsSegment result arena.old arena.new (list grammar.entry.codes.now grammar.entry.units (whole_run grammar.entry.codes.now grammar.entry.units) ends.AtRight group.level group.family tokens.now) }
+    ensures falls { IfOk result (λ rest. length rest.now ≤ length tokens.now) }
+{
     arena.begin()?;
     let open = read_open(arena, grammar, group, Ending::AtRight, None, tokens)?;
     push_last(arena, open.value)?;
@@ -342,7 +438,13 @@ fn read_rows<'a>(
     grammar: Grammar<'_>,
     level: usize,
     tokens: &'a [Token],
-) -> Result<Scanned<'a, Span>, Stop> {
+) -> Result<Scanned<'a, Span>, Stop>
+    requires { level ≤ max_groups + 1 }
+    ensures is { ReadsInto rows_in result arena.old arena.new (first_rows grammar.entry.codes.now grammar.entry.units (whole_run grammar.entry.codes.now grammar.entry.units) (whole_rows grammar.entry.codes.now grammar.entry.units (whole_run grammar.entry.codes.now grammar.entry.units) level) tokens.now) }
+    ensures within { IfOk result (λ part. part.value.end ≤ length arena.new.closed) }
+    ensures lists { IfOk result (λ part. RowsLists (rows_in arena.new.closed part.value)) }
+    ensures falls { IfOk result (λ part. length part.rest.now ≤ length tokens.now) }
+{
     arena.begin()?;
     let mut row = first_row_begins(grammar.codes, tokens)?;
     while row.value {
@@ -362,7 +464,11 @@ fn read_row<'a>(
     grammar: Grammar<'_>,
     level: usize,
     tokens: &'a [Token],
-) -> Result<&'a [Token], Stop> {
+) -> Result<&'a [Token], Stop>
+    requires { level ≤ max_groups + 1 }
+    ensures is { ReadsRow result arena.old arena.new (row grammar.entry.codes.now grammar.entry.units (whole_run grammar.entry.codes.now grammar.entry.units) level tokens.now) }
+    ensures falls { IfOk result (λ rest. length rest.now < length tokens.now) }
+{
     let inside = open_row_list(grammar.codes, level, tokens)?;
     let group = Group::without_family(level + 2);
     let list = read_list(arena, grammar, group, Ending::AtDollar, inside)?;
@@ -380,7 +486,11 @@ fn read_table_word<'a>(
     group: Group,
     form: TableForm,
     tokens: &'a [Token],
-) -> Result<Scanned<'a, Given>, Stop> {
+) -> Result<Scanned<'a, Given>, Stop>
+    ensures is { ReadsInto given_in result arena.old arena.new (given grammar.entry.codes.now grammar.entry.units (whole_run grammar.entry.codes.now grammar.entry.units) group.level group.family (acts.Table form) tokens.now) }
+    ensures kept { IfOk result (λ part. KeptGiven arena.new.closed part.value) }
+    ensures falls { IfOk result (λ part. length part.rest.now ≤ length tokens.now) }
+{
     let level = brace_level(form, group.level);
     let rows = read_table(arena, grammar, preamble_of(form), level, tokens)?;
     Ok(Scanned {
@@ -397,12 +507,35 @@ pub fn read_table<'a>(
     preamble: Preamble,
     level: usize,
     tokens: &'a [Token],
-) -> Result<Scanned<'a, Span>, Stop> {
+) -> Result<Scanned<'a, Span>, Stop>
+    ensures is { ReadsInto grid_in result arena.old arena.new (then_read (opening grammar.entry.codes.now is_open_brace level (after_blanks grammar.entry.codes.now tokens.now)) (λ here inside. table_rows grammar.entry.codes.now grammar.entry.units (whole_run grammar.entry.codes.now grammar.entry.units) (level + 1) preamble inside)) }
+    ensures within { IfOk result (λ part. part.value.end ≤ length arena.new.closed) }
+    ensures lists { IfOk result (λ part. GridLists (grid_in arena.new.closed part.value)) }
+    ensures falls { IfOk result (λ part. length part.rest.now ≤ length tokens.now) }
+{
     let inside = open_brace(grammar.codes, level, after_blanks(grammar.codes, tokens))?;
+    read_table_rows(arena, grammar, preamble, level + 1, inside)
+}
+
+// The rows of a table after its `{`, and the tokens after its `}`. So many groups are open in each cell.
+#[cycle(reading)]
+fn read_table_rows<'a>(
+    arena: &mut Arena,
+    grammar: Grammar<'_>,
+    preamble: Preamble,
+    level: usize,
+    tokens: &'a [Token],
+) -> Result<Scanned<'a, Span>, Stop>
+    requires { level ≤ max_groups }
+    ensures is { ReadsInto grid_in result arena.old arena.new (table_rows grammar.entry.codes.now grammar.entry.units (whole_run grammar.entry.codes.now grammar.entry.units) level preamble tokens.now) }
+    ensures within { IfOk result (λ part. part.value.end ≤ length arena.new.closed) }
+    ensures lists { IfOk result (λ part. GridLists (grid_in arena.new.closed part.value)) }
+    ensures falls { IfOk result (λ part. length part.rest.now ≤ length tokens.now) }
+{
     arena.begin()?;
-    let mut step = row_or_end(grammar.codes, after_spaces(inside));
+    let mut step = row_or_end(grammar.codes, after_spaces(tokens));
     while let TableStep::NextRow = step.value {
-        step = read_cells(arena, grammar, preamble, level + 1, step.rest)?;
+        step = read_cells(arena, grammar, preamble, level, step.rest)?;
     }
     Ok(Scanned {
         value: arena.close()?,
@@ -418,7 +551,12 @@ fn read_cells<'a>(
     preamble: Preamble,
     level: usize,
     tokens: &'a [Token],
-) -> Result<Scanned<'a, TableStep>, Stop> {
+) -> Result<Scanned<'a, TableStep>, Stop>
+    requires { level ≤ max_groups }
+    ensures is { ReadsCells (whole_cells grammar.entry.codes.now grammar.entry.units (whole_run grammar.entry.codes.now grammar.entry.units) level preamble) preamble result arena.old arena.new tokens.now }
+    ensures ends { IfOk result (λ step. ends_row step.value ≡ true) }
+    ensures falls { IfOk result (λ step. length step.rest.now < length tokens.now) }
+{
     arena.begin()?;
     let mut column = first_column(preamble);
     let mut rest = tokens;
@@ -447,7 +585,11 @@ fn read_cell<'a>(
     column: Column,
     level: usize,
     tokens: &'a [Token],
-) -> Result<Scanned<'a, TableStep>, Stop> {
+) -> Result<Scanned<'a, TableStep>, Stop>
+    requires { level ≤ max_groups }
+    ensures is { ReadsCell grammar.entry.codes.now grammar.entry.units (whole_run grammar.entry.codes.now grammar.entry.units) level preamble result arena.old arena.new column tokens.now }
+    ensures falls { IfOk result (λ step. length step.rest.now < length tokens.now) }
+{
     arena.begin()?;
     let group = Group::without_family(level);
     let start = cell_start(column);
@@ -466,7 +608,11 @@ fn read_primes<'a>(
     grammar: Grammar<'_>,
     group: Group,
     tokens: &'a [Token],
-) -> Result<Scanned<'a, Span>, Stop> {
+) -> Result<Scanned<'a, Span>, Stop>
+    ensures is { ReadsInto sequence_in result arena.old arena.new (prime_script grammar.entry.codes.now grammar.entry.units (whole_run grammar.entry.codes.now grammar.entry.units) group.level group.family tokens.now) }
+    ensures kept { IfOk result (λ part. KeptSpan arena.new.closed part.value) }
+    ensures falls { IfOk result (λ part. length part.rest.now ≤ length tokens.now) }
+{
     let more = primes(grammar.codes, tokens);
     match after_superscript(grammar.codes, more.rest) {
         Some(after) => {
@@ -490,7 +636,11 @@ fn read_argument<'a>(
     grammar: Grammar<'_>,
     count: usize,
     argument: ScriptArgument<'a>,
-) -> Result<Scanned<'a, Span>, Stop> {
+) -> Result<Scanned<'a, Span>, Stop>
+    ensures is { ReadsInto sequence_in result arena.old arena.new (argument_in grammar.entry.codes.now grammar.entry.units (whole_run grammar.entry.codes.now grammar.entry.units) count argument.entry) }
+    ensures kept { IfOk result (λ part. KeptSpan arena.new.closed part.value) }
+    ensures falls { IfOk result (λ part. length part.rest.now ≤ argument_left argument.entry) }
+{
     let read = read_after_primes(arena, grammar, count, argument);
     match argument.end {
         ArgumentEnd::Missing => {
@@ -514,7 +664,10 @@ fn read_after_primes(
     grammar: Grammar<'_>,
     count: usize,
     argument: ScriptArgument<'_>,
-) -> Result<Span, Stop> {
+) -> Result<Span, Stop>
+    ensures is { ReadsPrimes result arena.old arena.new (after_primes grammar.entry.codes.now grammar.entry.units (whole_run grammar.entry.codes.now grammar.entry.units) count argument.entry.group.level argument.entry.group.family argument.entry.inside.now) }
+    ensures kept { IfOk result (KeptSpan arena.new.closed) }
+{
     begin_primes(arena, count)?;
     let last = Some(prime_noad());
     let open = read_open(

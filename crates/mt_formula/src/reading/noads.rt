@@ -1,11 +1,12 @@
 //! Atoms in an arena: how they are made, and what the one at hand becomes.
-ghost use Rattle.std.specs.Prelude.{◌≡◌, Some, None, true};
-ghost use Rattle.mt_rules.specs.Sequence.{EmptyPart};
-ghost use Rattle.mt_arena.specs.Arena.{Held, cell_part};
+ghost use Rattle.std.specs.Prelude.{◌≡◌, List};
+ghost use Rattle.mt_rules.specs.declared.class.Class.TheVariants.{Ord};
+ghost use Rattle.mt_rules.specs.declared.kind.Kind.TheVariants.{Plain};
+ghost use Rattle.mt_arena.specs.Arena.{Held};
+ghost use Rattle.mt_arena.specs.declared.thing.Cell.TheVariants.{Sym};
 ghost use Rattle.mt_scan.specs.Role.{nucleus_kind};
-ghost use Rattle.mt_formula.specs.Atoms.{is_bare_ord, is_accent_kind, is_free, is_op, plain_atom, prime_atom};
-ghost use Rattle.mt_formula.specs.Atoms.{scripted_atom, with_limits, with_script};
-ghost use Rattle.mt_formula.specs.reading.Noads.{last_in, noad_in};
+ghost use Rattle.mt_formula.specs.Atoms.{is_bare_ord, is_accent_kind, is_free, is_op};
+ghost use Rattle.mt_formula.specs.reading.Noads.{bare_noad, last_in, limited, noad_in, noad_with};
 
 use mt_arena::{Cell, Noad};
 use mt_rules::{Class, Kind, Limits, Symbol};
@@ -35,7 +36,7 @@ pub fn kind_of(kind: FieldKind) -> Kind
 
 /// An atom without scripts.
 pub fn plain_noad(kind: Kind, nucleus: Cell) -> Noad
-    ensures { (es : List Held) → noad_in es result ≡ plain_atom kind (cell_part es nucleus) }
+    ensures { result ≡ bare_noad kind nucleus }
 {
     Noad {
         kind,
@@ -48,7 +49,7 @@ pub fn plain_noad(kind: Kind, nucleus: Cell) -> Noad
 
 /// The atom of a prime (plain TeX's `\prime`).
 pub fn prime_noad() -> Noad
-    ensures { (es : List Held) → noad_in es result ≡ prime_atom }
+    ensures { result ≡ bare_noad (Plain Ord) (Sym (record { fam = 2; code = 48 })) }
 {
     let prime = Symbol { fam: 2, code: 48 };
     plain_noad(Kind::Plain(Class::Ord), Cell::Sym(prime))
@@ -56,7 +57,7 @@ pub fn prime_noad() -> Noad
 
 /// The atom at hand with this script, or a new one where there is none.
 pub fn with_script(last: Option<Noad>, side: Side, part: Cell) -> Noad
-    ensures { (es : List Held) → noad_in es result ≡ with_script side (cell_part es part) (last_in es last) }
+    ensures { result ≡ noad_with side part last }
 {
     let noad = match last {
         Some(noad) => noad,
@@ -70,9 +71,12 @@ pub fn with_script(last: Option<Noad>, side: Side, part: Cell) -> Noad
 
 /// The atom at hand with its limits placed so.
 pub fn with_limits(last: Option<Noad>, limits: Limits) -> Option<Noad>
-    ensures { (es : List Held) → last_in es result ≡ with_limits limits (last_in es last) }
+    ensures { result ≡ limited limits last }
 {
-    last.map(|noad| Noad { limits, ..noad })
+    match last {
+        Some(noad) => Some(Noad { limits, ..noad }),
+        None => None,
+    }
 }
 
 /// Whether a script can be put to the atom at hand.

@@ -1,4 +1,12 @@
 //! What is in a list before, or put round it after, what is written there.
+ghost use Rattle.std.specs.Prelude.{◌≡◌, IfOk, OnOk, List, true};
+ghost use Rattle.mt_arena.specs.Arena.{Held, as_sequence, sequence_in};
+ghost use Rattle.mt_formula.specs.Atoms.{prime_items};
+ghost use Rattle.mt_formula.specs.Tables.{cell_list, cell_start, displayed_group};
+ghost use Rattle.mt_formula.specs.reading.Inside.{are_inside};
+ghost use Rattle.mt_formula.specs.reading.Noads.{KeptLast, last_in};
+ghost use Rattle.mt_formula.specs.reading.Reads.{Grows, Opens};
+ghost use Rattle.mt_formula.specs.reading.WholeLists.{KeptSpan, KeptWhole, list_in};
 
 use crate::open::table::Column;
 use crate::reading::noads::{plain_noad, prime_noad};
@@ -8,7 +16,11 @@ use mt_rules::{Class, Kind, Style};
 use std::alloc::AllocError;
 
 /// Opens a list that begins with so many primes.
-pub fn begin_primes(arena: &mut Arena, count: usize) -> Result<(), AllocError> {
+pub fn begin_primes(arena: &mut Arena, count: usize) -> Result<(), AllocError>
+    ensures opens { OnOk result (Opens arena.old arena.new) }
+    ensures is { OnOk result (as_sequence arena.new.top ≡ prime_items count) }
+    ensures inside { OnOk result (are_inside arena.new.top ≡ true) }
+{
     arena.begin()?;
     for _put in 0..count {
         arena.push(Thing::Atom(prime_noad()))?;
@@ -17,7 +29,10 @@ pub fn begin_primes(arena: &mut Arena, count: usize) -> Result<(), AllocError> {
 }
 
 /// The atom at hand in a cell of this column before what is written there.
-pub fn cell_start(column: Column) -> Option<Noad> {
+pub fn cell_start(column: Column) -> Option<Noad>
+    ensures is { (es : List Held) → last_in es result ≡ cell_start column }
+    ensures kept { (es : List Held) → KeptLast es result }
+{
     match column {
         Column::Plain | Column::LeftSide => None,
         Column::RightSide => {
@@ -28,7 +43,12 @@ pub fn cell_start(column: Column) -> Option<Noad> {
 }
 
 // `\displaystyle`, and this list as a group.
-fn displayed_group(arena: &mut Arena, list: WholeList) -> Result<Span, AllocError> {
+fn displayed_group(arena: &mut Arena, list: WholeList) -> Result<Span, AllocError>
+    requires { KeptWhole arena.old.closed list }
+    ensures is { IfOk result (λ span. sequence_in arena.new.closed span ≡ displayed_group (list_in arena.old.closed list)) }
+    ensures kept { IfOk result (KeptSpan arena.new.closed) }
+    ensures grows { OnOk result (Grows arena.old arena.new) }
+{
     let group = group_noad(arena, list)?;
     arena.begin()?;
     arena.push(Thing::Style(Style::D))?;
@@ -36,7 +56,12 @@ fn displayed_group(arena: &mut Arena, list: WholeList) -> Result<Span, AllocErro
 }
 
 /// The list of a cell of this column, of all that is in it.
-pub fn cell_list(arena: &mut Arena, column: Column, list: WholeList) -> Result<Span, AllocError> {
+pub fn cell_list(arena: &mut Arena, column: Column, list: WholeList) -> Result<Span, AllocError>
+    requires { KeptWhole arena.old.closed list }
+    ensures is { IfOk result (λ span. sequence_in arena.new.closed span ≡ cell_list column (list_in arena.old.closed list)) }
+    ensures kept { IfOk result (KeptSpan arena.new.closed) }
+    ensures grows { OnOk result (Grows arena.old arena.new) }
+{
     match column {
         Column::Plain => span_of(arena, list),
         Column::LeftSide | Column::RightSide => displayed_group(arena, list),

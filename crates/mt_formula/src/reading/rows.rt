@@ -5,7 +5,7 @@ ghost use Rattle.mt_scan.specs.Role.{is_math_shift};
 ghost use Rattle.mt_scan.specs.Meets.{Meets};
 ghost use Rattle.mt_formula.specs.reading.Actions.{Opens};
 ghost use Rattle.mt_formula.specs.reading.Rows.{next_row_begins, first_row_begins, later_row_begins};
-ghost use Rattle.mt_formula.specs.reading.Rows.{row_ends, row_opens};
+ghost use Rattle.mt_formula.specs.reading.Rows.{row_opens};
 ghost use Rattle.mt_formula.specs.Rows.{brace_closes};
 ghost use Rattle.mt_scan.specs.Limits.{max_groups};
 

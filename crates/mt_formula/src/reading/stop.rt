@@ -1,5 +1,6 @@
 //! Why a formula is not read on.
 ghost use Rattle.std.specs.Prelude.{◌≡◌};
+ghost use Rattle.mt_formula.specs.reading.Stops.{IsBehind};
 ghost use Rattle.mt_formula.specs.declared.reading.stop.Stop.TheVariants.{Fault as AtFault, OutOfMemory};
 
 use mt_scan::{Fault, ReadCause};
@@ -16,12 +17,16 @@ pub enum Stop {
 
 impl Stop {
     /// The fault of which so many tokens are left.
-    pub fn at(cause: ReadCause, left: usize) -> Stop {
+    pub fn at(cause: ReadCause, left: usize) -> Stop
+        ensures { result ≡ AtFault (record { cause = cause; left = left }) }
+    {
         Stop::Fault(Fault { cause, left })
     }
 
     /// The same stop in an argument, as one in all the tokens: so many are behind those of the argument.
-    pub fn in_argument(self, behind: usize) -> Stop {
+    pub fn in_argument(self, behind: usize) -> Stop
+        ensures { IsBehind self behind result }
+    {
         match self {
             Stop::Fault(fault) => Stop::Fault(Fault {
                 cause: fault.cause,

@@ -1,5 +1,5 @@
 //! The table of what each token does in a list (The TeXbook, chapter 26).
-ghost use Rattle.std.specs.Prelude.{◌≡◌, ◌≤◌, ◌+◌, ◌∷◌, List, length, IfOk, IfSome};
+ghost use Rattle.std.specs.Prelude.{◌≡◌, ◌<◌, ◌≤◌, ◌+◌, true, ◌∷◌, List, length, IfOk, IfSome};
 ghost use Rattle.mt_scan.specs.Meets.{Meets};
 ghost use Rattle.mt_scan.specs.Parts.{Got};
 ghost use Rattle.mt_scan.specs.Role.{role_of};
@@ -7,8 +7,9 @@ ghost use Rattle.mt_scan.specs.declared.role.Side.TheVariants.{Up};
 ghost use Rattle.mt_formula.specs.Atoms.{is_free, is_op};
 ghost use Rattle.mt_formula.specs.Items.{free_action, limits_action, script_action, action, action_here};
 ghost use Rattle.mt_formula.specs.declared.step.action.Action.TheVariants.{Prime};
-ghost use Rattle.mt_formula.specs.reading.Actions.{spent, MeetsUnlessStop};
+ghost use Rattle.mt_formula.specs.reading.Actions.{opens_list, spent, MeetsUnlessStop};
 ghost use Rattle.mt_arena.specs.Arena.{Held};
+ghost use Rattle.mt_scan.specs.Limits.{max_groups};
 ghost use Rattle.mt_formula.specs.reading.Noads.{last_in};
 
 use crate::open::table::TableForm;
@@ -96,7 +97,7 @@ fn role_action<'a>(
 ) -> Result<Option<Scanned<'a, Action>>, Fault>
     requires role { role_of grammar.codes.now token.now ≡ role }
     ensures is { (es : List Held) → MeetsUnlessStop result
-        (action grammar.entry.codes.now grammar.units group.level group.family (last_in es last.now) token.now after.now role)
+        (action grammar.entry.codes.now grammar.entry.units group.level group.family (last_in es last.now) token.now after.now role)
         (token.now ∷ after.now) }
     ensures falls { IfOk result (λ read. IfSome read
         (λ action. length action.rest.now + spent action.value ≤ length after.now + 1)) }
@@ -166,7 +167,8 @@ pub fn action_here<'a>(
     tokens: &'a [Token],
 ) -> Result<Scanned<'a, Action>, Fault>
     ensures is { (es : List Held) → Meets result
-        (action_here grammar.entry.codes.now grammar.units group.level group.family (last_in es last.now) tokens.now) }
+        (action_here grammar.entry.codes.now grammar.entry.units group.level group.family (last_in es last.now) tokens.now) }
+    ensures level { IfOk result (λ part. opens_list part.value ≡ true → group.level < max_groups) }
     ensures falls { IfOk result (λ part. length part.rest.now + spent part.value ≤ length tokens.now) }
 {
     let [token, after @ ..] = tokens else {
