@@ -1,8 +1,8 @@
 //! Lists of the items of a formula, by the rules of the grammar (The TeXbook, chapters 17, 18, 19 and 26). Lists are in
 //! lists, so reading is recursive: each list has at least one token less than the one round it.
-ghost use Rattle.std.specs.Prelude.{◌≡◌, ◌≢◌, ◌≤◌, ◌<◌, ◌+◌, IfOk, OnOk, None, Some, length, drop, true};
+ghost use Rattle.std.specs.Prelude.{◌≡◌, ◌≢◌, ◌∷◌, ◌≤◌, ◌<◌, ◌+◌, IfOk, OnOk, None, Some, length, drop, true};
 ghost use Rattle.mt_rules.specs.Sequence.{More, LeftElement};
-ghost use Rattle.mt_arena.specs.Arena.{as_sequence, cell_part, grid_in, rows_in, sequence_in};
+ghost use Rattle.mt_arena.specs.Arena.{as_sequence, cell_part, first_open, grid_in, other_open, rows_in, sequence_in};
 ghost use Rattle.mt_arena.specs.declared.thing.Cell.TheVariants.{List as OfList};
 ghost use Rattle.mt_arena.specs.Keeping.{GridLists, RowsLists};
 ghost use Rattle.mt_scan.specs.Limits.{max_groups};
@@ -218,6 +218,7 @@ fn read_open<'a>(
     tokens: &'a [Token],
 ) -> Result<Scanned<'a, Option<Noad>>, Stop>
     requires last { KeptLast arena.old.closed last }
+    requires inner { arena.old.below ≡ first_open arena.old.below ∷ other_open arena.old.below }
     requires inside { are_inside arena.old.top ≡ true }
     ensures is { ReadsOpen result arena.old arena.new (list_after grammar.entry.codes.now grammar.entry.units (whole_run grammar.entry.codes.now grammar.entry.units) (as_sequence arena.old.top) (last_in arena.old.closed last) ending group.level group.family tokens.now) }
     ensures last { IfOk result (λ part. KeptLast arena.new.closed part.value) }
@@ -249,6 +250,7 @@ fn read_denominator<'a>(
     head: Scanned<'a, FractionHead>,
 ) -> Result<Scanned<'a, Option<Noad>>, Stop>
     requires last { KeptLast arena.old.closed last }
+    requires inner { arena.old.below ≡ first_open arena.old.below ∷ other_open arena.old.below }
     requires inside { are_inside arena.old.top ≡ true }
     ensures is { ReadsOpen result arena.old arena.new (denominator grammar.entry.codes.now grammar.entry.units (whole_run grammar.entry.codes.now grammar.entry.units) ending group.level (record { items = append (as_sequence arena.old.top) (last_atom_items (last_in arena.old.closed last)); family = group.family }) head.entry.value head.entry.rest.now) }
     ensures last { IfOk result (λ part. KeptLast arena.new.closed part.value) }

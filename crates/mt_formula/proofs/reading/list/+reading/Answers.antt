@@ -4,6 +4,7 @@ use Rattle.mt_arena.specs.Arena.{Held, as_sequence}
 use Rattle.mt_formula.specs.Items.{action_here}
 use Rattle.mt_formula.specs.reading.Noads.{last_in}
 use Rattle.mt_formula.specs.reading.Reads.{whole_run}
+use Rattle.mt_formula.proofs.Arenas.{kept_last_later}
 use Rattle.mt_formula.proofs.Running.{action_fails, given_fails, run_ends, run_on, run_start}
 use Rattle.mt_formula.proofs.reading.list.+reading.Goals as goal
 
@@ -118,19 +119,19 @@ pub read_run-returns-in_err-action-clause-is : goal.read_run-returns-in_err-acti
 read_run-returns-in_err-action-clause-is t c =
     let p = err_from_is_err_and c.from_residual.result c.from_residual.ensures.1 in
     let f : Fits w64 c.in_err-action.field-0.0.left = search rules in
-    rw (p.1, p.2) (action_fails c.args.grammar.codes.now c.args.grammar.units c.args.group.level _ c.args.arena.now c.loop-action.arena c.loop-action.run c.loop-action.rest c.in_err-action.field-0.0 c.loop-action.invariant.so_far
+    rw (p.1, p.2) (action_fails c.args.grammar.codes.now c.args.grammar.units c.args.group.level _ c.args.arena.now c.loop-action.arena c.loop-action.run c.loop-action.rest.now c.in_err-action.field-0.0 c.loop-action.invariant.so_far
     (rw (c.with_family-here.ensures.level, c.with_family-here.ensures.family) at (c.in_err-action.ensures.is c.loop-action.arena.closed)) (omega (arith, f)))
 
 pub read_run-returns-in-Stop-clause-is : goal.read_run-returns-in-Stop-clause-is
 read_run-returns-in-Stop-clause-is t c =
-    run_ends c.args.grammar.codes.now c.args.grammar.units c.args.group.level _ c.args.arena.now c.loop-action.arena c.loop-action.run c.loop-action.rest _ c.in_ok-action.action.value c.loop-action.invariant.so_far
+    run_ends c.args.grammar.codes.now c.args.grammar.units c.args.group.level _ c.args.arena.now c.loop-action.arena c.loop-action.run c.loop-action.rest.now _ c.in_ok-action.action.value c.loop-action.invariant.so_far
     (rw (c.with_family-here.ensures.level, c.with_family-here.ensures.family) at (c.in_ok-action.ensures.is c.loop-action.arena.closed)) c.in-Stop.is
 
 pub read_run-returns-in_err-given : goal.read_run-returns-in_err-given
 read_run-returns-in_err-given t c =
     let p = err_from_is_err_and c.from_residual-in_err-given.result c.from_residual-in_err-given.ensures.1 in
     rw (p.1, p.2) (record {
-      is = given_fails c.args.grammar.codes.now c.args.grammar.units c.args.group.level _ c.args.arena.now c.loop-action.arena c.loop-action.run c.loop-action.rest _ c.in_ok-action.action.value c.loop-action.invariant.so_far
+      is = given_fails c.args.grammar.codes.now c.args.grammar.units c.args.group.level _ c.args.arena.now c.loop-action.arena c.loop-action.run c.loop-action.rest.now _ c.in_ok-action.action.value c.loop-action.invariant.so_far
           (rw (c.with_family-here.ensures.level, c.with_family-here.ensures.family) at (c.in_ok-action.ensures.is c.loop-action.arena.closed)) _
           (rw (c.with_family-here.ensures.level, c.with_family-here.ensures.family) at c.in_err-given.ensures.is);
       last = tt;
@@ -138,10 +139,21 @@ read_run-returns-in_err-given t c =
     })
 
 pub read_run-put_given-requires : goal.read_run-put_given-requires
-read_run-put_given-requires t c = ?
+read_run-put_given-requires t c =
+    record {
+      last = kept_last_later _ _ c.loop-action.run.last c.in_ok-given.ensures.is.0.front c.loop-action.invariant.last;
+      given = c.in_ok-given.ensures.kept;
+    }
 
 pub read_run-loop-action-preserved : goal.read_run-loop-action-preserved
-read_run-loop-action-preserved t c = ?
+read_run-loop-action-preserved t c =
+    record {
+      so_far = run_on c.args.grammar.codes.now c.args.grammar.units c.args.group.level _ c.args.arena.now c.loop-action.arena c.loop-action.run c.loop-action.rest.now _ c.in_ok-action.action.value c.loop-action.invariant.so_far
+          (rw (c.with_family-here.ensures.level, c.with_family-here.ensures.family) at (c.in_ok-action.ensures.is c.loop-action.arena.closed)) _ _ c.in_ok-run.run' c.in_ok-given.given.value _ c.loop-action.invariant.last c.in_ok-given.ensures.is.0
+          (rw (c.with_family-here.ensures.level, c.with_family-here.ensures.family) at c.in_ok-given.ensures.is.1) c.in_ok-run.ensures.is;
+      last = c.in_ok-run.ensures.last;
+      falls = omega (arith, c.in_ok-given.ensures.falls, c.in_ok-action.ensures.falls, c.loop-action.invariant.falls);
+    }
 
 pub read_segment-returns-clause-is : goal.read_segment-returns-clause-is
 read_segment-returns-clause-is t c = ?
