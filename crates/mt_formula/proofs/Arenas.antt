@@ -10,17 +10,17 @@ use Rattle.mt_arena.specs.declared.thing.Cell.TheVariants.{List as OfList}
 use Rattle.mt_arena.specs.declared.thing.Thing.{Thing}
 use Rattle.mt_arena.specs.declared.thing.Thing.TheVariants.{Atom, Fraction, Left, Middle, Right, Style as StyleItem, Choice, MuSpace, Space, MuKern, Kern, Nonscript, Row, Cells, Root}
 use Rattle.mt_arena.specs.Arena.{ArenaValue, Extends, Held, ItemHeld, RowHeld, CellsHeld, RootHeld, as_sequence, cell_end, cell_part, held_in, sequence_in, thing_end, value_in}
-use Rattle.mt_arena.specs.Keeping.{AllLists, InnerLists, ElementLists, PartLists}
+use Rattle.mt_arena.specs.Keeping.{AllLists, InnerLists, ElementLists, KeptList, PartLists}
 use Rattle.mt_arena.proofs.Growing.{next_in}
 use Rattle.mt_arena.proofs.Putting.{extends_same, extends_more, extends_length, span_later, cell_later, inner_lists}
 use Rattle.mt_formula.specs.Atoms.{AtomValue, append, element_of_atom, is_field, last_atom_items, only_atom, prime_atom, prime_items, takes_scripts}
-use Rattle.mt_formula.specs.reading.Facts.{atom_fits, is_inside, stands_inside}
+use Rattle.mt_formula.specs.reading.Facts.{atom_fits, is_inside, no_boundary, stands_inside}
 use Rattle.mt_formula.specs.reading.Inside.{are_inside}
 use Rattle.mt_scan.specs.declared.role.FieldKind.{FieldKind}
 use Rattle.mt_scan.specs.Role.{nucleus_kind}
 use Rattle.mt_formula.specs.reading.Noads.{bare_noad, KeptField, KeptLast, KeptNoad, OpenNoad, last_held, last_in, noad_in}
 use Rattle.mt_formula.specs.reading.WholeLists.{KeptSpan}
-use Rattle.mt_formula.proofs.Inside.{atom_of_field, first_true, second_true, both_true, math_list}
+use Rattle.mt_formula.proofs.Inside.{atom_of_field, inside_no_boundary, first_true, second_true, both_true, math_list}
 
 pub sequence_more : (hs ks : List Held) → as_sequence (hs ++ ks) ≡ append (as_sequence hs) (as_sequence ks)
 sequence_more [] ks = refl
@@ -192,3 +192,21 @@ prime_pushed hs ks n e h =
 
 pub prime_inside : (hs ks : List Held) → ks ≡ hs ++ ItemHeld (element_of_atom prime_atom) ∷ [] → are_inside hs ≡ true → are_inside ks ≡ true
 prime_inside hs ks e h = ap are_inside e ∙ inside_more hs (ItemHeld (element_of_atom prime_atom) ∷ []) h refl
+
+-- ---- a span later
+
+pub kept_span_later : (es fs : List Held) (s : Span) → Extends es fs → KeptSpan es s → KeptSpan fs s
+kept_span_later es fs s e k =
+    let same = sym (span_later es fs s e k.within) in
+    record {
+      within = omega (arith, k.within, extends_length es fs e);
+      lists = subst (λ hs. InnerLists (as_sequence hs)) same k.lists;
+      inside = subst (λ hs. are_inside hs ≡ true) same k.inside;
+    }
+
+-- a list of a span, with the lists in it
+pub span_lists : (es : List Held) (s : Span) → KeptSpan es s → KeptList (sequence_in es s)
+span_lists es s k = (math_list (sequence_in es s) (inside_sequence (held_in es s) k.inside), k.lists)
+
+pub no_boundaries_in : (es : List Held) (s : Span) → KeptSpan es s → no_boundary (sequence_in es s) ≡ true
+no_boundaries_in es s k = inside_no_boundary (sequence_in es s) (inside_sequence (held_in es s) k.inside)

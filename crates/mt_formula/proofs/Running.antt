@@ -48,15 +48,15 @@ pub fault_above : {A : Type 0} (stop : Stop) (r s : Read A) → HasFault stop r 
 fault_above (AtFault f) r s h b = (h.0, sym (subst (λ x. Below x s) h.1 b), h.2)
 fault_above OutOfMemory r s h b = tt
 
-fault_before : (stop : Stop) (items : Sequence) (r : Read ItemRun) → HasFault stop r → HasFault stop (items_before items r)
+pub fault_before : (stop : Stop) (items : Sequence) (r : Read ItemRun) → HasFault stop r → HasFault stop (items_before items r)
 fault_before (AtFault f) items r h = (h.0, ap (items_before items) h.1, h.2)
 fault_before OutOfMemory items r h = tt
 
-fault_then : {A B : Type 0} (stop : Stop) (r : Read A) (f : A → List Token → Read B) → HasFault stop r → HasFault stop (then_read r f)
+pub fault_then : {A B : Type 0} (stop : Stop) (r : Read A) (f : A → List Token → Read B) → HasFault stop r → HasFault stop (then_read r f)
 fault_then (AtFault g) r f h = (h.0, ap (λ x. then_read x f) h.1, h.2)
 fault_then OutOfMemory r f h = tt
 
-fault_same : {A : Type 0} (stop : Stop) (r s : Read A) → r ≡ s → HasFault stop s → HasFault stop r
+pub fault_same : {A : Type 0} (stop : Stop) (r s : Read A) → r ≡ s → HasFault stop s → HasFault stop r
 fault_same stop r s e h = subst (HasFault stop) (sym e) h
 
 module _ (tables : CodeTables) (units : Units) (level : ℕ) (whole : Read ItemRun) (old : ArenaValue) where

@@ -1,10 +1,12 @@
 use Rattle.std.proofs.Common.{◌≡◌, ◌≤◌, ℕ, List, [], ◌∷◌, ◌++◌, length, drop, refl, sym, ap, ◌∙◌, subst, arith, rules, Fits, w64}
 use Rattle.std.proofs.lemmas.Result.{err_from_is_err_and}
-use Rattle.mt_arena.specs.Arena.{Held, as_sequence}
+use Rattle.mt_arena.specs.Arena.{Held, as_sequence, first_open, other_open}
+use Rattle.mt_arena.proofs.Putting.{extends_more}
 use Rattle.mt_formula.specs.Items.{action_here}
 use Rattle.mt_formula.specs.reading.Noads.{last_in}
 use Rattle.mt_formula.specs.reading.Reads.{whole_run}
 use Rattle.mt_formula.proofs.Arenas.{kept_last_later}
+use Rattle.mt_formula.proofs.Completing.{fraction_fails, fraction_lists, fraction_whole, head_fails, mid_inside, open_divides, open_ends, ran}
 use Rattle.mt_formula.proofs.Running.{action_fails, given_fails, run_ends, run_on, run_start}
 use Rattle.mt_formula.proofs.reading.list.+reading.Goals as goal
 
@@ -25,18 +27,6 @@ read_cells-push-requires t c = ?
 
 pub read_cells-returns-in_default : goal.read_cells-returns-in_default
 read_cells-returns-in_default t c = ?
-
-pub read_choice-returns-clause-kept : goal.read_choice-returns-clause-kept
-read_choice-returns-clause-kept t c = ?
-
-pub read_denominator-returns-in_err-list_ends-clause-is : goal.read_denominator-returns-in_err-list_ends-clause-is
-read_denominator-returns-in_err-list_ends-clause-is t c = ?
-
-pub read_denominator-push-requires-clause-lists : goal.read_denominator-push-requires-clause-lists
-read_denominator-push-requires-clause-lists t c = ?
-
-pub read_denominator-returns-clause-is : goal.read_denominator-returns-clause-is
-read_denominator-returns-clause-is t c = ?
 
 pub read_given-returns-in_err-rows-in-Rows-clause-is : goal.read_given-returns-in_err-rows-in-Rows-clause-is
 read_given-returns-in_err-rows-in-Rows-clause-is t c = ?
@@ -64,18 +54,6 @@ read_left_right-returns-else-is_at_middle-clause-is t c = ?
 
 pub read_left_right-returns-else-is_at_middle-clause-kept : goal.read_left_right-returns-else-is_at_middle-clause-kept
 read_left_right-returns-else-is_at_middle-clause-kept t c = ?
-
-pub read_open-returns-in_err-head-in-Divides-clause-is : goal.read_open-returns-in_err-head-in-Divides-clause-is
-read_open-returns-in_err-head-in-Divides-clause-is t c = ?
-
-pub read_open-read_denominator-requires : goal.read_open-read_denominator-requires
-read_open-read_denominator-requires t c = ?
-
-pub read_open-returns-in-Ends-clause-is : goal.read_open-returns-in-Ends-clause-is
-read_open-returns-in-Ends-clause-is t c = ?
-
-pub read_open-returns-in_ok-head-in-Divides-clause-is : goal.read_open-returns-in_ok-head-in-Divides-clause-is
-read_open-returns-in_ok-head-in-Divides-clause-is t c = ?
 
 pub read_primes-returns-in_err-argument-in-Some-clause-is : goal.read_primes-returns-in_err-argument-in-Some-clause-is
 read_primes-returns-in_err-argument-in-Some-clause-is t c = ?
@@ -155,9 +133,6 @@ read_run-loop-action-preserved t c =
       falls = omega (arith, c.in_ok-given.ensures.falls, c.in_ok-action.ensures.falls, c.loop-action.invariant.falls);
     }
 
-pub read_segment-returns-clause-is : goal.read_segment-returns-clause-is
-read_segment-returns-clause-is t c = ?
-
 pub read_table_rows-loop-step-init : goal.read_table_rows-loop-step-init
 read_table_rows-loop-step-init t c = ?
 
@@ -175,3 +150,50 @@ read_table_word-returns-in_err-rows-clause-is t c = ?
 
 pub read_table_word-returns-clause-is : goal.read_table_word-returns-clause-is
 read_table_word-returns-clause-is t c = ?
+
+pub read_open-returns-in-Ends-clause-is : goal.read_open-returns-in-Ends-clause-is
+read_open-returns-in-Ends-clause-is t c =
+    open_ends c.args.grammar.codes.now c.args.grammar.units c.args.ending c.args.group.level c.args.group.family c.args.last c.args.arena.now c.read_run.new.arena c.in_ok-run.run'.value c.args.tokens.now c.in_ok-run.run'.rest.now c.in_ok-run.ensures.is c.requires.inside
+    ((rw (c.in-Ends.is) at c.in_ok-list_stop.ensures) c.args.grammar.units (whole_run c.args.grammar.codes.now c.args.grammar.units) c.args.group.level (ran c.args.grammar.codes.now c.args.grammar.units c.args.ending c.args.group.level c.args.group.family c.args.last c.args.arena.now c.read_run.new.arena c.in_ok-run.run'.value c.args.tokens.now c.in_ok-run.run'.rest.now c.in_ok-run.ensures.is))
+
+pub read_open-returns-in_err-head-in-Divides-clause-is : goal.read_open-returns-in_err-head-in-Divides-clause-is
+read_open-returns-in_err-head-in-Divides-clause-is t c =
+    let p = err_from_is_err_and c.from_residual-in_err-head-in-Divides.result c.from_residual-in_err-head-in-Divides.ensures.1 in
+    let f : Fits w64 c.in_err-head-in-Divides.field-0.0.left = search rules in
+    rw (p.1, p.2) (head_fails c.args.grammar.codes.now c.args.grammar.units c.args.ending c.args.group.level c.args.group.family c.args.last c.args.arena.now c.read_run.new.arena c.in_ok-run.run'.value c.args.tokens.now c.in_ok-run.run'.rest.now c.in_ok-run.ensures.is c.in-Divides.delims c.in-Divides.bar
+    ((rw (c.in-Divides.is) at c.in_ok-list_stop.ensures) c.args.grammar.units (whole_run c.args.grammar.codes.now c.args.grammar.units) c.args.group.level (ran c.args.grammar.codes.now c.args.grammar.units c.args.ending c.args.group.level c.args.group.family c.args.last c.args.arena.now c.read_run.new.arena c.in_ok-run.run'.value c.args.tokens.now c.in_ok-run.run'.rest.now c.in_ok-run.ensures.is)) _
+    (c.in_err-head-in-Divides.field-0.0.left, (rw (c.after_first-after.ensures.is) at c.in_err-head-in-Divides.ensures.is), omega (arith, f)))
+
+pub read_open-read_denominator-requires : goal.read_open-read_denominator-requires
+read_open-read_denominator-requires t c =
+    (omega (arith, c.decreases, c.in_ok-run.ensures.falls, c.after_first-after.ensures.falls, c.in_ok-head-in-Divides.ensures.falls),
+    (c.in_ok-run.ensures.last, (c.in_ok-run.ensures.is.adds.below ∙ c.requires.inner ∙ ap (λ ls. first_open ls ∷ other_open ls) (sym c.in_ok-run.ensures.is.adds.below), mid_inside c.args.grammar.codes.now c.args.grammar.units c.args.ending c.args.group.level c.args.group.family c.args.last c.args.arena.now c.read_run.new.arena c.in_ok-run.run'.value c.args.tokens.now c.in_ok-run.run'.rest.now c.in_ok-run.ensures.is c.requires.inside)))
+
+pub read_open-returns-in_ok-head-in-Divides-clause-is : goal.read_open-returns-in_ok-head-in-Divides-clause-is
+read_open-returns-in_ok-head-in-Divides-clause-is t c =
+    open_divides c.args.grammar.codes.now c.args.grammar.units c.args.ending c.args.group.level c.args.group.family c.args.last c.args.arena.now c.read_run.new.arena c.in_ok-run.run'.value c.args.tokens.now c.in_ok-run.run'.rest.now c.in_ok-run.ensures.is c.in-Divides.delims c.in-Divides.bar
+    ((rw (c.in-Divides.is) at c.in_ok-list_stop.ensures) c.args.grammar.units (whole_run c.args.grammar.codes.now c.args.grammar.units) c.args.group.level (ran c.args.grammar.codes.now c.args.grammar.units c.args.ending c.args.group.level c.args.group.family c.args.last c.args.arena.now c.read_run.new.arena c.in_ok-run.run'.value c.args.tokens.now c.in_ok-run.run'.rest.now c.in_ok-run.ensures.is)) c.read_denominator.result _ c.in_ok-head-in-Divides.head.value _
+    (rw (c.after_first-after.ensures.is) at c.in_ok-head-in-Divides.ensures.is)
+    (rw (c.with_family-here.ensures.level, c.with_family-here.ensures.family) at c.read_denominator.ensures.is)
+
+pub read_denominator-returns-in_err-list_ends-clause-is : goal.read_denominator-returns-in_err-list_ends-clause-is
+read_denominator-returns-in_err-list_ends-clause-is t c =
+    let p = err_from_is_err_and c.from_residual-in_err-list_ends.result c.from_residual-in_err-list_ends.ensures.1 in
+    let f : Fits w64 c.in_err-list_ends.field-0.0.left = search rules in
+    rw (p.1, p.2) (fraction_fails c.args.grammar.codes.now c.args.grammar.units c.args.ending c.args.group.level c.args.group.family c.args.last c.args.arena.now c.close_list.new.arena c.begin.new.self c.read_run.new.arena c.read_run.new.arena c.read_run.new.arena c.read_run.new.arena
+    c.in_ok-num.num c.in_ok-num.num c.args.head.value c.in_ok-run.run'.value c.args.head.rest.now _ c.in_ok-num.ensures.closes c.in_ok-num.ensures.is c.in_ok-num.ensures.kept c.in_ok-begin.ensures.closed c.in_ok-begin.ensures.top c.in_ok-begin.ensures.below c.in_ok-run.ensures.is _
+    (c.in_err-list_ends.field-0.0.left, c.in_err-list_ends.ensures c.args.grammar.units _, omega (arith, f)))
+
+pub read_denominator-push-requires-clause-lists : goal.read_denominator-push-requires-clause-lists
+read_denominator-push-requires-clause-lists t c =
+    rw (c.in_ok-fraction_thing.ensures, c.in_ok-begin-2.ensures.closed) (fraction_lists c.close_list.new.arena.closed c.close_list-2.new.arena.closed c.in_ok-num.num c.in_ok-den.den (extends_more c.close_list.new.arena.closed c.read_run.new.arena.closed c.close_list-2.new.arena.closed (rw (c.in_ok-begin.ensures.closed) at c.in_ok-run.ensures.is.adds.front) c.in_ok-den.ensures.closes.front) c.in_ok-num.ensures.kept c.in_ok-den.ensures.kept)
+
+pub read_denominator-returns-clause-is : goal.read_denominator-returns-clause-is
+read_denominator-returns-clause-is t c =
+    fraction_whole c.args.grammar.codes.now c.args.grammar.units c.args.ending c.args.group.level c.args.group.family c.args.last c.args.arena.now c.close_list.new.arena c.begin.new.self c.read_run.new.arena c.close_list-2.new.arena c.begin-2.new.self c.push.new.self
+    c.in_ok-num.num c.in_ok-den.den c.args.head.value c.in_ok-run.run'.value c.args.head.rest.now _ c.in_ok-num.ensures.closes c.in_ok-num.ensures.is c.in_ok-num.ensures.kept c.in_ok-begin.ensures.closed c.in_ok-begin.ensures.top c.in_ok-begin.ensures.below c.in_ok-run.ensures.is
+    c.in_ok-den.ensures.closes c.in_ok-den.ensures.is c.in_ok-begin-2.ensures.closed c.in_ok-begin-2.ensures.top c.in_ok-begin-2.ensures.below (c.in_ok-list_ends.ensures c.args.grammar.units _)
+    (rw (c.in_ok-fraction_thing.ensures) at c.in_ok-push.ensures.is) c.in_ok-push.ensures.below c.in_ok-push.ensures.closed c.requires.inner
+
+pub read_choice-returns-clause-kept : goal.read_choice-returns-clause-kept
+read_choice-returns-clause-kept t c = ?
