@@ -2,19 +2,24 @@ use Rattle.std.proofs.Common.{◌≡◌, ◌≤◌, ℕ, List, [], ◌∷◌, �
 use Rattle.std.proofs.lemmas.Result.{err_from_is_err_and}
 use Rattle.mt_arena.specs.Arena.{Held, as_sequence, first_open, other_open}
 use Rattle.mt_arena.proofs.Putting.{extends_more}
+use Rattle.mt_formula.specs.declared.reading.stop.Stop.TheVariants.{Fault as AtFault}
 use Rattle.mt_formula.specs.Items.{action_here}
+use Rattle.mt_formula.proofs.Parting.{choice_kept, closes_grows, left_right_fails, left_right_is, primes_in, row_read, rows_given}
 use Rattle.mt_formula.specs.reading.Noads.{last_in}
 use Rattle.mt_formula.specs.reading.Reads.{whole_run}
-use Rattle.mt_formula.proofs.Arenas.{kept_last_later}
+use Rattle.mt_formula.proofs.Arenas.{kept_last_later, list_field, span_lists}
 use Rattle.mt_formula.proofs.Completing.{fraction_fails, fraction_lists, fraction_whole, head_fails, mid_inside, open_divides, open_ends, ran}
 use Rattle.mt_formula.proofs.Running.{action_fails, given_fails, run_ends, run_on, run_start}
 use Rattle.mt_formula.proofs.reading.list.+reading.Goals as goal
 
 pub read_after_primes-returns-clause-is : goal.read_after_primes-returns-clause-is
-read_after_primes-returns-clause-is t c = ?
+read_after_primes-returns-clause-is t c =
+    (closes_grows c.args.arena.now c.begin_primes.new.arena c.read_open.new.arena c.close_list.new.arena c.in_ok-begin_primes.ensures.opens.closed c.in_ok-begin_primes.ensures.opens.below c.in_ok-open.ensures.is.front c.in_ok-open.ensures.is.below c.in_ok-close_list.ensures.closes,
+    (c.in_ok-open.open.rest.now, primes_in c.args.grammar.codes.now c.args.grammar.units c.begin_primes.new.arena c.read_open.new.arena c.close_list.new.arena c.args.count c.args.argument.group.level c.args.argument.group.family c.prime_noad.result c.in_ok-open.open.value c.in_ok-close_list.field-0 c.args.argument.inside.now c.in_ok-open.open.rest.now
+    c.in_ok-begin_primes.ensures.is (rw (c.prime_noad.ensures) refl) c.in_ok-open.ensures.is c.in_ok-close_list.ensures.is))
 
 pub read_cell-push-requires-clause-lists : goal.read_cell-push-requires-clause-lists
-read_cell-push-requires-clause-lists t c = ?
+read_cell-push-requires-clause-lists t c = span_lists _ c.in_ok-span.span c.in_ok-span.ensures.kept
 
 pub read_cells-loop-step-init : goal.read_cells-loop-step-init
 read_cells-loop-step-init t c = ?
@@ -29,19 +34,24 @@ pub read_cells-returns-in_default : goal.read_cells-returns-in_default
 read_cells-returns-in_default t c = ?
 
 pub read_given-returns-in_err-rows-in-Rows-clause-is : goal.read_given-returns-in_err-rows-in-Rows-clause-is
-read_given-returns-in_err-rows-in-Rows-clause-is t c = ?
+read_given-returns-in_err-rows-in-Rows-clause-is t c =
+    let p = err_from_is_err_and c.from_residual-in_err-rows-in-Rows.result c.from_residual-in_err-rows-in-Rows.ensures.1 in
+    rw (p.1, p.2, c.in-Rows.is) (rows_given c.args.grammar.codes.now c.args.grammar.units c.args.group.level c.args.group.family c.args.tokens.now _ c.in_err-rows-in-Rows.ensures.is)
 
 pub read_given-returns-in_err-list-in-LeftRight-clause-is : goal.read_given-returns-in_err-list-in-LeftRight-clause-is
-read_given-returns-in_err-list-in-LeftRight-clause-is t c = ?
+read_given-returns-in_err-list-in-LeftRight-clause-is t c =
+    let p = err_from_is_err_and c.from_residual-in_err-list-in-LeftRight.result c.from_residual-in_err-list-in-LeftRight.ensures.1 in
+    rw (p.1, p.2, c.in-LeftRight.is) (left_right_fails c.args.grammar.codes.now c.args.grammar.units c.args.group.level c.args.group.family c.in-LeftRight.left c.args.tokens.now _
+    (rw (c.inside.ensures.level, c.inside.ensures.family) at c.in_err-list-in-LeftRight.ensures.is))
 
 pub read_given-returns-in_ok-list-in-Prime-clause-kept : goal.read_given-returns-in_ok-list-in-Prime-clause-kept
-read_given-returns-in_ok-list-in-Prime-clause-kept t c = ?
+read_given-returns-in_ok-list-in-Prime-clause-kept t c = list_field _ c.in_ok-list-in-Prime.list.value c.in_ok-list-in-Prime.ensures.kept
 
 pub read_given-returns-in_ok-list-in-LeftRight-clause-is : goal.read_given-returns-in_ok-list-in-LeftRight-clause-is
 read_given-returns-in_ok-list-in-LeftRight-clause-is t c = ?
 
 pub read_given-returns-in_ok-plain_given-in_default-clause-kept : goal.read_given-returns-in_ok-plain_given-in_default-clause-kept
-read_given-returns-in_ok-plain_given-in_default-clause-kept t c = ?
+read_given-returns-in_ok-plain_given-in_default-clause-kept t c = c.in_ok-plain_given-in_default.ensures.kept c.args.arena.now.closed
 
 pub read_left_right-loop-end-init : goal.read_left_right-loop-end-init
 read_left_right-loop-end-init t c = ?
@@ -62,10 +72,11 @@ pub read_primes-returns-in_ok-close_list-in-None-clause-is : goal.read_primes-re
 read_primes-returns-in_ok-close_list-in-None-clause-is t c = ?
 
 pub read_row-push-requires-clause-lists : goal.read_row-push-requires-clause-lists
-read_row-push-requires-clause-lists t c = ?
+read_row-push-requires-clause-lists t c = span_lists _ c.in_ok-span.span c.in_ok-span.ensures.kept
 
 pub read_row-returns-clause-is : goal.read_row-returns-clause-is
-read_row-returns-clause-is t c = ?
+read_row-returns-clause-is t c =
+    (_, record { front = ?; top = ?; below = ? }, row_read c.args.grammar.codes.now c.args.grammar.units c.args.level c.args.tokens.now c.in_ok-inside.inside.now _ c.in_ok-rest.rest.now _ c.in_ok-inside.ensures.is ? (rw (c.after_first.ensures.is) at c.in_ok-rest.ensures.is))
 
 pub read_rows-returns-in_err-row-clause-is : goal.read_rows-returns-in_err-row-clause-is
 read_rows-returns-in_err-row-clause-is t c = ?
@@ -161,7 +172,7 @@ read_open-returns-in_err-head-in-Divides-clause-is t c =
     let p = err_from_is_err_and c.from_residual-in_err-head-in-Divides.result c.from_residual-in_err-head-in-Divides.ensures.1 in
     let f : Fits w64 c.in_err-head-in-Divides.field-0.0.left = search rules in
     rw (p.1, p.2) (head_fails c.args.grammar.codes.now c.args.grammar.units c.args.ending c.args.group.level c.args.group.family c.args.last c.args.arena.now c.read_run.new.arena c.in_ok-run.run'.value c.args.tokens.now c.in_ok-run.run'.rest.now c.in_ok-run.ensures.is c.in-Divides.delims c.in-Divides.bar
-    ((rw (c.in-Divides.is) at c.in_ok-list_stop.ensures) c.args.grammar.units (whole_run c.args.grammar.codes.now c.args.grammar.units) c.args.group.level (ran c.args.grammar.codes.now c.args.grammar.units c.args.ending c.args.group.level c.args.group.family c.args.last c.args.arena.now c.read_run.new.arena c.in_ok-run.run'.value c.args.tokens.now c.in_ok-run.run'.rest.now c.in_ok-run.ensures.is)) _
+    ((rw (c.in-Divides.is) at c.in_ok-list_stop.ensures) c.args.grammar.units (whole_run c.args.grammar.codes.now c.args.grammar.units) c.args.group.level (ran c.args.grammar.codes.now c.args.grammar.units c.args.ending c.args.group.level c.args.group.family c.args.last c.args.arena.now c.read_run.new.arena c.in_ok-run.run'.value c.args.tokens.now c.in_ok-run.run'.rest.now c.in_ok-run.ensures.is)) (AtFault c.in_err-head-in-Divides.field-0.0)
     (c.in_err-head-in-Divides.field-0.0.left, (rw (c.after_first-after.ensures.is) at c.in_err-head-in-Divides.ensures.is), omega (arith, f)))
 
 pub read_open-read_denominator-requires : goal.read_open-read_denominator-requires
@@ -181,7 +192,7 @@ read_denominator-returns-in_err-list_ends-clause-is t c =
     let p = err_from_is_err_and c.from_residual-in_err-list_ends.result c.from_residual-in_err-list_ends.ensures.1 in
     let f : Fits w64 c.in_err-list_ends.field-0.0.left = search rules in
     rw (p.1, p.2) (fraction_fails c.args.grammar.codes.now c.args.grammar.units c.args.ending c.args.group.level c.args.group.family c.args.last c.args.arena.now c.close_list.new.arena c.begin.new.self c.read_run.new.arena c.read_run.new.arena c.read_run.new.arena c.read_run.new.arena
-    c.in_ok-num.num c.in_ok-num.num c.args.head.value c.in_ok-run.run'.value c.args.head.rest.now _ c.in_ok-num.ensures.closes c.in_ok-num.ensures.is c.in_ok-num.ensures.kept c.in_ok-begin.ensures.closed c.in_ok-begin.ensures.top c.in_ok-begin.ensures.below c.in_ok-run.ensures.is _
+    c.in_ok-num.num c.in_ok-num.num c.args.head.value c.in_ok-run.run'.value c.args.head.rest.now _ c.in_ok-num.ensures.closes c.in_ok-num.ensures.is c.in_ok-num.ensures.kept c.in_ok-begin.ensures.closed c.in_ok-begin.ensures.top c.in_ok-begin.ensures.below c.in_ok-run.ensures.is (AtFault c.in_err-list_ends.field-0.0)
     (c.in_err-list_ends.field-0.0.left, c.in_err-list_ends.ensures c.args.grammar.units _, omega (arith, f)))
 
 pub read_denominator-push-requires-clause-lists : goal.read_denominator-push-requires-clause-lists
@@ -196,4 +207,5 @@ read_denominator-returns-clause-is t c =
     (rw (c.in_ok-fraction_thing.ensures) at c.in_ok-push.ensures.is) c.in_ok-push.ensures.below c.in_ok-push.ensures.closed c.requires.inner
 
 pub read_choice-returns-clause-kept : goal.read_choice-returns-clause-kept
-read_choice-returns-clause-kept t c = ?
+read_choice-returns-clause-kept t c =
+    choice_kept c.read_branch.new.arena.closed c.read_next_branch.new.arena.closed c.read_next_branch-2.new.arena.closed c.read_next_branch-3.new.arena.closed _ _ _ _ c.in_ok-text.ensures.is.0.front c.in_ok-script.ensures.is.0.front c.in_ok-small.ensures.is.0.front c.in_ok-display.ensures.kept c.in_ok-text.ensures.kept c.in_ok-script.ensures.kept c.in_ok-small.ensures.kept
