@@ -14,7 +14,7 @@ use Rattle.mt_arena.specs.declared.thing.Noad.{Noad}
 use Rattle.mt_arena.specs.declared.thing.Span.{Span}
 use Rattle.mt_arena.specs.declared.thing.Thing.TheVariants.{Choice}
 use Rattle.mt_arena.specs.Arena.{ArenaValue, Extends, Held, as_sequence, first_open, other_open, sequence_in}
-use Rattle.mt_arena.proofs.Putting.{extends_more}
+use Rattle.mt_arena.proofs.Putting.{extends_append, extends_more}
 use Rattle.mt_formula.specs.declared.reading.ends.Ending.TheVariants.{AtDollar, AtEnd}
 use Rattle.mt_formula.specs.declared.reading.stop.Stop.{Stop}
 use Rattle.mt_formula.specs.declared.step.action.Action.TheVariants.{Rows as RowsAction, LeftRight}
@@ -43,6 +43,14 @@ closes_grows old b m new c below front mid k = record {
   front = extends_more old.closed m.closed new.closed (subst (λ es. Extends es m.closed) c front) k.front;
   top = k.top ∙ ap first_open (mid ∙ below);
   below = k.below ∙ ap other_open (mid ∙ below);
+}
+
+-- a list whose items are put to it one by one
+pub items_grow : (old m new : ArenaValue) → Extends old.closed m.closed → m.below ≡ old.top ∷ old.below → new.closed ≡ m.closed ++ m.top → new.top ≡ first_open m.below → new.below ≡ other_open m.below → Grows old new
+items_grow old m new front mid c t b = record {
+  front = extends_more old.closed m.closed new.closed front (subst (Extends m.closed) (sym c) (extends_append m.closed m.top));
+  top = t ∙ ap first_open mid;
+  below = b ∙ ap other_open mid;
 }
 
 -- four lists of a choice, of which each was read after the one before

@@ -1,15 +1,20 @@
 use Rattle.std.proofs.Common.{◌≡◌, ◌≤◌, ℕ, List, [], ◌∷◌, ◌++◌, length, drop, refl, sym, ap, ◌∙◌, subst, arith, rules, Fits, w64}
 use Rattle.std.proofs.lemmas.Result.{err_from_is_err_and}
-use Rattle.mt_arena.specs.Arena.{Held, as_sequence, first_open, other_open}
-use Rattle.mt_arena.proofs.Putting.{extends_more}
+use Rattle.mt_arena.specs.Arena.{CellsHeld, Extends, Held, RowHeld, as_grid, as_rows, as_sequence, first_open, other_open, sequence_in}
+use Rattle.mt_arena.proofs.Putting.{extends_more, extends_same, grid_lists, rows_lists}
 use Rattle.mt_formula.specs.declared.reading.stop.Stop.TheVariants.{Fault as AtFault}
+use Rattle.mt_scan.specs.Parts.{Got}
+use Rattle.mt_arena.specs.Keeping.{GridLists, RowsLists}
 use Rattle.mt_formula.specs.Items.{action_here}
-use Rattle.mt_formula.proofs.Parting.{choice_kept, closes_grows, left_right_fails, left_right_is, primes_in, row_read, rows_given}
+use Rattle.mt_formula.proofs.Parting.{choice_kept, closes_grows, items_grow, left_right_fails, left_right_is, primes_in, row_read, rows_given}
 use Rattle.mt_formula.specs.reading.Noads.{last_in}
 use Rattle.mt_formula.specs.reading.Reads.{whole_run}
 use Rattle.mt_formula.proofs.Arenas.{kept_last_later, list_field, span_lists}
 use Rattle.mt_formula.proofs.Completing.{fraction_fails, fraction_lists, fraction_whole, head_fails, mid_inside, open_divides, open_ends, ran}
-use Rattle.mt_formula.proofs.Running.{action_fails, given_fails, run_ends, run_on, run_start}
+use Rattle.mt_formula.proofs.Rowing.{later_at_fault, row_at_fault, row_pushed, rows_end, rows_left, rows_on, rows_start, rows_start_fails}
+use Rattle.mt_formula.proofs.Tabling.{cell_fails, cells_on, cells_pushed, cells_start, ends_unless, row_of_cells_fails, table_end, table_on, table_start}
+use Rattle.mt_formula.proofs.Bounding.{are_inside_between, between_more, delimiter_fails, segment_fails, segments_end, segments_on, segments_start}
+use Rattle.mt_formula.proofs.Running.{action_fails, fault_same, given_fails, run_ends, run_on, run_start}
 use Rattle.mt_formula.proofs.reading.list.+reading.Goals as goal
 
 pub read_after_primes-returns-clause-is : goal.read_after_primes-returns-clause-is
@@ -22,13 +27,26 @@ pub read_cell-push-requires-clause-lists : goal.read_cell-push-requires-clause-l
 read_cell-push-requires-clause-lists t c = span_lists _ c.in_ok-span.span c.in_ok-span.ensures.kept
 
 pub read_cells-loop-step-init : goal.read_cells-loop-step-init
-read_cells-loop-step-init t c = ?
+read_cells-loop-step-init t c =
+    record {
+      front = subst (Extends c.args.arena.now.closed) (sym c.in_ok-begin.ensures.closed) (extends_same c.args.arena.now.closed);
+      below = c.in_ok-begin.ensures.below;
+      is = rw (c.in_ok-begin.ensures.top, c.first_column-column.ensures) (cells_start c.args.grammar.codes.now c.args.grammar.units c.args.level c.args.preamble c.args.tokens.now);
+      falls = omega arith;
+    }
 
 pub read_cells-loop-step-preserved : goal.read_cells-loop-step-preserved
-read_cells-loop-step-preserved t c = ?
+read_cells-loop-step-preserved t c =
+    record {
+      front = extends_more _ _ _ c.loop-step.invariant.front c.in_ok-step.ensures.is.1.front;
+      below = c.in_ok-step.ensures.is.1.below ∙ c.loop-step.invariant.below;
+      is = c.loop-step.invariant.is ∙ cells_on c.args.grammar.codes.now c.args.grammar.units c.args.level c.args.preamble (as_rows c.loop-step.arena.top) c.loop-step.column c.loop-step.rest.now c.in_ok-step.ensures.is.0 c.in_ok-step.step.value c.in_ok-step.step.rest.now (c.in_ok-step.ensures.is.2 _) ∙ ?;
+      falls = omega (arith, c.in_ok-step.ensures.falls, c.loop-step.invariant.falls);
+    }
 
 pub read_cells-push-requires : goal.read_cells-push-requires
-read_cells-push-requires t c = ?
+read_cells-push-requires t c =
+    record { within = c.in_ok-cells-in_default.ensures.within; lists = subst (λ hs. RowsLists (as_rows hs)) (sym c.in_ok-cells-in_default.ensures.is) (rows_lists _ c.in_ok-cells-in_default.ensures.lists) }
 
 pub read_cells-returns-in_default : goal.read_cells-returns-in_default
 read_cells-returns-in_default t c = ?
@@ -76,25 +94,50 @@ read_row-push-requires-clause-lists t c = span_lists _ c.in_ok-span.span c.in_ok
 
 pub read_row-returns-clause-is : goal.read_row-returns-clause-is
 read_row-returns-clause-is t c =
-    (_, record { front = ?; top = ?; below = ? }, row_read c.args.grammar.codes.now c.args.grammar.units c.args.level c.args.tokens.now c.in_ok-inside.inside.now _ c.in_ok-rest.rest.now _ c.in_ok-inside.ensures.is ? (rw (c.after_first.ensures.is) at c.in_ok-rest.ensures.is))
+    (_, record { front = extends_more c.args.arena.now.closed c.read_list.new.arena.closed c.push.new.self.closed c.in_ok-list.ensures.is.0.front (subst (Extends c.read_list.new.arena.closed) (sym c.in_ok-push.ensures.closed) c.in_ok-span.ensures.grows.front);
+      top = c.in_ok-push.ensures.is ∙ ap (λ hs. hs ++ RowHeld (sequence_in c.span_of.new.arena.closed c.in_ok-span.span) ∷ []) (c.in_ok-span.ensures.grows.top ∙ c.in_ok-list.ensures.is.0.top);
+      below = c.in_ok-push.ensures.below ∙ c.in_ok-span.ensures.grows.below ∙ c.in_ok-list.ensures.is.0.below },
+    row_read c.args.grammar.codes.now c.args.grammar.units c.args.level c.args.tokens.now c.in_ok-inside.inside.now _ c.in_ok-rest.rest.now _ c.in_ok-inside.ensures.is
+    (rw (c.without_family-group.ensures.level, c.without_family-group.ensures.family) at c.in_ok-list.ensures.is.1 ∙ ap (λ s. Got s c.in_ok-list.list.rest.now) (sym c.in_ok-span.ensures.is)) (rw (c.after_first.ensures.is) at c.in_ok-rest.ensures.is))
 
 pub read_rows-returns-in_err-row-clause-is : goal.read_rows-returns-in_err-row-clause-is
-read_rows-returns-in_err-row-clause-is t c = ?
+read_rows-returns-in_err-row-clause-is t c =
+    let p = err_from_is_err_and c.from_residual-in_err-row.result c.from_residual-in_err-row.ensures.1 in
+    let f : Fits w64 c.in_err-row.field-0.0.left = search rules in
+    rw (p.1, p.2) (rows_start_fails c.args.grammar.codes.now c.args.grammar.units c.args.level c.args.tokens.now (AtFault c.in_err-row.field-0.0) (c.in_err-row.field-0.0.left, c.in_err-row.ensures.is, omega (arith, f)))
 
 pub read_rows-loop-row-init : goal.read_rows-loop-row-init
-read_rows-loop-row-init t c = ?
+read_rows-loop-row-init t c =
+    record {
+      front = subst (Extends c.args.arena.now.closed) (sym c.in_ok-begin.ensures.closed) (extends_same c.args.arena.now.closed);
+      below = c.in_ok-begin.ensures.below;
+      is = rw (c.in_ok-begin.ensures.top) (rows_start c.args.grammar.codes.now c.args.grammar.units c.args.level c.args.tokens.now c.in_ok-row.row.rest.now c.in_ok-row.row.value c.in_ok-row.ensures.is);
+      falls = c.in_ok-row.ensures.falls;
+    }
 
 pub read_rows-returns-in_err-row-2-clause-is : goal.read_rows-returns-in_err-row-2-clause-is
-read_rows-returns-in_err-row-2-clause-is t c = ?
+read_rows-returns-in_err-row-2-clause-is t c =
+    let p = err_from_is_err_and c.from_residual-in_err-row-2.result c.from_residual-in_err-row-2.ensures.1 in
+    let f : Fits w64 c.in_err-row-2.field-0.0.left = search rules in
+    rw (p.1, p.2) (fault_same (AtFault c.in_err-row-2.field-0.0) _ _ c.loop-row.invariant.is (later_at_fault c.args.grammar.codes.now c.args.grammar.units c.args.level (as_rows c.loop-row.arena.top) c.loop-row.row.value c.loop-row.row.rest.now c.in_ok-rest.rest.now c.in_ok-rest.ensures.is.0 c.loop-row-test.true c.in_ok-rest.ensures.is.2 (AtFault c.in_err-row-2.field-0.0)
+    (c.in_err-row-2.field-0.0.left, c.in_err-row-2.ensures.is, omega (arith, f))))
 
 pub read_rows-loop-row-preserved : goal.read_rows-loop-row-preserved
-read_rows-loop-row-preserved t c = ?
+read_rows-loop-row-preserved t c =
+    record {
+      front = extends_more _ _ _ c.loop-row.invariant.front c.in_ok-rest.ensures.is.1.front;
+      below = c.in_ok-rest.ensures.is.1.below ∙ c.loop-row.invariant.below;
+      is = c.loop-row.invariant.is ∙ rows_on c.args.grammar.codes.now c.args.grammar.units c.args.level (as_rows c.loop-row.arena.top) c.loop-row.row.value c.loop-row.row.rest.now c.in_ok-rest.rest.now c.in_ok-rest.ensures.is.0 c.loop-row-test.true c.in_ok-rest.ensures.is.2 c.in_ok-row-2.row.value c.in_ok-row-2.row.rest.now c.in_ok-row-2.ensures.is ∙ ap (λ rs. rows_left c.args.grammar.codes.now c.args.grammar.units c.args.level rs c.in_ok-row-2.row.value c.in_ok-row-2.row.rest.now) (sym (row_pushed _ _ _ c.in_ok-rest.ensures.is.1.top));
+      falls = omega (arith, c.in_ok-row-2.ensures.falls, c.in_ok-rest.ensures.falls, c.loop-row.invariant.falls);
+    }
 
 pub read_rows-returns-clause-is : goal.read_rows-returns-clause-is
-read_rows-returns-clause-is t c = ?
+read_rows-returns-clause-is t c =
+    (items_grow c.args.arena.now c.loop-row.arena c.close.new.self c.loop-row.invariant.front c.loop-row.invariant.below c.in_ok-close.ensures.closed c.in_ok-close.ensures.top c.in_ok-close.ensures.below,
+    c.loop-row.invariant.is ∙ rows_end c.args.grammar.codes.now c.args.grammar.units c.args.level (as_rows c.loop-row.arena.top) c.loop-row.row.value c.loop-row.row.rest.now c.loop-row-test.false ∙ ap (λ hs. Got (as_rows hs) c.loop-row.row.rest.now) (sym c.in_ok-close.ensures.is))
 
 pub read_rows-returns-clause-lists : goal.read_rows-returns-clause-lists
-read_rows-returns-clause-lists t c = ?
+read_rows-returns-clause-lists t c = subst (λ hs. RowsLists (as_rows hs)) (sym c.in_ok-close.ensures.is) (rows_lists _ c.in_ok-close.ensures.lists)
 
 pub read_run-loop-action-init : goal.read_run-loop-action-init
 read_run-loop-action-init t c =
@@ -145,13 +188,27 @@ read_run-loop-action-preserved t c =
     }
 
 pub read_table_rows-loop-step-init : goal.read_table_rows-loop-step-init
-read_table_rows-loop-step-init t c = ?
+read_table_rows-loop-step-init t c =
+    record {
+      front = subst (Extends c.args.arena.now.closed) (sym c.in_ok-begin.ensures.closed) (extends_same c.args.arena.now.closed);
+      below = c.in_ok-begin.ensures.below;
+      is = rw (c.in_ok-begin.ensures.top) (table_start c.args.grammar.codes.now c.args.grammar.units c.args.level c.args.preamble c.args.tokens.now _ c.row_or_end-step.result.value ?);
+      falls = ?;
+    }
 
 pub read_table_rows-returns-in_err-step-clause-is : goal.read_table_rows-returns-in_err-step-clause-is
-read_table_rows-returns-in_err-step-clause-is t c = ?
+read_table_rows-returns-in_err-step-clause-is t c =
+    let p = err_from_is_err_and c.from_residual-in_err-step.result c.from_residual-in_err-step.ensures.1 in
+    rw (p.1, p.2) (fault_same c.in_err-step.field-0.0 _ _ c.loop-step.invariant.is (row_of_cells_fails c.args.grammar.codes.now c.args.grammar.units c.args.level c.args.preamble (as_grid c.loop-step.arena.top) c.loop-step.step.value c.loop-step.step.rest.now c.in-NextRow.is c.in_err-step.field-0.0 c.in_err-step.ensures.is))
 
 pub read_table_rows-loop-step-preserved : goal.read_table_rows-loop-step-preserved
-read_table_rows-loop-step-preserved t c = ?
+read_table_rows-loop-step-preserved t c =
+    record {
+      front = extends_more _ _ _ c.loop-step.invariant.front c.in_ok-step.ensures.is.1.front;
+      below = c.in_ok-step.ensures.is.1.below ∙ c.loop-step.invariant.below;
+      is = c.loop-step.invariant.is ∙ table_on c.args.grammar.codes.now c.args.grammar.units c.args.level c.args.preamble (as_grid c.loop-step.arena.top) c.loop-step.step.value c.loop-step.step.rest.now c.in-NextRow.is c.in_ok-step.ensures.is.0 c.in_ok-step.step.value c.in_ok-step.step.rest.now c.in_ok-step.ensures.ends c.in_ok-step.ensures.is.2 ∙ ?;
+      falls = omega (arith, c.in_ok-step.ensures.falls, c.loop-step.invariant.falls);
+    }
 
 pub read_table_rows-returns : goal.read_table_rows-returns
 read_table_rows-returns t c = ?
