@@ -1,15 +1,15 @@
 -- The parts of a list that have lists in them: what is read for each, and what it is made of.
-use Rattle.std.proofs.Common.{◌≡◌, ℕ, ◌+◌, ◌≤◌, true, List, [], ◌∷◌, ◌++◌, drop, length, Option, Some, None, refl, sym, ap, ◌∙◌, subst, arith}
-use Rattle.std.specs.Prelude.{⊤}
+use Rattle.std.proofs.Common.{◌≡◌, ℕ, ◌+◌, ◌≤◌, Bool, true, false, List, [], ◌∷◌, ◌++◌, drop, length, Option, Some, None, refl, sym, ap, ◌∙◌, subst, arith}
+use Rattle.std.specs.Prelude.{⊤, if◌then◌else◌}
 use Rattle.mt_token.specs.declared.token.Token.{Token}
 use Rattle.mt_scaled.specs.declared.unit.Units.{Units}
 use Rattle.mt_plain.specs.CodeTables.{CodeTables}
 use Rattle.mt_rules.specs.declared.symbol.Delim.{Delim}
 use Rattle.mt_rules.specs.declared.class.Class.TheVariants.{Inner}
 use Rattle.mt_rules.specs.declared.kind.Kind.TheVariants.{Plain}
-use Rattle.mt_rules.specs.Sequence.{Sequence, Rows, More, LeftElement, ListPart}
-use Rattle.mt_scan.specs.Role.{is_math_shift, is_open_brace}
-use Rattle.mt_scan.specs.Parts.{Read, Got, opening, then_read}
+use Rattle.mt_rules.specs.Sequence.{Sequence, Rows, TableGrid, More, LeftElement, ListPart}
+use Rattle.mt_scan.specs.Role.{is_math_shift, is_open_brace, is_superscript, role_of}
+use Rattle.mt_scan.specs.Parts.{Read, Got, after_blanks, after_spaces, opening, then_read}
 use Rattle.mt_arena.specs.declared.thing.Noad.{Noad}
 use Rattle.mt_arena.specs.declared.thing.Span.{Span}
 use Rattle.mt_arena.specs.declared.thing.Thing.TheVariants.{Choice}
@@ -20,11 +20,14 @@ use Rattle.mt_formula.specs.declared.reading.stop.Stop.{Stop}
 use Rattle.mt_formula.specs.declared.step.action.Action.TheVariants.{Rows as RowsAction, LeftRight}
 use Rattle.mt_formula.specs.Atoms.{append, last_atom_items, plain_atom, prime_atom, prime_items}
 use Rattle.mt_formula.specs.Groups.{segments}
-use Rattle.mt_formula.specs.Items.{Given, GivesAtom, given}
+use Rattle.mt_formula.specs.Items.{Given, GivesAtom, given, table_given}
 use Rattle.mt_formula.specs.Lists.{ItemRunReader, list, list_after, then_give}
-use Rattle.mt_formula.specs.Primes.{after_primes}
+use Rattle.mt_formula.specs.Primes.{after_primes, argument_after, prime_script, prime_script_of, primes}
 use Rattle.mt_formula.specs.Rows.{brace_closes, first_rows, row, rows}
+use Rattle.mt_formula.specs.Tables.{brace_level, preamble_of, table, table_rows}
 use Rattle.mt_formula.specs.Whole.{whole_rows}
+use Rattle.mt_formula.specs.declared.open.table.TableForm.{TableForm}
+use Rattle.mt_formula.specs.reading.Arguments.{after_superscript}
 use Rattle.mt_formula.specs.reading.Givens.{KeptThing}
 use Rattle.mt_formula.specs.reading.Noads.{last_in}
 use Rattle.mt_formula.specs.reading.Reads.{Closes, Completes, Grows, whole_run}
@@ -36,6 +39,9 @@ use Rattle.mt_formula.proofs.Chaining.{give_give, then_then}
 use Rattle.mt_formula.proofs.Inside.{both_true}
 use Rattle.mt_formula.proofs.Running.{fault_same, fault_then}
 use Rattle.mt_formula.proofs.Unrolling.{first_rows_by_rules}
+
+some_is : {A : Type 0} {a b : A} → Some a ≡ Some b → a ≡ b
+some_is e = cc
 
 -- a list that was opened, read and closed
 pub closes_grows : (old b m new : ArenaValue) → b.closed ≡ old.closed → b.below ≡ old.top ∷ old.below → Extends b.closed m.closed → m.below ≡ b.below → Closes m new → Grows old new
@@ -120,3 +126,49 @@ module _ (tables : CodeTables) (units : Units) where
       row_is level tokens ∙ ap (λ r. then_read r (row_list level)) o
       ∙ ap (λ r. then_read r (λ (inner : Sequence) (end : List Token). then_give (brace_closes tables (drop 1 end)) (λ closed. inner))) l
       ∙ ap (λ r. then_give r (λ closed. all)) b
+
+  -- primes alone, and with an argument
+  pub primes_argument : (level : ℕ) (family : Option ℕ) (tokens rest after : List Token) (count : ℕ) → count ≡ (primes tables 0 tokens).count → rest ≡ (primes tables 0 tokens).rest → after_superscript tables rest ≡ Some after
+      → prime_script tables units (whole_run tables units) level family tokens ≡ argument_after tables units (whole_run tables units) count level family after
+  primes_argument level family tokens rest after count c r e =
+      ap (λ n. prime_script_of tables units (whole_run tables units) n level family (primes tables 0 tokens).rest) (sym c)
+      ∙ ap (λ ts. prime_script_of tables units (whole_run tables units) count level family ts) (sym r) ∙ at_superscript rest e
+    where
+      at_superscript : (ts : List Token) → after_superscript tables ts ≡ Some after → prime_script_of tables units (whole_run tables units) count level family ts ≡ argument_after tables units (whole_run tables units) count level family after
+      at_superscript [] e = cc
+      at_superscript (t ∷ ts) e = by_role (is_superscript (role_of tables t)) e
+        where
+          by_role : (b : Bool) → (if b then Some (after_spaces ts) else None) ≡ Some after
+              → (if b then argument_after tables units (whole_run tables units) count level family (after_spaces ts) else Got (prime_items (count + 1)) (t ∷ ts)) ≡ argument_after tables units (whole_run tables units) count level family after
+          by_role true e = ap (argument_after tables units (whole_run tables units) count level family) (some_is e)
+          by_role false e = cc
+
+  pub primes_alone : (level : ℕ) (family : Option ℕ) (tokens rest : List Token) (count : ℕ) → count ≡ (primes tables 0 tokens).count → rest ≡ (primes tables 0 tokens).rest → after_superscript tables rest ≡ None
+      → prime_script tables units (whole_run tables units) level family tokens ≡ Got (prime_items (count + 1)) rest
+  primes_alone level family tokens rest count c r e =
+      ap (λ n. prime_script_of tables units (whole_run tables units) n level family (primes tables 0 tokens).rest) (sym c)
+      ∙ ap (λ ts. prime_script_of tables units (whole_run tables units) count level family ts) (sym r) ∙ at_none rest e
+    where
+      at_none : (ts : List Token) → after_superscript tables ts ≡ None → prime_script_of tables units (whole_run tables units) count level family ts ≡ Got (prime_items (count + 1)) ts
+      at_none [] e = refl
+      at_none (t ∷ ts) e = by_role (is_superscript (role_of tables t)) e
+        where
+          by_role : (b : Bool) → (if b then Some (after_spaces ts) else None) ≡ None
+              → (if b then argument_after tables units (whole_run tables units) count level family (after_spaces ts) else Got (prime_items (count + 1)) (t ∷ ts)) ≡ Got (prime_items (count + 1)) (t ∷ ts)
+          by_role true e = cc
+          by_role false e = refl
+
+  -- a table after its word
+  abbrev table_from : TableForm → ℕ → List Token → Read TableGrid
+  table_from form level tokens =
+      then_read (opening tables is_open_brace level (after_blanks tables tokens)) (λ (here : ⊤) (inside : List Token). table_rows tables units (whole_run tables units) (level + 1) (preamble_of form) inside)
+
+  pub table_fails : (form : TableForm) (level at : ℕ) (tokens : List Token) (stop : Stop) → at ≡ brace_level form level → HasFault stop (table_from form at tokens)
+      → HasFault stop (then_give (table tables units (whole_run tables units) form level tokens) (λ rows. table_given form rows))
+  table_fails form level at tokens stop e h =
+      fault_then stop (table tables units (whole_run tables units) form level tokens) (λ rows rest. Got (table_given form rows) rest) (subst (λ n. HasFault stop (table_from form n tokens)) e h)
+
+  pub table_is : (form : TableForm) (level at : ℕ) (tokens rest : List Token) (rows : TableGrid) (all : Given) → at ≡ brace_level form level → table_from form at tokens ≡ Got rows rest → all ≡ table_given form rows
+      → then_give (table tables units (whole_run tables units) form level tokens) (λ rows. table_given form rows) ≡ Got all rest
+  table_is form level at tokens rest rows all e h g =
+      ap (λ r. then_give r (λ rows. table_given form rows)) (subst (λ n. table_from form n tokens ≡ Got rows rest) e h) ∙ ap (λ x. Got x rest) (sym g)

@@ -1,18 +1,19 @@
 use Rattle.std.proofs.Common.{◌≡◌, ◌≤◌, ℕ, List, [], ◌∷◌, ◌++◌, length, drop, refl, sym, ap, ◌∙◌, subst, arith, rules, Fits, w64}
 use Rattle.std.proofs.lemmas.Result.{err_from_is_err_and}
-use Rattle.mt_arena.specs.Arena.{CellsHeld, Extends, Held, RowHeld, as_grid, as_rows, as_sequence, first_open, other_open, sequence_in}
+use Rattle.mt_arena.specs.Arena.{CellsHeld, Extends, Held, ItemHeld, RowHeld, as_grid, as_rows, as_sequence, first_open, other_open, rows_in, sequence_in}
 use Rattle.mt_arena.proofs.Putting.{extends_more, extends_same, grid_lists, rows_lists}
 use Rattle.mt_formula.specs.declared.reading.stop.Stop.TheVariants.{Fault as AtFault}
 use Rattle.mt_scan.specs.Parts.{Got}
 use Rattle.mt_arena.specs.Keeping.{GridLists, RowsLists}
 use Rattle.mt_formula.specs.Items.{action_here}
-use Rattle.mt_formula.proofs.Parting.{choice_kept, closes_grows, items_grow, left_right_fails, left_right_is, primes_in, row_read, rows_given}
+use Rattle.mt_formula.proofs.Parting.{choice_kept, closes_grows, items_grow, left_right_fails, left_right_is, primes_in, row_read, primes_alone, primes_argument, rows_given, table_fails, table_is}
 use Rattle.mt_formula.specs.reading.Noads.{last_in}
 use Rattle.mt_formula.specs.reading.Reads.{whole_run}
 use Rattle.mt_formula.proofs.Arenas.{kept_last_later, list_field, span_lists}
+use Rattle.mt_formula.specs.reading.Tables.{after_cells, after_rows}
 use Rattle.mt_formula.proofs.Completing.{fraction_fails, fraction_lists, fraction_whole, head_fails, mid_inside, open_divides, open_ends, ran}
 use Rattle.mt_formula.proofs.Rowing.{later_at_fault, row_at_fault, row_pushed, rows_end, rows_left, rows_on, rows_start, rows_start_fails}
-use Rattle.mt_formula.proofs.Tabling.{cell_fails, cells_on, cells_pushed, cells_start, ends_unless, row_of_cells_fails, table_end, table_on, table_start}
+use Rattle.mt_formula.proofs.Tabling.{cell_fails, cell_reader, cells_on, cells_pushed, cells_start, ends_unless, row_of_cells_fails, table_end, table_on, table_start}
 use Rattle.mt_formula.proofs.Bounding.{are_inside_between, between_more, delimiter_fails, segment_fails, segments_end, segments_on, segments_start}
 use Rattle.mt_formula.proofs.Running.{action_fails, fault_same, given_fails, run_ends, run_on, run_start}
 use Rattle.mt_formula.proofs.reading.list.+reading.Goals as goal
@@ -40,7 +41,7 @@ read_cells-loop-step-preserved t c =
     record {
       front = extends_more _ _ _ c.loop-step.invariant.front c.in_ok-step.ensures.is.1.front;
       below = c.in_ok-step.ensures.is.1.below ∙ c.loop-step.invariant.below;
-      is = c.loop-step.invariant.is ∙ cells_on c.args.grammar.codes.now c.args.grammar.units c.args.level c.args.preamble (as_rows c.loop-step.arena.top) c.loop-step.column c.loop-step.rest.now c.in_ok-step.ensures.is.0 c.in_ok-step.step.value c.in_ok-step.step.rest.now (c.in_ok-step.ensures.is.2 _) ∙ ?;
+      is = c.loop-step.invariant.is ∙ cells_on c.args.grammar.codes.now c.args.grammar.units c.args.level c.args.preamble (as_rows c.loop-step.arena.top) c.loop-step.column c.loop-step.rest.now c.in_ok-step.ensures.is.0 c.in_ok-step.step.value c.in_ok-step.step.rest.now (c.in_ok-step.ensures.is.2 _) ∙ ap (λ rs. after_cells (cell_reader c.args.grammar.codes.now c.args.grammar.units c.args.level c.args.preamble) c.args.preamble rs c.in_ok-step.step.value c.in_ok-step.step.rest.now) (sym (row_pushed _ _ _ c.in_ok-step.ensures.is.1.top));
       falls = omega (arith, c.in_ok-step.ensures.falls, c.loop-step.invariant.falls);
     }
 
@@ -49,7 +50,14 @@ read_cells-push-requires t c =
     record { within = c.in_ok-cells-in_default.ensures.within; lists = subst (λ hs. RowsLists (as_rows hs)) (sym c.in_ok-cells-in_default.ensures.is) (rows_lists _ c.in_ok-cells-in_default.ensures.lists) }
 
 pub read_cells-returns-in_default : goal.read_cells-returns-in_default
-read_cells-returns-in_default t c = ?
+read_cells-returns-in_default t c =
+    record {
+      is = (rows_in c.close.new.self.closed c.in_ok-cells-in_default.cells, record { front = ?; top = ?; below = ? },
+          c.loop-step.invariant.is ∙ cells_on c.args.grammar.codes.now c.args.grammar.units c.args.level c.args.preamble (as_rows c.loop-step.arena.top) c.loop-step.column c.loop-step.rest.now c.in_ok-step.ensures.is.0 c.in_ok-step.step.value c.in_ok-step.step.rest.now (c.in_ok-step.ensures.is.2 _)
+          ∙ ap (λ rs. after_cells (cell_reader c.args.grammar.codes.now c.args.grammar.units c.args.level c.args.preamble) c.args.preamble rs c.in_ok-step.step.value c.in_ok-step.step.rest.now) (sym (ap as_rows c.in_ok-cells-in_default.ensures.is ∙ row_pushed _ _ _ c.in_ok-step.ensures.is.1.top)));
+      ends = ends_unless c.in_ok-step.step.value c.in_default.not-NextCell;
+      falls = omega (arith, c.in_ok-step.ensures.falls, c.loop-step.invariant.falls);
+    }
 
 pub read_given-returns-in_err-rows-in-Rows-clause-is : goal.read_given-returns-in_err-rows-in-Rows-clause-is
 read_given-returns-in_err-rows-in-Rows-clause-is t c =
@@ -66,7 +74,8 @@ pub read_given-returns-in_ok-list-in-Prime-clause-kept : goal.read_given-returns
 read_given-returns-in_ok-list-in-Prime-clause-kept t c = list_field _ c.in_ok-list-in-Prime.list.value c.in_ok-list-in-Prime.ensures.kept
 
 pub read_given-returns-in_ok-list-in-LeftRight-clause-is : goal.read_given-returns-in_ok-list-in-LeftRight-clause-is
-read_given-returns-in_ok-list-in-LeftRight-clause-is t c = ?
+read_given-returns-in_ok-list-in-LeftRight-clause-is t c =
+    (c.in_ok-list-in-LeftRight.ensures.is.0, rw (c.in-LeftRight.is, c.plain_noad-in-LeftRight.ensures) (left_right_is c.args.grammar.codes.now c.args.grammar.units c.args.group.level c.args.group.family c.in-LeftRight.left c.args.tokens.now _ _ (rw (c.inside.ensures.level, c.inside.ensures.family) at c.in_ok-list-in-LeftRight.ensures.is.1)))
 
 pub read_given-returns-in_ok-plain_given-in_default-clause-kept : goal.read_given-returns-in_ok-plain_given-in_default-clause-kept
 read_given-returns-in_ok-plain_given-in_default-clause-kept t c = c.in_ok-plain_given-in_default.ensures.kept c.args.arena.now.closed
@@ -84,7 +93,11 @@ pub read_left_right-returns-else-is_at_middle-clause-kept : goal.read_left_right
 read_left_right-returns-else-is_at_middle-clause-kept t c = ?
 
 pub read_primes-returns-in_err-argument-in-Some-clause-is : goal.read_primes-returns-in_err-argument-in-Some-clause-is
-read_primes-returns-in_err-argument-in-Some-clause-is t c = ?
+read_primes-returns-in_err-argument-in-Some-clause-is t c =
+    let p = err_from_is_err_and c.from_residual.result c.from_residual.ensures.1 in
+    let f : Fits w64 c.in_err-argument-in-Some.field-0.0.left = search rules in
+    rw (p.1, p.2) (fault_same (AtFault c.in_err-argument-in-Some.field-0.0) _ _ (primes_argument c.args.grammar.codes.now c.args.grammar.units c.args.group.level c.args.group.family c.args.tokens.now c.primes-more.result.rest.now c.in-Some.after.now c.primes-more.result.value c.primes-more.ensures.count c.primes-more.ensures.rest ?)
+    (c.in_err-argument-in-Some.field-0.0.left, c.in_err-argument-in-Some.ensures.is c.args.grammar.units (whole_run c.args.grammar.codes.now c.args.grammar.units) c.primes-more.result.value, omega (arith, f)))
 
 pub read_primes-returns-in_ok-close_list-in-None-clause-is : goal.read_primes-returns-in_ok-close_list-in-None-clause-is
 read_primes-returns-in_ok-close_list-in-None-clause-is t c = ?
@@ -192,8 +205,8 @@ read_table_rows-loop-step-init t c =
     record {
       front = subst (Extends c.args.arena.now.closed) (sym c.in_ok-begin.ensures.closed) (extends_same c.args.arena.now.closed);
       below = c.in_ok-begin.ensures.below;
-      is = rw (c.in_ok-begin.ensures.top) (table_start c.args.grammar.codes.now c.args.grammar.units c.args.level c.args.preamble c.args.tokens.now _ c.row_or_end-step.result.value ?);
-      falls = ?;
+      is = rw (c.in_ok-begin.ensures.top) (table_start c.args.grammar.codes.now c.args.grammar.units c.args.level c.args.preamble c.args.tokens.now _ c.row_or_end-step.result.value (rw (c.after_spaces.ensures.is) at c.row_or_end-step.ensures.is));
+      falls = omega (arith, c.row_or_end-step.ensures.falls, c.after_spaces.ensures.falls);
     }
 
 pub read_table_rows-returns-in_err-step-clause-is : goal.read_table_rows-returns-in_err-step-clause-is
@@ -206,18 +219,28 @@ read_table_rows-loop-step-preserved t c =
     record {
       front = extends_more _ _ _ c.loop-step.invariant.front c.in_ok-step.ensures.is.1.front;
       below = c.in_ok-step.ensures.is.1.below ∙ c.loop-step.invariant.below;
-      is = c.loop-step.invariant.is ∙ table_on c.args.grammar.codes.now c.args.grammar.units c.args.level c.args.preamble (as_grid c.loop-step.arena.top) c.loop-step.step.value c.loop-step.step.rest.now c.in-NextRow.is c.in_ok-step.ensures.is.0 c.in_ok-step.step.value c.in_ok-step.step.rest.now c.in_ok-step.ensures.ends c.in_ok-step.ensures.is.2 ∙ ?;
+      is = c.loop-step.invariant.is ∙ table_on c.args.grammar.codes.now c.args.grammar.units c.args.level c.args.preamble (as_grid c.loop-step.arena.top) c.loop-step.step.value c.loop-step.step.rest.now c.in-NextRow.is c.in_ok-step.ensures.is.0 c.in_ok-step.step.value c.in_ok-step.step.rest.now c.in_ok-step.ensures.ends c.in_ok-step.ensures.is.2 ∙ ap (λ g. after_rows (cell_reader c.args.grammar.codes.now c.args.grammar.units c.args.level c.args.preamble) c.args.preamble g c.in_ok-step.step.value c.in_ok-step.step.rest.now) (sym (cells_pushed _ _ _ c.in_ok-step.ensures.is.1.top));
       falls = omega (arith, c.in_ok-step.ensures.falls, c.loop-step.invariant.falls);
     }
 
 pub read_table_rows-returns : goal.read_table_rows-returns
-read_table_rows-returns t c = ?
+read_table_rows-returns t c =
+    record {
+      is = (items_grow c.args.arena.now c.loop-step.arena c.close.new.self c.loop-step.invariant.front c.loop-step.invariant.below c.in_ok-close.ensures.closed c.in_ok-close.ensures.top c.in_ok-close.ensures.below,
+          c.loop-step.invariant.is ∙ table_end c.args.grammar.codes.now c.args.grammar.units c.args.level c.args.preamble (as_grid c.loop-step.arena.top) c.loop-step.step.value c.loop-step.step.rest.now c.in_default.not-NextRow ∙ ap (λ hs. Got (as_grid hs) c.loop-step.step.rest.now) (sym c.in_ok-close.ensures.is));
+      within = c.in_ok-close.ensures.within;
+      lists = subst (λ hs. GridLists (as_grid hs)) (sym c.in_ok-close.ensures.is) (grid_lists _ c.in_ok-close.ensures.lists);
+      falls = c.loop-step.invariant.falls;
+    }
 
 pub read_table_word-returns-in_err-rows-clause-is : goal.read_table_word-returns-in_err-rows-clause-is
-read_table_word-returns-in_err-rows-clause-is t c = ?
+read_table_word-returns-in_err-rows-clause-is t c =
+    let p = err_from_is_err_and c.from_residual.result c.from_residual.ensures.1 in
+    rw (p.1, p.2) (table_fails c.args.grammar.codes.now c.args.grammar.units c.args.form c.args.group.level c.brace_level-level.result c.args.tokens.now _ c.brace_level-level.ensures (rw (c.preamble_of.ensures) at c.in_err-rows.ensures.is))
 
 pub read_table_word-returns-clause-is : goal.read_table_word-returns-clause-is
-read_table_word-returns-clause-is t c = ?
+read_table_word-returns-clause-is t c =
+    (?, table_is c.args.grammar.codes.now c.args.grammar.units c.args.form c.args.group.level c.brace_level-level.result c.args.tokens.now _ _ _ c.brace_level-level.ensures (rw (c.preamble_of.ensures) at c.in_ok-rows.ensures.is.1) c.in_ok-table_given.ensures.is)
 
 pub read_open-returns-in-Ends-clause-is : goal.read_open-returns-in-Ends-clause-is
 read_open-returns-in-Ends-clause-is t c =
