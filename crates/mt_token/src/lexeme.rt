@@ -1,11 +1,10 @@
-//! The lexeme of a source that stands in front: bytes without a token, a token, or a fault.
-ghost use Rattle.std.specs.Prelude.{◌≡◌, ◌<◌, ◌≤◌, ◌+◌, ◌==◌, IfOk, length};
+//! The lexeme in front of a rest of a source: bytes without a token, a token, or a fault.
+ghost use Rattle.std.specs.Prelude.{◌≡◌, ◌<◌, ◌≤◌, ◌+◌, ◌==◌, length};
 ghost use Rattle.mt_token.specs.Lexemes.{is_letter, is_visible, line_end, letters, comment};
 ghost use Rattle.mt_token.specs.Lexemes.{lexeme, lexeme_after_escape, Fits};
+ghost use Rattle.mt_token.specs.Lent.{told};
 
-use crate::token::TokenKind;
-use mt_scaled::Name;
-use std::alloc::{AllocError, Global};
+use crate::lent::LentKind;
 
 /// The state in which a line is read (The TeXbook, chapter 8).
 #[derive(Clone, Copy, Debug, PartialEq, Eq)]
@@ -19,13 +18,13 @@ pub enum State {
     Skip,
 }
 
-/// What stands in front of a rest of the source.
-#[derive(Debug, Drop)]
-pub enum Lexeme {
+/// What is in front of a rest of the source.
+#[derive(Clone, Copy, Debug)]
+pub enum Front<'a> {
     /// So many bytes that give no token, and the state after them.
     Passed(usize, State),
     /// A token, its number of bytes, and the state after it.
-    Made(TokenKind, usize, State),
+    Made(LentKind<'a>, usize, State),
     /// A byte above 127, so many bytes on.
     NotAscii(usize),
     /// Another byte that cannot stand there, so many bytes on.
@@ -87,62 +86,50 @@ fn line_end(rest: &[u8]) -> usize
 }
 
 // The lexeme at a `\`, by what follows it.
-fn lexeme_after_escape(alloc: Global, after: &[u8]) -> Result<Lexeme, AllocError>
-    ensures is { IfOk result (λ p. p ≡ lexeme_after_escape after.now) }
-    ensures fits { IfOk result (Fits (length after.now + 1)) }
+fn lexeme_after_escape<'a>(after: &'a [u8]) -> Front<'a>
+    ensures is { told result ≡ lexeme_after_escape after.now }
+    ensures fits { Fits (length after.now + 1) (told result) }
 {
     let count = letters(after);
     if count > 0 {
-        return Ok(Lexeme::Made(
-            TokenKind::Control(Name::from_slice(alloc, &after[..count])?),
-            count + 1,
-            State::Skip,
-        ));
+        return Front::Made(LentKind::Control(&after[..count]), count + 1, State::Skip);
     }
     if line_end(after) > 0 {
-        return Ok(Lexeme::BadByte(0));
+        return Front::BadByte(0);
     }
     match after {
-        [] | [b'\t' | b' ', ..] => Ok(Lexeme::BadByte(0)),
-        [b, ..] if is_visible(*b) => Ok(Lexeme::Made(
-            TokenKind::Control(Name::from_slice(alloc, &after[..1])?),
-            2,
-            State::Middle,
-        )),
-        [b, ..] if *b > 127 => Ok(Lexeme::NotAscii(1)),
-        _ => Ok(Lexeme::BadByte(1)),
+        [] | [b'\t' | b' ', ..] => Front::BadByte(0),
+        [b, ..] if is_visible(*b) => Front::Made(LentKind::Control(&after[..1]), 2, State::Middle),
+        [b, ..] if *b > 127 => Front::NotAscii(1),
+        _ => Front::BadByte(1),
     }
 }
 
 /// The lexeme in front of a rest that is not empty.
-pub fn next_lexeme(alloc: Global, state: State, rest: &[u8]) -> Result<Lexeme, AllocError>
+pub fn next_lexeme<'a>(state: State, rest: &'a [u8]) -> Front<'a>
     requires { 0 < length rest.now }
-    ensures is { IfOk result (λ p. p ≡ lexeme state rest.now) }
-    ensures fits { IfOk result (Fits (length rest.now)) }
+    ensures is { told result ≡ lexeme state rest.now }
+    ensures fits { Fits (length rest.now) (told result) }
 {
     let end = line_end(rest);
     if end > 0 {
         return match state {
-            State::New => Ok(Lexeme::Made(
-                TokenKind::Control(Name::from_slice(alloc, b"par")?),
-                end,
-                State::New,
-            )),
-            State::Middle => Ok(Lexeme::Made(TokenKind::Space, end, State::New)),
-            State::Skip => Ok(Lexeme::Passed(end, State::New)),
+            State::New => Front::Made(LentKind::Control(b"par"), end, State::New),
+            State::Middle => Front::Made(LentKind::Space, end, State::New),
+            State::Skip => Front::Passed(end, State::New),
         };
     }
     match rest {
         [b'\t' | b' ', ..] => match state {
-            State::Middle => Ok(Lexeme::Made(TokenKind::Space, 1, State::Skip)),
-            other => Ok(Lexeme::Passed(1, other)),
+            State::Middle => Front::Made(LentKind::Space, 1, State::Skip),
+            other => Front::Passed(1, other),
         },
-        [b'%', after @ ..] => Ok(Lexeme::Passed(1 + comment(after), State::New)),
-        [b'\\', after @ ..] => lexeme_after_escape(alloc, after),
-        [b'^', b'^', ..] => Ok(Lexeme::BadByte(1)),
-        [b'~', ..] => Ok(Lexeme::BadByte(0)),
-        [b, ..] if is_visible(*b) => Ok(Lexeme::Made(TokenKind::Char(*b), 1, State::Middle)),
-        [b, ..] if *b > 127 => Ok(Lexeme::NotAscii(0)),
-        _ => Ok(Lexeme::BadByte(0)),
+        [b'%', after @ ..] => Front::Passed(1 + comment(after), State::New),
+        [b'\\', after @ ..] => lexeme_after_escape(after),
+        [b'^', b'^', ..] => Front::BadByte(1),
+        [b'~', ..] => Front::BadByte(0),
+        [b, ..] if is_visible(*b) => Front::Made(LentKind::Char(*b), 1, State::Middle),
+        [b, ..] if *b > 127 => Front::NotAscii(0),
+        _ => Front::BadByte(0),
     }
 }

@@ -1,22 +1,14 @@
 //! The tokens of a whole source.
-ghost use Rattle.std.specs.Prelude.{◌≡◌, ◌<◌, ◌≤◌, ◌↔◌, ◌++◌, ◌∷◌, [], length, drop, IfOk, OnOk, Err};
+ghost use Rattle.std.specs.Prelude.{◌≡◌, ◌<◌, ◌≤◌, ◌↔◌, ◌++◌, ◌∷◌, [], length, IfOk, OnOk, Err};
 ghost use Rattle.mt_token.specs.declared.token.TokenError.TheVariants.{TooLong};
-ghost use Rattle.mt_token.specs.Tokens.{max_source, source_tokens, Lexes, SpansInOrder, IsUnique};
+ghost use Rattle.mt_token.specs.Tokens.{max_source, source_tokens, fault_of, Lexes, SpansInOrder, IsUnique};
 
-use crate::lexeme::{Lexeme, State, next_lexeme};
+use crate::cursor::Lexer;
 use crate::token::{Token, TokenError, TokenList};
 use std::alloc::{AllocError, Global};
 
 /// The greatest number of bytes of a source.
 pub const MAX_SOURCE: usize = 4_194_304;
-
-// The bytes from an offset on.
-fn rest_from(bytes: &[u8], at: usize) -> &[u8]
-    requires { at ≤ length bytes.now }
-    ensures { result.now ≡ drop at bytes.now }
-{
-    &bytes[at..]
-}
 
 fn push_token(list: &mut Vec<Token>, token: Token) -> Result<(), AllocError>
     ensures { OnOk result (list.new.items ≡ list.old.items ++ token ∷ []) }
@@ -45,27 +37,32 @@ pub fn tokens(alloc: Global, bytes: &[u8]) -> Result<TokenList, TokenError>
         return Err(TokenError::TooLong);
     }
     let mut list = Vec::new(alloc);
-    let mut state = State::New;
-    let mut at = 0;
-    while at < bytes.len() {
-        match next_lexeme(alloc, state, rest_from(bytes, at))? {
-            Lexeme::Passed(count, next) => {
-                at += count;
-                state = next;
-            }
-            Lexeme::Made(kind, count, next) => {
-                let token = Token {
-                    kind,
-                    start: at as u32,
-                    end: (at + count) as u32,
-                };
-                push_token(&mut list, token)?;
-                at += count;
-                state = next;
-            }
-            Lexeme::NotAscii(on) => return Err(TokenError::NotAscii((at + on) as u32)),
-            Lexeme::BadByte(on) => return Err(TokenError::BadByte((at + on) as u32)),
+    let mut lexer = Lexer::new(bytes);
+    loop {
+        match lexer.step() {
+            Ok(Some(token)) => push_token(&mut list, token.owned(alloc)?)?,
+            Ok(None) => return Ok(TokenList::from_vec(list)),
+            Err(fault) => return Err(fault),
         }
     }
-    Ok(TokenList::from_vec(list))
+}
+
+/// The fault for which [`tokens`] refuses a source; `None` where it has tokens. It takes no memory.
+///
+/// It is `TooLong` above [`MAX_SOURCE`] bytes, otherwise `NotAscii` or `BadByte` with the offset of
+/// the first byte at fault, and never `OutOfMemory`.
+pub fn first_fault(bytes: &[u8]) -> Option<TokenError>
+    ensures { result ≡ fault_of (source_tokens bytes.now) }
+{
+    if bytes.len() > MAX_SOURCE {
+        return Some(TokenError::TooLong);
+    }
+    let mut lexer = Lexer::new(bytes);
+    loop {
+        match lexer.step() {
+            Ok(Some(_)) => {}
+            Ok(None) => return None,
+            Err(fault) => return Some(fault),
+        }
+    }
 }

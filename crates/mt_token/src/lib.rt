@@ -6,11 +6,17 @@
 
 mod cause;
 mod character;
+mod cursor;
+mod lent;
 mod lexeme;
 mod lexer;
+mod lexicon;
 mod token;
 
 pub use cause::FIRST_OUTSIDE_CAUSE;
 pub use character::{character_code, is_space};
-pub use lexer::{MAX_SOURCE, tokens};
+pub use cursor::Lexer;
+pub use lent::{LentKind, LentToken};
+pub use lexer::{MAX_SOURCE, first_fault, tokens};
+pub use lexicon::Lexicon;
 pub use token::{Token, TokenError, TokenKind, TokenList};

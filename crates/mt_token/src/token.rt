@@ -2,6 +2,7 @@
 ghost use Rattle.std.specs.Prelude.{◌≡◌, ◌<◌, IfOk};
 ghost use Rattle.mt_token.specs.declared.token.TokenError.TheVariants.{OutOfMemory};
 
+use crate::lent::LentKind;
 use mt_scaled::{Items, Name};
 use std::alloc::{AllocError, Global};
 use thiserror::Error;
@@ -88,6 +89,19 @@ impl TokenError {
 }
 
 impl TokenKind {
+    ghost use Rattle.mt_token.specs.LentKinds.{kind_told};
+
+    /// The same kind, with its name lent.
+    pub fn lent<'a>(&'a self) -> LentKind<'a>
+        ensures { kind_told result ≡ self.now }
+    {
+        match self {
+            TokenKind::Control(name) => LentKind::Control(name.as_slice()),
+            TokenKind::Char(c) => LentKind::Char(*c),
+            TokenKind::Space => LentKind::Space,
+        }
+    }
+
     /// The same kind once more, in memory of its own.
     pub fn copied(&self, alloc: Global) -> Result<TokenKind, AllocError>
         ensures { IfOk result (λ kind. kind ≡ self.now) }

@@ -1,0 +1,46 @@
+-- A token whose name is lent, as a token of the definitions, and what a step of a cursor gives.
+use Rattle.std.specs.Prelude.{◌≡◌, ℕ, ◌<◌, ◌≤◌, [], ◌∷◌, Option, Some, None, Result, Ok, Err}
+use Rattle.mt_token.specs.declared.token.Token.{Token}
+use Rattle.mt_token.specs.declared.token.TokenError.{TokenError}
+use Rattle.mt_token.specs.declared.token.TokenError.TheVariants.{NotAscii as FaultNotAscii, BadByte as FaultBadByte, TooLong, OutOfMemory}
+use Rattle.mt_token.specs.LentKinds.{kind_told}
+use Rattle.mt_token.specs.declared.lent.LentToken.{LentToken}
+use Rattle.mt_token.specs.declared.lexeme.Front.{Front}
+use Rattle.mt_token.specs.declared.lexeme.Front.TheVariants.{Passed as FrontPassed, Made as FrontMade, NotAscii as FrontNotAscii, BadByte as FrontBadByte}
+use Rattle.mt_token.specs.Lexemes.{Lexeme, Passed, Made, NotAscii, BadByte}
+use Rattle.mt_token.specs.Tokens.{Spanned, Answer, before}
+
+-- the token that has this kind and this span
+abbrev pub token_told : LentToken → Token
+token_told t = record { kind = kind_told t.kind; start = t.start; end = t.end; ascii = t.ascii }
+
+-- its kind and its span
+abbrev pub spanned_told : LentToken → Spanned
+spanned_told t = record { kind = kind_told t.kind; start = t.start; end = t.end }
+
+-- the lexeme in front, with a name of its own
+abbrev pub told : Front → Lexeme
+told (FrontPassed count state) = Passed count state
+told (FrontMade kind count state) = Made (kind_told kind) count state
+told (FrontNotAscii on) = NotAscii on
+told (FrontBadByte on) = BadByte on
+
+-- a step of a cursor, by what is ahead of it before and after: the next token, the end, or the fault
+abbrev pub Steps : Result (Option LentToken) TokenError → Answer → Answer → Type 0
+Steps (Ok (Some t)) old new = old ≡ before (spanned_told t ∷ []) new
+Steps (Ok None) old new = (old ≡ Ok []) × (new ≡ Ok [])
+Steps (Err e) old new = old ≡ Err e
+
+-- a token is not empty, begins at an offset or after it, and ends at another
+abbrev pub Spans : Result (Option LentToken) TokenError → ℕ → ℕ → Type 0
+Spans (Ok (Some t)) from to = (from ≤ t.start) × (t.start < t.end) × (t.end ≡ to)
+Spans (Ok None) from to = from ≤ to
+Spans (Err e) from to = Unit {0}
+
+-- a fault is one of a byte: the source is not too long, and memory does not run out
+abbrev pub IsOfByte : Result (Option LentToken) TokenError → Type 0
+IsOfByte (Ok found) = Unit {0}
+IsOfByte (Err (FaultNotAscii n)) = Unit {0}
+IsOfByte (Err (FaultBadByte n)) = Unit {0}
+IsOfByte (Err TooLong) = ⊥
+IsOfByte (Err OutOfMemory) = ⊥
