@@ -1,5 +1,7 @@
 -- indexes in a list whose first tokens are passed
 pub mod Indexes
+-- lists of items that stand for tokens
+pub mod Mapped
 -- the first brace without partner, in one pass
 pub mod Unmatched
 -- macros by their names

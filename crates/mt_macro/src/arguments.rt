@@ -6,8 +6,8 @@ ghost use Rattle.mt_macro.specs.Arguments.{argument, arguments};
 ghost use Rattle.mt_macro.specs.inner.Taking.{Takes, TakesAll, IsShortArgument};
 
 use crate::argument::Argument;
-use crate::braces::{is_close, is_open};
 use crate::inputs::Inputs;
+use crate::own::{is_close, is_open};
 use crate::pieces::{Closing, Piece};
 use crate::spare::SpareLists;
 use mt_token::{Token, is_space};

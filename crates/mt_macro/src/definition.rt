@@ -4,8 +4,7 @@ ghost use Rattle.mt_macro.specs.declared.definition.MacroError.TheVariants.{OutO
 ghost use Rattle.mt_macro.specs.Table.{macro_of, is_own};
 ghost use Rattle.mt_macro.specs.Definition.{body_fault, define, preload, Answers, HasMacroAt};
 
-use crate::braces::first_unmatched;
-use crate::parameters::first_bad_parameter;
+use crate::own::{first_bad_parameter, first_unmatched};
 use crate::table::Macros;
 use mt_scaled::Name;
 use mt_token::Token;

@@ -2,7 +2,7 @@
 ghost use Rattle.std.specs.Prelude.{◌≡◌, ◌<◌, ◌^◌, IfOk, ◌∷◌, length, drop};
 ghost use Rattle.mt_macro.specs.inner.Ends.{IsEnd, AreEnds};
 
-use crate::braces::{is_close, is_open};
+use crate::own::{is_close, is_open};
 use mt_token::Token;
 use std::alloc::{AllocError, Global};
 

@@ -15,10 +15,10 @@ ghost use Rattle.mt_macro.specs.declared.expansion.ExpandError.TheVariants.{OutO
 
 use crate::argument::Argument;
 use crate::arguments::take_arguments;
-use crate::braces::first_unmatched;
 use crate::ends::ends_of;
 use crate::filling::{fill, fill_len};
 use crate::inputs::Inputs;
+use crate::own::first_unmatched;
 use crate::pieces::Piece;
 use crate::spare::SpareLists;
 use crate::table::{Macro, Macros};

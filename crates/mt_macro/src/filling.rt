@@ -8,7 +8,7 @@ ghost use Rattle.mt_macro.specs.inner.Bodies.{begins_parameter, next_parameter, 
 ghost use Rattle.mt_macro.specs.inner.Taking.{IsShortArgument};
 
 use crate::argument::Argument;
-use crate::parameters::is_hash;
+use crate::own::is_hash;
 use crate::pieces::Piece;
 use crate::spare::SpareLists;
 use mt_token::{Token, character_code};

@@ -11,13 +11,15 @@ mod expansion;
 mod filling;
 mod inputs;
 mod name_marks;
+mod own;
 mod parameters;
 mod pieces;
 mod spare;
 mod table;
 
-pub use braces::{closes_none, closing_brace, is_close, is_open, level_after};
 pub use definition::MacroError;
 pub use expansion::{ExpandError, expand, expands_to_itself};
-pub use parameters::first_bad_parameter;
+pub use own::{
+    OwnTokens, closes_none, closing_brace, first_bad_parameter, is_close, is_open, level_after,
+};
 pub use table::Macros;

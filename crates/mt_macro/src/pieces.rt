@@ -5,7 +5,7 @@ ghost use Rattle.mt_macro.specs.Braces.{is_open};
 ghost use Rattle.mt_macro.specs.inner.Ends.{end_index, AreEnds};
 ghost use Rattle.mt_macro.specs.inner.Pieces.{Closes};
 
-use crate::braces::{closes_none, is_open, level_after};
+use crate::own::{closes_none, is_open, level_after};
 use mt_token::Token;
 use std::marker::Model;
 
