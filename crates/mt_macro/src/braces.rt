@@ -1,25 +1,25 @@
-//! Braces and their partners.
+//! Braces and their partners, in lists of items that stand for tokens.
 ghost use Rattle.std.specs.Prelude.{ℕ, take, drop, MatchOption, Some, None, ◌≡◌, ◌<◌, ◌≤◌, ◌+◌, ◌^◌, ◌==◌, ◌&&◌, length, map, if◌then◌else◌};
 ghost use Rattle.std.specs.Prelude.{IfSome};
 ghost use Rattle.mt_macro.specs.Braces.{is_open, is_close, level_after, group, first_unmatched};
 
 use mt_token::Lexicon;
 
-/// Whether a token opens a group.
+/// Whether an item is a `{`, which opens a group.
 pub fn is_open<T, L: Lexicon<T>>(tables: &L, token: &T) -> bool
     ensures { result ≡ is_open (L.token tables.now token.now) }
 {
     tables.code(token) == b'{'
 }
 
-/// Whether a token closes a group.
+/// Whether an item is a `}`, which closes a group.
 pub fn is_close<T, L: Lexicon<T>>(tables: &L, token: &T) -> bool
     ensures { result ≡ is_close (L.token tables.now token.now) }
 {
     tables.code(token) == b'}'
 }
 
-/// How many groups are open after a token.
+/// How many groups are open after an item, of those that are open before it.
 pub fn level_after<T, L: Lexicon<T>>(tables: &L, level: usize, token: &T) -> usize
     requires { level + 1 < 2 ^ 64 }
     ensures is { result ≡ level_after level (L.token tables.now token.now) }
@@ -34,7 +34,7 @@ pub fn level_after<T, L: Lexicon<T>>(tables: &L, level: usize, token: &T) -> usi
     }
 }
 
-/// Whether a token closes a group that is not open.
+/// Whether an item is a `}` outside of all open groups.
 pub fn closes_none<T, L: Lexicon<T>>(tables: &L, level: usize, token: &T) -> bool
     ensures { result ≡ (level == 0) && is_close (L.token tables.now token.now) }
 {

@@ -10,6 +10,7 @@ mod ends;
 mod expansion;
 mod filling;
 mod inputs;
+pub mod lists;
 mod name_marks;
 mod own;
 mod parameters;
