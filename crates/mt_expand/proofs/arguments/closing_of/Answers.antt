@@ -1,0 +1,19 @@
+use Rattle.std.proofs.Common.{sym, ◌∙◌, ap, arith, length, drop, take, ◌-◌}
+use Rattle.std.proofs.lemmas.List.{length-map}
+use Rattle.mt_expand.proofs.Parts.{closes_argument, closes_basic, run_items}
+use Rattle.mt_expand.proofs.Stacks.{opened_basic, basic_told, basic_bounds, part_size}
+use Rattle.mt_expand.proofs.arguments.closing_of.Goals as goal
+
+pub returns-then-is_opened : goal.returns-then-is_opened
+returns-then-is_opened g c = closes_argument _ _ _ c.args.run c.requires.run c.requires.whole (sym c.is_opened.ensures ∙ c.if-is_opened.true)
+
+pub items_in-requires : goal.items_in-requires
+items_in-requires g c =
+    let b = opened_basic _ (sym c.is_opened.ensures ∙ c.if-is_opened.false) in
+    let w = basic_bounds _ _ c.args.run b c.requires.run in
+    (omega (arith, w.0), omega (arith, w.1, ap length c.items_of.ensures, length-map c.items_of.result.now (g.B.Lexicon.token c.args.tables.now)))
+
+pub returns-else-is_opened : goal.returns-else-is_opened
+returns-else-is_opened g c =
+    let b = opened_basic _ (sym c.is_opened.ensures ∙ c.if-is_opened.false) in
+    closes_basic _ _ _ c.args.run _ _ b (run_items (g.B.Lexicon.token c.args.tables.now) _ _ c.args.run c.items_of.result.now c.items_in.result.now b c.items_of.ensures c.items_in.ensures) c.leave_group.ensures

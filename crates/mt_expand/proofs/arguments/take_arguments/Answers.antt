@@ -1,0 +1,6 @@
+use Rattle.std.proofs.Common.{arith}
+use Rattle.mt_expand.proofs.Gathers.{collecting_start, collecting_more, collecting_none, collecting_end}
+use Rattle.mt_expand.proofs.arguments.take_arguments.Goals as goal
+
+pub loop-left-init : goal.loop-left-init
+loop-left-init g c = collecting_start _ _ _ _ _ c.requires.left c.clear.ensures.items

@@ -1,0 +1,15 @@
+use Rattle.std.proofs.Common.{refl, sym, ◌∙◌}
+use Rattle.mt_expand.proofs.Stacks.{gives_part, part_bound, opened_basic}
+use Rattle.mt_expand.proofs.stack.next_basic.Goals as goal
+
+pub loop-run-init : goal.loop-run-init
+loop-run-init g c = rw c.in-Some.is at c.in_ok-run.ensures
+
+pub put_back-requires : goal.put_back-requires
+put_back-requires g c = part_bound _ _ _ _ c.loop-run.run _ c.loop-run.invariant c.requires.short
+
+pub loop-run-preserved : goal.loop-run-preserved
+loop-run-preserved g c = gives_part _ _ _ _ _ _ c.loop-run.run _ _ c.loop-run.invariant c.in_ok-first.ensures.is refl c.put_back.ensures refl
+
+pub returns : goal.returns
+returns g c = (c.loop-run.invariant, opened_basic _ (sym c.is_opened.ensures ∙ c.loop-run-test.false))
