@@ -1,6 +1,6 @@
 -- Groups and arguments that are taken.
 use Rattle.std.proofs.Common.{◌≡◌, ℕ, zero, suc, ◌+◌, ◌-◌, ◌<◌, ◌≤◌, ◌^◌, Bool, true, false, List, [], ◌∷◌, ◌++◌, length, take, drop, map, get_or, refl, sym, ap, subst, ◌∙◌, arith, append_assoc, length-append}
-use Rattle.std.specs.Prelude.{Option, Some, None, ◌==◌, ◌&&◌}
+use Rattle.std.specs.Prelude.{Option, Some, None, Result, Ok, Err, IfOk, ◌==◌, ◌&&◌}
 use Rattle.std.proofs.lemmas.List.{append-nil, length-drop, drop_all, take_all}
 use Rattle.mt_token.specs.declared.token.Token.{Token}
 use Rattle.mt_macro.specs.Braces.{Taken, group, is_open, is_close}
@@ -239,6 +239,12 @@ pub seeking_open : (src : Sources) (parts parts' : List Run) (before rest rest' 
     → is_open t ≡ true → TakesRun src parts parts' rest' after (group 0 (left_of src parts rest')) o → TakesRun src parts parts' before after (argument (left_of src parts before)) o
 seeking_open src parts parts' before rest rest' after t one None k v o n = k.is ∙ (ap argument v.is ∙ (at_open t (left_of src parts rest') o ∙ n))
 seeking_open src parts parts' before rest rest' after t one (Some r) k v o n = seeking_some src parts parts' before rest rest' after t one r k v o n
+
+pub open_ok : {E : Type 0} (src : Sources) (old parts parts' : List Run) (before rest rest' after : Rest) (t : Token) (one : Run) (r : Result (Option Run) E) → parts ≡ old → Seeking src parts before rest → GivesToken src parts rest rest' t one
+    → is_open t ≡ true → IfOk r (λ (o : Option Run). TakesRun src parts parts' rest' after (group 0 (left_of src parts rest')) o) → IfOk r (λ (o : Option Run). TakesRun src old parts' before after (argument (left_of src old before)) o)
+open_ok src old parts parts' before rest rest' after t one (Ok o) e k v h n =
+    subst (λ (p : List Run). TakesRun src p parts' before after (argument (left_of src p before)) o) e (seeking_open src parts parts' before rest rest' after t one o k v h n)
+open_ok src old parts parts' before rest rest' after t one (Err x) e k v h n = tt
 
 -- arguments that are taken
 pub record Collecting (src : Sources) (params left : ℕ) (old parts : List Run) (before rest : Rest) (rs : List Run) : Type 0 where
