@@ -22,7 +22,7 @@ use Rattle.mt_expand.proofs.Stacks.{no_items}
 use Rattle.std.proofs.lemmas.Bool.{true≢false}
 use Rattle.std.proofs.lemmas.Bool.Decides.{nat_tests}
 use Rattle.mt_token.specs.Spaces.{is_space}
-use Rattle.mt_expand.proofs.Parts.{back_of, group_balanced}
+use Rattle.mt_expand.proofs.Balances.{back_of, group_balanced}
 
 -- the parts of a group so far, behind the first ones
 pub record Grouping (src : Sources) (old : List Run) (before : Rest) (first count level : ℕ) (parts : List Run) (rest : Rest) : Type 0 where
@@ -149,8 +149,8 @@ grouping_ends src old parts parts' before rest rest' after first count level ind
     let back = back_of src ms run index c.0 in
     let left_after : left_of src parts' after ≡ drop (index + 1) piece ++ left_of src parts' rest' = a ∙ ap (λ (x : List Token). x ++ left_of src parts' rest') back in
     let taken : group 0 (left_of src old before) ≡ Some (record { argument = inside; after = left_of src parts' after }) =
-        gathering_ends (left_of src old before) (left_of src parts rest) (left_of src parts' rest') piece _ inside (left_of src parts' after) level index g.gathering
-        (v.is ∙ ap (λ (x : List Token). piece ++ x) (sym s.1)) c.1 i left_after in
+    gathering_ends (left_of src old before) (left_of src parts rest) (left_of src parts' rest') piece _ inside (left_of src parts' after) level index g.gathering
+    (v.is ∙ ap (λ (x : List Token). piece ++ x) (sym s.1)) c.1 i left_after in
     let balanced = group_balanced (left_of src old before) _ taken in
     let size : length inside ≡ count + index = omega (arith, ap length i, length-append (joined (drop first ms)) (take index piece), part_length index piece (omega (arith, c.1.0)), g.counted) in
     let low : first ≤ length parts' = omega (arith, g.low, ap length p.extends.1, length-append parts p.extends.0) in
@@ -164,7 +164,7 @@ grouping_ends src old parts parts' before rest rest' after first count level ind
     let dropped = length-drop (index + 1) piece in
     let same = ap length s.1 in
     let fewer : length (left_of src parts' after) + length inside ≤ length (left_of src old before) =
-        omega (arith, whole, sum, rest_sum, piece_sum, after_sum, after_parts, dropped, same, size, g.counted, c.1.0) in
+    omega (arith, whole, sum, rest_sum, piece_sum, after_sum, after_parts, dropped, same, size, g.counted, c.1.0) in
     record {
       extends = extends_more old parts parts' g.extends p.extends;
       below = l;
@@ -282,7 +282,7 @@ short_push : (rs : List Run) (r : Run) → AreShort rs → IsShortRun r → AreS
 short_push [] r g h = (h, tt)
 short_push (x ∷ rs) r g h = (g.0, short_push rs r g.1 h)
 
-told_push : (src : Sources) (ms : List (List Token)) (rs : List Run) (r : Run) → told_all src ms (rs ++ r ∷ []) ≡ told_all src ms rs ++ told src ms r ∷ []
+pub told_push : (src : Sources) (ms : List (List Token)) (rs : List Run) (r : Run) → told_all src ms (rs ++ r ∷ []) ≡ told_all src ms rs ++ told src ms r ∷ []
 told_push src ms [] r = refl
 told_push src ms (x ∷ rs) r = ap (λ (l : List (List Token)). told src ms x ∷ l) (told_push src ms rs r)
 

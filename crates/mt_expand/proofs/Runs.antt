@@ -136,9 +136,12 @@ part_at src ms (x ∷ rs) zero r h k e =
       run = subst (λ (l : List (List Token)). IsRun src l x) (sym all) (run_more src ms (told src ms x ∷ m.0) x h.0);
       whole = h.1;
       older = (let d = depth_small src ms x.place x.start x.end h.0 in omega (arith, d));
-      is = λ n z. (m.0, ap (λ k. drop k (meanings_from src ms (x ∷ rs))) (let y : n ≡ length ms = omega (arith, z) in y)
-          ∙ (ap (drop (length ms)) all ∙ (drop_all_of ms (told src ms x ∷ m.0)
-          ∙ ap (λ (t : List Token). t ∷ m.0) (sym (ap (λ (l : List (List Token)). told src l x) all ∙ told_more src ms (told src ms x ∷ m.0) x h.0)))));
+      is = λ n z. (
+        m.0,
+        ap (λ k. drop k (meanings_from src ms (x ∷ rs))) (let y : n ≡ length ms = omega (arith, z) in y)
+            ∙ (ap (drop (length ms)) all ∙ (drop_all_of ms (told src ms x ∷ m.0)
+            ∙ ap (λ (t : List Token). t ∷ m.0) (sym (ap (λ (l : List (List Token)). told src l x) all ∙ told_more src ms (told src ms x ∷ m.0) x h.0)))),
+      );
     } in
     subst (λ (q : Run). Part src ms (x ∷ rs) zero q) (sym e) here
 part_at src ms (x ∷ rs) (suc i) r h k e =
@@ -197,7 +200,7 @@ opens_more src parts before after r first rest n l b h o f z e k a =
     let split = first_part r.start r.end ms (told src ms first) d.0 p.low d.1 in
     let made : Run = record { place = Remainder n; start = r.start + 1; end = r.end } in
     let count : n ≡ length (joined (part (r.start + 1) r.end ms)) =
-        omega (arith, z, p.count, ap length split, length-append (told src ms first) (joined (part (r.start + 1) r.end ms)), run_length src ms first q.run) in
+    omega (arith, z, p.count, ap length split, length-append (told src ms first) (joined (part (r.start + 1) r.end ms)), run_length src ms first q.run) in
     let is_run : IsRun src ms made = (k, p.high, count) in
     let pushed : after ≡ before ++ made ∷ [] = a ∙ ap (λ (x : Run). before ++ x ∷ []) e in
     record {

@@ -155,12 +155,14 @@ put_more src parts before rest r new from l h b low high e a c =
     let pushed : rest.runs.items ≡ before.runs.items ++ made ∷ [] = a ∙ ap (λ (x : Run). before.runs.items ++ x ∷ []) e in
     let is_run : IsRun src ms made = basic_is_at src ms r.place from r.end b high bounds.1 in
     let is : left_of src parts rest ≡ part from r.end (place_tokens src r.place) ++ left_of src parts before =
-        ap (left src ms) pushed ∙ (left_push src ms before.runs.items made ∙ ap (λ (x : List Token). x ++ left_of src parts before) (basic_told src ms made b)) in
-    (record {
-      parts_are = l.parts_are;
-      runs = subst (AreRuns src ms) (sym pushed) (runs_push src ms before.runs.items made l.runs is_run);
-      counted = omega (arith, c, l.counted, ap length is, length-append (part from r.end (place_tokens src r.place)) (left_of src parts before), part_size from r.end (place_tokens src r.place) (omega (arith, high)) bounds.1);
-    }, is)
+    ap (left src ms) pushed ∙ (left_push src ms before.runs.items made ∙ ap (λ (x : List Token). x ++ left_of src parts before) (basic_told src ms made b)) in (
+      record {
+        parts_are = l.parts_are;
+        runs = subst (AreRuns src ms) (sym pushed) (runs_push src ms before.runs.items made l.runs is_run);
+        counted = omega (arith, c, l.counted, ap length is, length-append (part from r.end (place_tokens src r.place)) (left_of src parts before), part_size from r.end (place_tokens src r.place) (omega (arith, high)) bounds.1);
+      },
+      is,
+    )
 
 pub put_none : (src : Sources) (parts : List Run) (before : Rest) (r : Run) (from : ℕ) → r.end ≤ from → left_of src parts before ≡ part from r.end (place_tokens src r.place) ++ left_of src parts before
 put_none src parts before r from h = ap (λ (x : List Token). x ++ left_of src parts before) (sym (part_empty from r.end (place_tokens src r.place) h))

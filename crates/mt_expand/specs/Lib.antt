@@ -6,3 +6,5 @@ pub mod Lengths
 pub mod Closings
 -- the tokens of runs
 pub mod Runs
+-- a body with arguments in place of its parameters, as runs
+pub mod Fillings

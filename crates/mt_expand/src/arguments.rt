@@ -29,7 +29,11 @@ fn closing_of<T, B: Bodies<T>>(
     if run.is_opened() {
         Closing::Open(level)
     } else {
-        leave_group(tables, items_in(items_of(tables, list, run.place), run.start, run.end), level)
+        leave_group(
+            tables,
+            items_in(items_of(tables, list, run.place), run.start, run.end),
+            level,
+        )
     }
 }
 

@@ -4,11 +4,13 @@
 mod arguments;
 mod bodies;
 mod closing;
+mod filling;
 mod run;
 mod stack;
 
-pub use bodies::{Bodies, Found, has_macro, names_macro};
 pub use arguments::take_arguments;
+pub use bodies::{Bodies, Found, has_macro, names_macro};
 pub use closing::Closing;
+pub use filling::fill;
 pub use run::{Place, Run};
-pub use stack::{Rest, Single};
+pub use stack::{Parts, Rest, Single};

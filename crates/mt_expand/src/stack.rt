@@ -52,8 +52,8 @@ fn part_of(parts: &Parts, index: usize) -> Run
     parts.runs[index]
 }
 
-// The item with an index.
-fn item_at<T>(items: &[T], index: usize) -> &T
+/// The item with an index.
+pub fn item_at<T>(items: &[T], index: usize) -> &T
     requires { index < length items.now }
     ensures { result.now ≡ get_or items.now index result.now }
 {

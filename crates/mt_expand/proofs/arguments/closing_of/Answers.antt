@@ -1,6 +1,6 @@
 use Rattle.std.proofs.Common.{sym, ◌∙◌, ap, arith, length, drop, take, ◌-◌}
 use Rattle.std.proofs.lemmas.List.{length-map}
-use Rattle.mt_expand.proofs.Parts.{closes_argument, closes_basic, run_items}
+use Rattle.mt_expand.proofs.Balances.{closes_argument, closes_basic, run_items}
 use Rattle.mt_expand.proofs.Stacks.{opened_basic, basic_told, basic_bounds, part_size}
 use Rattle.mt_expand.proofs.arguments.closing_of.Goals as goal
 

@@ -1,4 +1,4 @@
-use Rattle.mt_expand.proofs.Parts.{pushes}
+use Rattle.mt_expand.proofs.Balances.{pushes}
 use Rattle.mt_expand.proofs.arguments.push_part.Goals as goal
 
 pub returns : goal.returns

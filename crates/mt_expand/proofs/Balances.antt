@@ -28,19 +28,24 @@ pushes src old new r h k w e =
     let m : meanings src new ≡ ms ++ t ∷ [] = ap (meanings src) e ∙ meanings_push src [] old r in
     let size = meanings_length src [] old in
     let same : (rest : Rest) → AreLeft src old rest → left_of src new rest ≡ left_of src old rest =
-        λ rest l. ap (λ (x : List (List Token)). left src x rest.runs.items) m ∙ left_more src ms (t ∷ []) rest.runs.items l.runs in
+    λ rest l. ap (λ (x : List (List Token)). left src x rest.runs.items) m ∙ left_more src ms (t ∷ []) rest.runs.items l.runs in
     record {
       extends = (r ∷ [], e);
       parts_are = subst (AreParts src []) (sym e) (parts_push src [] old r h k w);
       is = λ first low. ap (λ (x : List (List Token)). joined (drop first x)) m
           ∙ (ap joined (drop-append-le first ms (t ∷ []) (omega (arith, low, size))) ∙ joined_more (drop first ms) t);
-      stays = λ rest l. (record {
-        parts_are = subst (AreParts src []) (sym e) (parts_push src [] old r h k w);
-        runs = subst (λ (x : List (List Token)). AreRuns src x rest.runs.items) (sym m) (runs_more src ms (t ∷ []) rest.runs.items l.runs);
-        counted = l.counted ∙ ap length (sym (same rest l));
-      }, same rest l);
-      knows = λ q g. (subst (λ (x : List (List Token)). IsRun src x q) (sym m) (run_more src ms (t ∷ []) q g),
-          ap (λ (x : List (List Token)). told src x q) m ∙ told_more src ms (t ∷ []) q g);
+      stays = λ rest l. (
+        record {
+          parts_are = subst (AreParts src []) (sym e) (parts_push src [] old r h k w);
+          runs = subst (λ (x : List (List Token)). AreRuns src x rest.runs.items) (sym m) (runs_more src ms (t ∷ []) rest.runs.items l.runs);
+          counted = l.counted ∙ ap length (sym (same rest l));
+        },
+        same rest l,
+      );
+      knows = λ q g. (
+        subst (λ (x : List (List Token)). IsRun src x q) (sym m) (run_more src ms (t ∷ []) q g),
+        ap (λ (x : List (List Token)). told src x q) m ∙ told_more src ms (t ∷ []) q g,
+      );
     }
 
 pub pushes_none : (src : Sources) (old : List Run) (tokens : List Token) (n : ℕ) → AreParts src [] old → n ≡ 0 → PushesAll src old old (take n tokens)
@@ -82,10 +87,10 @@ front_run src ms r before index h b low high e =
     let within : r.start + index ≤ r.end = omega (arith, high, ap length (basic_told src ms r b), size, bounds.0) in
     let made : Run = record { place = r.place; start = r.start; end = r.start + index } in
     let is : told src ms made ≡ take index (told src ms r) =
-        basic_told src ms made b
-        ∙ (ap (λ k. take k (drop r.start (place_tokens src r.place))) (let y : r.start + index - r.start ≡ index = omega arith in y)
-        ∙ (sym (take_of_take index (r.end - r.start) (drop r.start (place_tokens src r.place)) (omega (arith, within)))
-        ∙ ap (take index) (sym (basic_told src ms r b)))) in
+    basic_told src ms made b
+    ∙ (ap (λ k. take k (drop r.start (place_tokens src r.place))) (let y : r.start + index - r.start ≡ index = omega arith in y)
+    ∙ (sym (take_of_take index (r.end - r.start) (drop r.start (place_tokens src r.place)) (omega (arith, within)))
+    ∙ ap (take index) (sym (basic_told src ms r b)))) in
     record {
       known = subst (IsRun src ms) (sym e) (basic_is_at src ms r.place r.start (r.start + index) b (omega (arith, low)) (omega (arith, within, bounds.1)));
       whole = subst (λ (x : Run). IsWhole x.place) (sym e) (basic_whole r.place b);
@@ -165,7 +170,7 @@ balanced_by xs None taken e f = absurd (cc)
 balanced_by xs (Some n) taken e f =
     let same : take n xs ≡ taken.argument = argument_same _ taken f in
     subst IsBalanced same (λ level more.
-        ap (λ k. end_index k (take n xs ++ more)) (let y : level ≡ 0 + level = omega arith in y) ∙ (up_to_end 0 level xs more n e ∙ ap (λ k. shifted k (end_index level more)) (sym (part_length n xs (let w = end_inside xs n e in omega (arith, w))))))
+    ap (λ k. end_index k (take n xs ++ more)) (let y : level ≡ 0 + level = omega arith in y) ∙ (up_to_end 0 level xs more n e ∙ ap (λ k. shifted k (end_index level more)) (sym (part_length n xs (let w = end_inside xs n e in omega (arith, w))))))
 
 -- the tokens of a group are balanced
 pub group_balanced : (xs : List Token) (taken : Taken) → group 0 xs ≡ Some taken → IsBalanced taken.argument

@@ -1,0 +1,144 @@
+//! A body with arguments in place of its parameters.
+ghost use Rattle.std.specs.Prelude.{◌≡◌, ◌<◌, ◌≤◌, ◌+◌, ◌-◌, ◌^◌, IsTrue, IfSome, OnOk, [], length, map, get_or};
+ghost use Rattle.mt_token.specs.Character.{character_code};
+ghost use Rattle.mt_macro.specs.Parameters.{is_hash};
+ghost use Rattle.mt_macro.specs.inner.Bodies.{begins_parameter, has_no_token, next_parameter};
+ghost use Rattle.mt_expand.specs.Runs.{sources, meanings, part, told_all, AreGiven, AreShort};
+ghost use Rattle.mt_expand.specs.Fillings.{Fills, Puts};
+
+use crate::bodies::Bodies;
+use crate::run::{Place, Run};
+use crate::stack::{Parts, Rest, item_at, items_in};
+use mt_token::Lexicon;
+use std::alloc::AllocError;
+
+// Whether an item is `#`.
+fn is_hash<T, L: Lexicon<T>>(tables: &L, item: &T) -> bool
+    ensures { result ≡ is_hash (L.token tables.now item.now) }
+{
+    tables.code(item) == b'#'
+}
+
+// The index of a parameter's argument, by its digit.
+fn index_of<T, L: Lexicon<T>>(tables: &L, digit: &T) -> usize
+    ensures { result ≡ character_code (L.token tables.now digit.now).kind - 49 }
+{
+    usize::from(tables.code(digit).saturating_sub(b'1'))
+}
+
+// Whether there are no items.
+fn has_none<T, L: Lexicon<T>>(tables: &L, items: &[T]) -> bool
+    ensures is { result ≡ has_no_token (map (L.token tables.now) items.now) }
+{
+    items.is_empty()
+}
+
+// Whether an item is a `#` before another item.
+fn begins_parameter<T, L: Lexicon<T>>(tables: &L, item: &T, after: &[T]) -> bool
+    ensures { result ≡ begins_parameter (L.token tables.now item.now) (map (L.token tables.now) after.now) }
+{
+    is_hash(tables, item) && !has_none(tables, after)
+}
+
+// The index of the first `#` that an item follows.
+fn next_parameter<T, L: Lexicon<T>>(tables: &L, items: &[T]) -> Option<usize>
+    ensures { result ≡ next_parameter (map (L.token tables.now) items.now) }
+{
+    let mut index = 0;
+    let mut rest = items;
+    while let [item, after @ ..] = rest {
+        if begins_parameter(tables, item, after) {
+            return Some(index);
+        }
+        index += 1;
+        rest = after;
+    }
+    None
+}
+
+/// Fills a list with the runs of a body with arguments in place of its parameters.
+pub fn fill<T, B: Bodies<T>>(
+    tables: &B,
+    list: &[T],
+    parts: &Parts,
+    number: u32,
+    taken: &[Run],
+    filled: &mut Rest,
+) -> Result<(), AllocError>
+    requires given { AreGiven (sources (B.token tables.now) (B.body tables.now) list.now) (meanings (sources (B.token tables.now) (B.body tables.now) list.now) parts.now.runs.items) taken.now }
+    requires short { AreShort taken.now }
+    ensures { OnOk result (Fills (sources (B.token tables.now) (B.body tables.now) list.now) (meanings (sources (B.token tables.now) (B.body tables.now) list.now) parts.now.runs.items) (B.body tables.now number) taken.now filled.new) }
+{
+    filled.runs.clear();
+    filled.count = 0;
+    let body = tables.body(number);
+    let mut at = 0;
+    while let Some(index) = next_parameter(tables, items_in(body, at, body.len())) {
+        put_items(tables, list, parts, number, at, at + index, filled)?;
+        let digit = index_of(tables, item_at(body, at + index + 1));
+        put_given(tables, list, parts, taken, digit, filled)?;
+        at += index + 2;
+    }
+    put_items(tables, list, parts, number, at, body.len(), filled)
+}
+
+// Puts items of a body at the end.
+fn put_items<T, B: Bodies<T>>(
+    tables: &B,
+    list: &[T],
+    parts: &Parts,
+    number: u32,
+    start: usize,
+    end: usize,
+    filled: &mut Rest,
+) -> Result<(), AllocError>
+    requires within { end ≤ length (B.body tables.now number) }
+    requires room { filled.old.count + (end - start) < 2 ^ 64 }
+    ensures { OnOk result (Puts (sources (B.token tables.now) (B.body tables.now) list.now) (meanings (sources (B.token tables.now) (B.body tables.now) list.now) parts.now.runs.items) filled.old filled.new (part start end (B.body tables.now number))) }
+{
+    if start >= end {
+        return Ok(());
+    }
+    filled.runs.push(Run {
+        place: Place::Body(number),
+        start,
+        end,
+    })?;
+    filled.count += end - start;
+    Ok(())
+}
+
+// The argument with an index.
+fn argument_at(taken: &[Run], index: usize) -> Run
+    requires { index < length taken.now }
+    ensures { result ≡ get_or taken.now index result }
+{
+    taken[index]
+}
+
+// Puts a parameter's argument at the end.
+fn put_given<T, B: Bodies<T>>(
+    tables: &B,
+    list: &[T],
+    parts: &Parts,
+    taken: &[Run],
+    index: usize,
+    filled: &mut Rest,
+) -> Result<(), AllocError>
+    requires given { AreGiven (sources (B.token tables.now) (B.body tables.now) list.now) (meanings (sources (B.token tables.now) (B.body tables.now) list.now) parts.now.runs.items) taken.now }
+    requires short { AreShort taken.now }
+    requires room { filled.old.count < 2 ^ 63 + 2 ^ 62 }
+    ensures { OnOk result (Puts (sources (B.token tables.now) (B.body tables.now) list.now) (meanings (sources (B.token tables.now) (B.body tables.now) list.now) parts.now.runs.items) filled.old filled.new
+        (get_or (told_all (sources (B.token tables.now) (B.body tables.now) list.now) (meanings (sources (B.token tables.now) (B.body tables.now) list.now) parts.now.runs.items) taken.now) index [])) }
+{
+    if index >= taken.len() {
+        return Ok(());
+    }
+    let run = argument_at(taken, index);
+    if run.len() == 0 {
+        return Ok(());
+    }
+    filled.runs.push(run)?;
+    filled.count += run.len();
+    Ok(())
+}
