@@ -1,12 +1,14 @@
 -- Bodies that are filled.
-use Rattle.std.proofs.Common.{◌≡◌, ℕ, zero, suc, ◌+◌, ◌-◌, ◌*◌, ◌<◌, ◌≤◌, ◌^◌, true, false, List, [], ◌∷◌, ◌++◌, length, take, drop, map, get_or, refl, sym, ap, subst, ◌∙◌, arith, append_assoc, length-append}
-use Rattle.std.specs.Prelude.{Option, Some, None}
-use Rattle.std.proofs.lemmas.List.{append-nil, length-drop, drop-drop, take_all}
+use Rattle.std.proofs.Common.{◌≡◌, ℕ, zero, suc, ◌+◌, ◌-◌, ◌*◌, ◌<◌, ◌≤◌, ◌^◌, Bool, true, false, List, [], ◌∷◌, ◌++◌, length, take, drop, map, get_or, refl, sym, ap, subst, ◌∙◌, arith, append_assoc, length-append}
+use Rattle.std.specs.Prelude.{Option, Some, None, Result, Ok, Err, OnOk, ◌&&◌}
+use Rattle.std.proofs.lemmas.List.{append-nil, length-drop, drop-drop, take_all, length-map}
 use Rattle.mt_token.specs.declared.token.Token.{Token}
 use Rattle.mt_token.specs.Character.{character_code}
 use Rattle.mt_macro.specs.Arguments.{fill}
 use Rattle.mt_macro.specs.inner.Ends.{joined}
 use Rattle.mt_macro.specs.inner.Bodies.{begins_parameter, next_parameter}
+use Rattle.std.proofs.lemmas.Bool.{true≢false}
+use Rattle.mt_macro.specs.Parameters.{is_hash}
 use Rattle.mt_macro.proofs.Bodies.{parameter_here, parameter_later, filled_at, filled_none}
 use Rattle.mt_macro.proofs.Ending.{joined_more}
 use Rattle.mt_macro.proofs.Indexes.{shifted, shifted_none, shifted_next, shifted_here}
@@ -17,7 +19,8 @@ use Rattle.mt_expand.specs.Lengths.{run_len}
 use Rattle.mt_expand.specs.Runs.{Sources, part, told, told_all, IsRun, IsGiven, AreGiven, AreRuns, AreShort}
 use Rattle.mt_expand.specs.Fillings.{Puts, Fills}
 use Rattle.mt_expand.proofs.Runs.{runs_push, run_length}
-use Rattle.mt_expand.proofs.Stacks.{part_empty}
+use Rattle.mt_expand.proofs.Stacks.{part_empty, mapped_get}
+use Rattle.mt_expand.proofs.Balances.{part_mapped}
 use Rattle.mt_expand.proofs.Gathers.{told_push}
 
 pub puts_none : (src : Sources) (ms : List (List Token)) (old : Rest) (tokens : List Token) → tokens ≡ [] → Puts src ms old old tokens
@@ -68,6 +71,10 @@ puts_given src ms old new rs i r g h e low a c =
     let q = given_at src ms rs i r g h e in
     puts_run src ms old new r _ (q.0.there low).0 a c q.1
 
+and_no : (b : Bool) → b && false ≡ false
+and_no true = refl
+and_no false = refl
+
 -- the first parameter
 pub record Walking (body : List Token) (at : ℕ) (rest : List Token) : Type 0 where
   pub is : next_parameter body ≡ shifted at (next_parameter rest)
@@ -79,6 +86,16 @@ walking_start body = record { is = shifted_none _; size = omega arith }
 pub walking_here : (at : ℕ) (body rest rest' : List Token) (t : Token) → Walking body at rest → rest ≡ t ∷ rest' → begins_parameter t rest' ≡ true → Some at ≡ next_parameter body
 walking_here at body rest rest' t g e h =
     sym (g.is ∙ (ap (λ xs. shifted at (next_parameter xs)) e ∙ (ap (shifted at) (parameter_here t rest' h) ∙ shifted_here at)))
+
+not_last : (t : Token) → begins_parameter t [] ≡ true → ⊥
+not_last t h = true≢false (sym h ∙ and_no (is_hash t))
+
+after_parameter : (t : Token) (rest : List Token) → begins_parameter t rest ≡ true → 1 ≤ length rest
+after_parameter t [] h = absurd (not_last t h)
+after_parameter t (u ∷ rest) h = omega arith
+
+pub walking_within : (at : ℕ) (body rest rest' : List Token) (t : Token) → Walking body at rest → rest ≡ t ∷ rest' → begins_parameter t rest' ≡ true → at + 1 < length body
+walking_within at body rest rest' t g e h = let a = after_parameter t rest' h in omega (arith, g.size, ap length e, a)
 
 pub walking_more : (at : ℕ) (body rest rest' : List Token) (t : Token) → Walking body at rest → rest ≡ t ∷ rest' → begins_parameter t rest' ≡ false → Walking body (at + 1) rest'
 walking_more at body rest rest' t g e h = record {
@@ -163,3 +180,33 @@ filling_end src ms body taken at f0 f1 g e p =
       is = is;
       counted = omega (arith, p.counted, g.counted, ap length p.is, length-append (joined (told_all src ms f0.runs.items)) (part at (length body) body), ap length is);
     }
+
+-- the items of a body from an index on
+pub seen_tokens : {T : Type 0} (f : T → Token) (body : List Token) (items seen : List T) (at : ℕ) → map f items ≡ body → seen ≡ part at (length items) items → map f seen ≡ drop at body
+seen_tokens f body items seen at e s =
+    ap (map f) s ∙ (part_mapped f at (length items) items
+    ∙ (take_all (length items - at) (drop at (map f items)) (omega (arith, length-drop at (map f items), length-map items f)) ∙ ap (drop at) e))
+
+given_short : (src : Sources) (ms : List (List Token)) (rs : List Run) (i : ℕ) → AreGiven src ms rs → AreShort rs → length (get_or (told_all src ms rs) i []) < 2 ^ 31
+given_short src ms [] i g h = omega arith
+given_short src ms (r ∷ rs) zero g h = omega (arith, h.0, g.0.count)
+given_short src ms (r ∷ rs) (suc i) g h = given_short src ms rs i g.1 h.1
+
+pub filling_step : {T : Type 0} (f : T → Token) (src : Sources) (ms : List (List Token)) (body : List Token) (items seen : List T) (taken : List Run) (at index : ℕ) (f0 f1 f2 : Rest) (item : T) (i : ℕ)
+    → map f items ≡ body → seen ≡ part at (length items) items → AreGiven src ms taken → AreShort taken → Filling src ms body taken at f0 → Some index ≡ next_parameter (map f seen) → index + 1 < length seen
+    → item ≡ get_or items (at + index + 1) item → i ≡ character_code (f item).kind - 49 → Puts src ms f0 f1 (part at (at + index) body) → Puts src ms f1 f2 (get_or (told_all src ms taken) i [])
+    → Filling src ms body taken (at + (index + 2)) f2
+filling_step f src ms body items seen taken at index f0 f1 f2 item i e s given short g n within d j p q =
+    let all = seen_tokens f body items seen at e s in
+    let low : at + index + 1 < length body = omega (arith, within, ap length all, length-map seen f, length-drop at body, g.low) in
+    let digit : f item ≡ get_or body (at + index + 1) (f item) =
+    mapped_get f items (at + index + 1) item (omega (arith, low, ap length e, length-map items f)) d ∙ ap (λ (x : List Token). get_or x (at + index + 1) (f item)) e in
+    filling_more src ms body taken at index f0 f1 f2 (f item) i g (n ∙ ap next_parameter all) low digit j p q (given_short src ms taken i given short)
+
+pub filled_ok : {T E : Type 0} (f : T → Token) (src : Sources) (ms : List (List Token)) (body : List Token) (items seen : List T) (taken : List Run) (at : ℕ) (f0 f1 : Rest) (r : Result (Unit {0}) E)
+    → map f items ≡ body → seen ≡ part at (length items) items → Filling src ms body taken at f0 → None ≡ next_parameter (map f seen)
+    → OnOk r (Puts src ms f0 f1 (part at (length items) body)) → OnOk r (Fills src ms body taken f1)
+filled_ok f src ms body items seen taken at f0 f1 (Ok x) e s g n p =
+    let size : length items ≡ length body = sym (length-map items f) ∙ ap length e in
+    filling_end src ms body taken at f0 f1 g (n ∙ ap next_parameter (seen_tokens f body items seen at e s)) (subst (λ (k : ℕ). Puts src ms f0 f1 (part at k body)) size p)
+filled_ok f src ms body items seen taken at f0 f1 (Err x) e s g n p = tt

@@ -193,7 +193,7 @@ gives_token src parts before middle rest r one t g b l is e item =
           ∙ ap (λ (x : List Token). t ∷ x) (sym is));
     }
 
-mapped_get : {T : Type 0} (f : T → Token) (xs : List T) (s : ℕ) (t : T) → s < length xs → t ≡ get_or xs s t → f t ≡ get_or (map f xs) s (f t)
+pub mapped_get : {T : Type 0} (f : T → Token) (xs : List T) (s : ℕ) (t : T) → s < length xs → t ≡ get_or xs s t → f t ≡ get_or (map f xs) s (f t)
 mapped_get f [] s t h e = absurd (omega (arith, h))
 mapped_get f (x ∷ xs) zero t h e = ap f e
 mapped_get f (x ∷ xs) (suc s) t h e = mapped_get f xs s t (omega (arith, h)) e

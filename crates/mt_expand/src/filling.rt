@@ -42,7 +42,8 @@ fn begins_parameter<T, L: Lexicon<T>>(tables: &L, item: &T, after: &[T]) -> bool
 
 // The index of the first `#` that an item follows.
 fn next_parameter<T, L: Lexicon<T>>(tables: &L, items: &[T]) -> Option<usize>
-    ensures { result ≡ next_parameter (map (L.token tables.now) items.now) }
+    ensures is { result ≡ next_parameter (map (L.token tables.now) items.now) }
+    ensures within { IfSome result (λ index. index + 1 < length items.now) }
 {
     let mut index = 0;
     let mut rest = items;
@@ -135,10 +136,11 @@ fn put_given<T, B: Bodies<T>>(
         return Ok(());
     }
     let run = argument_at(taken, index);
-    if run.len() == 0 {
+    let count = run.len();
+    if count == 0 {
         return Ok(());
     }
     filled.runs.push(run)?;
-    filled.count += run.len();
+    filled.count += count;
     Ok(())
 }
