@@ -3,33 +3,30 @@ use Rattle.std.specs.Prelude.{◌≡◌, ℕ, ◌<◌, ◌≤◌, [], ◌∷◌,
 use Rattle.mt_token.specs.declared.token.Token.{Token}
 use Rattle.mt_token.specs.declared.token.TokenError.{TokenError}
 use Rattle.mt_token.specs.declared.token.TokenError.TheVariants.{NotAscii as FaultNotAscii, BadByte as FaultBadByte, TooLong, OutOfMemory}
-use Rattle.mt_token.specs.LentKinds.{kind_told}
+use Rattle.mt_token.specs.LentKinds.{owned_kind}
 use Rattle.mt_token.specs.declared.lent.LentToken.{LentToken}
-use Rattle.mt_token.specs.declared.lexeme.Front.{Front}
-use Rattle.mt_token.specs.declared.lexeme.Front.TheVariants.{Passed as FrontPassed, Made as FrontMade, NotAscii as FrontNotAscii, BadByte as FrontBadByte}
+use Rattle.mt_token.specs.declared.lexeme.LentLexeme.{LentLexeme}
+use Rattle.mt_token.specs.declared.lexeme.LentLexeme.TheVariants.{Passed as LentPassed, Made as LentMade, NotAscii as LentNotAscii, BadByte as LentBadByte}
 use Rattle.mt_token.specs.Lexemes.{Lexeme, Passed, Made, NotAscii, BadByte}
-use Rattle.mt_token.specs.Tokens.{Spanned, Answer, before}
+use Rattle.mt_token.specs.Tokens.{Answer, before, spanned}
 
--- the token that has this kind and this span
-abbrev pub token_told : LentToken → Token
-token_told t = record { kind = kind_told t.kind; start = t.start; end = t.end; ascii = t.ascii }
-
--- its kind and its span
-abbrev pub spanned_told : LentToken → Spanned
-spanned_told t = record { kind = kind_told t.kind; start = t.start; end = t.end }
+-- the token of this kind and this span, with a name of its own
+abbrev pub owned_token : LentToken → Token
+owned_token t = record { kind = owned_kind t.kind; start = t.start; end = t.end; ascii = t.ascii }
 
 -- the lexeme in front, with a name of its own
-abbrev pub told : Front → Lexeme
-told (FrontPassed count state) = Passed count state
-told (FrontMade kind count state) = Made (kind_told kind) count state
-told (FrontNotAscii on) = NotAscii on
-told (FrontBadByte on) = BadByte on
+abbrev pub owned_lexeme : LentLexeme → Lexeme
+owned_lexeme (LentPassed count state) = Passed count state
+owned_lexeme (LentMade kind count state) = Made (owned_kind kind) count state
+owned_lexeme (LentNotAscii on) = NotAscii on
+owned_lexeme (LentBadByte on) = BadByte on
 
--- a step of a cursor, by what is ahead of it before and after: the next token, the end, or the fault
+-- a step of a cursor, by what is ahead of it before and after: the next token, the end, or the fault, which is ahead
+-- then too
 abbrev pub Steps : Result (Option LentToken) TokenError → Answer → Answer → Type 0
-Steps (Ok (Some t)) old new = old ≡ before (spanned_told t ∷ []) new
+Steps (Ok (Some t)) old new = old ≡ before (spanned (owned_token t) ∷ []) new
 Steps (Ok None) old new = (old ≡ Ok []) × (new ≡ Ok [])
-Steps (Err e) old new = old ≡ Err e
+Steps (Err e) old new = (old ≡ Err e) × (new ≡ Err e)
 
 -- a token is not empty, begins at an offset or after it, and ends at another
 abbrev pub Spans : Result (Option LentToken) TokenError → ℕ → ℕ → Type 0

@@ -4,8 +4,8 @@ use Rattle.mt_token.specs.declared.token.TokenKind.TheVariants.{Control, Char, S
 use Rattle.mt_token.specs.declared.lent.LentKind.{LentKind}
 use Rattle.mt_token.specs.declared.lent.LentKind.TheVariants.{Control as LentControl, Char as LentChar, Space as LentSpace}
 
--- the kind with the bytes of that name
-abbrev pub kind_told : LentKind → TokenKind
-kind_told (LentControl name) = Control name.now
-kind_told (LentChar c) = Char c
-kind_told LentSpace = Space
+-- the kind with a name of its own, of the same bytes
+abbrev pub owned_kind : LentKind → TokenKind
+owned_kind (LentControl name) = Control name.now
+owned_kind (LentChar c) = Char c
+owned_kind LentSpace = Space

@@ -3,7 +3,7 @@ ghost use Rattle.std.specs.Prelude.{◌≡◌, ◌≤◌, length, drop};
 ghost use Rattle.mt_token.specs.Tokens.{max_source};
 
 use crate::lent::LentToken;
-use crate::lexeme::{Front, State, next_lexeme};
+use crate::lexeme::{LentLexeme, State, next_lexeme};
 use crate::token::TokenError;
 
 /// How far a source is read, token by token, in memory of a fixed size.
@@ -61,7 +61,7 @@ impl<'a> Lexer<'a> {
     /// # Errors
     ///
     /// `NotAscii` or `BadByte` with the offset of the first byte at fault, as [`crate::tokens`]
-    /// reports it. The cursor is then at an offset that no clause names.
+    /// reports it. The fault is then ahead still, and each further step reports it again.
     pub fn step(&mut self) -> Result<Option<LentToken<'a>>, TokenError>
         ensures is { Steps result (ahead self.old) (ahead self.new) }
         ensures spans { Spans result (offset self.old) (offset self.new) }
@@ -70,11 +70,11 @@ impl<'a> Lexer<'a> {
     {
         while self.at < self.bytes.len() {
             match next_lexeme(self.state, rest_from(self.bytes, self.at)) {
-                Front::Passed(count, next) => {
+                LentLexeme::Passed(count, next) => {
                     self.at += count;
                     self.state = next;
                 }
-                Front::Made(kind, count, next) => {
+                LentLexeme::Made(kind, count, next) => {
                     let start = self.at as u32;
                     self.at += count;
                     self.state = next;
@@ -84,8 +84,8 @@ impl<'a> Lexer<'a> {
                         end: self.at as u32,
                     }));
                 }
-                Front::NotAscii(on) => return Err(TokenError::NotAscii((self.at + on) as u32)),
-                Front::BadByte(on) => return Err(TokenError::BadByte((self.at + on) as u32)),
+                LentLexeme::NotAscii(on) => return Err(TokenError::NotAscii((self.at + on) as u32)),
+                LentLexeme::BadByte(on) => return Err(TokenError::BadByte((self.at + on) as u32)),
             }
         }
         Ok(None)

@@ -1,7 +1,7 @@
 //! Tokens whose names are lent by the source, or by a list of tokens.
 ghost use Rattle.std.specs.Prelude.{◌≡◌, ◌<◌, IfOk};
 ghost use Rattle.mt_token.specs.Character.{character_code};
-ghost use Rattle.mt_token.specs.LentKinds.{kind_told};
+ghost use Rattle.mt_token.specs.LentKinds.{owned_kind};
 
 use crate::token::{Token, TokenKind};
 use mt_scaled::Name;
@@ -29,13 +29,13 @@ pub struct LentToken<'a> {
     pub start: u32,
     /// The offset past its last byte.
     pub end: u32,
-    ghost ascii: { character_code (kind_told kind) < 128 },
+    ghost ascii: { character_code (owned_kind kind) < 128 },
 }
 
 impl<'a> LentKind<'a> {
     /// The same kind in memory of its own.
     pub fn owned(&self, alloc: Global) -> Result<TokenKind, AllocError>
-        ensures { IfOk result (λ kind. kind ≡ kind_told self.now) }
+        ensures { IfOk result (λ kind. kind ≡ owned_kind self.now) }
     {
         match self {
             LentKind::Control(name) => Ok(TokenKind::Control(Name::from_slice(alloc, name)?)),
@@ -46,11 +46,11 @@ impl<'a> LentKind<'a> {
 }
 
 impl<'a> LentToken<'a> {
-    ghost use Rattle.mt_token.specs.Lent.{token_told};
+    ghost use Rattle.mt_token.specs.Lent.{owned_token};
 
     /// The same token in memory of its own.
     pub fn owned(&self, alloc: Global) -> Result<Token, AllocError>
-        ensures { IfOk result (λ token. token ≡ token_told self.now) }
+        ensures { IfOk result (λ token. token ≡ owned_token self.now) }
     {
         let kind = self.kind.owned(alloc)?;
         Ok(Token {

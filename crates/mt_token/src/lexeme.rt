@@ -2,7 +2,7 @@
 ghost use Rattle.std.specs.Prelude.{◌≡◌, ◌<◌, ◌≤◌, ◌+◌, ◌==◌, length};
 ghost use Rattle.mt_token.specs.Lexemes.{is_letter, is_visible, line_end, letters, comment};
 ghost use Rattle.mt_token.specs.Lexemes.{lexeme, lexeme_after_escape, Fits};
-ghost use Rattle.mt_token.specs.Lent.{told};
+ghost use Rattle.mt_token.specs.Lent.{owned_lexeme};
 
 use crate::lent::LentKind;
 
@@ -20,14 +20,14 @@ pub enum State {
 
 /// What is in front of a rest of the source.
 #[derive(Clone, Copy, Debug)]
-pub enum Front<'a> {
+pub enum LentLexeme<'a> {
     /// So many bytes that give no token, and the state after them.
     Passed(usize, State),
     /// A token, its number of bytes, and the state after it.
     Made(LentKind<'a>, usize, State),
     /// A byte above 127, so many bytes on.
     NotAscii(usize),
-    /// Another byte that cannot stand there, so many bytes on.
+    /// Another byte that is not allowed there, so many bytes on.
     BadByte(usize),
 }
 
@@ -43,7 +43,7 @@ fn is_visible(b: u8) -> bool
     b.is_ascii_graphic()
 }
 
-// How many letters stand in front.
+// How many letters are in front.
 fn letters(rest: &[u8]) -> usize
     ensures is { result ≡ letters rest.now }
     ensures within { result ≤ length rest.now }
@@ -86,50 +86,54 @@ fn line_end(rest: &[u8]) -> usize
 }
 
 // The lexeme at a `\`, by what follows it.
-fn lexeme_after_escape<'a>(after: &'a [u8]) -> Front<'a>
-    ensures is { told result ≡ lexeme_after_escape after.now }
-    ensures fits { Fits (length after.now + 1) (told result) }
+fn lexeme_after_escape<'a>(after: &'a [u8]) -> LentLexeme<'a>
+    ensures is { owned_lexeme result ≡ lexeme_after_escape after.now }
+    ensures fits { Fits (length after.now + 1) (owned_lexeme result) }
 {
     let count = letters(after);
     if count > 0 {
-        return Front::Made(LentKind::Control(&after[..count]), count + 1, State::Skip);
+        return LentLexeme::Made(LentKind::Control(&after[..count]), count + 1, State::Skip);
     }
     if line_end(after) > 0 {
-        return Front::BadByte(0);
+        return LentLexeme::BadByte(0);
     }
     match after {
-        [] | [b'\t' | b' ', ..] => Front::BadByte(0),
-        [b, ..] if is_visible(*b) => Front::Made(LentKind::Control(&after[..1]), 2, State::Middle),
-        [b, ..] if *b > 127 => Front::NotAscii(1),
-        _ => Front::BadByte(1),
+        [] | [b'\t' | b' ', ..] => LentLexeme::BadByte(0),
+        [b, ..] if is_visible(*b) => LentLexeme::Made(
+            LentKind::Control(&after[..1]),
+            2,
+            State::Middle,
+        ),
+        [b, ..] if *b > 127 => LentLexeme::NotAscii(1),
+        _ => LentLexeme::BadByte(1),
     }
 }
 
 /// The lexeme in front of a rest that is not empty.
-pub fn next_lexeme<'a>(state: State, rest: &'a [u8]) -> Front<'a>
+pub fn next_lexeme<'a>(state: State, rest: &'a [u8]) -> LentLexeme<'a>
     requires { 0 < length rest.now }
-    ensures is { told result ≡ lexeme state rest.now }
-    ensures fits { Fits (length rest.now) (told result) }
+    ensures is { owned_lexeme result ≡ lexeme state rest.now }
+    ensures fits { Fits (length rest.now) (owned_lexeme result) }
 {
     let end = line_end(rest);
     if end > 0 {
         return match state {
-            State::New => Front::Made(LentKind::Control(b"par"), end, State::New),
-            State::Middle => Front::Made(LentKind::Space, end, State::New),
-            State::Skip => Front::Passed(end, State::New),
+            State::New => LentLexeme::Made(LentKind::Control(b"par"), end, State::New),
+            State::Middle => LentLexeme::Made(LentKind::Space, end, State::New),
+            State::Skip => LentLexeme::Passed(end, State::New),
         };
     }
     match rest {
         [b'\t' | b' ', ..] => match state {
-            State::Middle => Front::Made(LentKind::Space, 1, State::Skip),
-            other => Front::Passed(1, other),
+            State::Middle => LentLexeme::Made(LentKind::Space, 1, State::Skip),
+            other => LentLexeme::Passed(1, other),
         },
-        [b'%', after @ ..] => Front::Passed(1 + comment(after), State::New),
+        [b'%', after @ ..] => LentLexeme::Passed(1 + comment(after), State::New),
         [b'\\', after @ ..] => lexeme_after_escape(after),
-        [b'^', b'^', ..] => Front::BadByte(1),
-        [b'~', ..] => Front::BadByte(0),
-        [b, ..] if is_visible(*b) => Front::Made(LentKind::Char(*b), 1, State::Middle),
-        [b, ..] if *b > 127 => Front::NotAscii(0),
-        _ => Front::BadByte(0),
+        [b'^', b'^', ..] => LentLexeme::BadByte(1),
+        [b'~', ..] => LentLexeme::BadByte(0),
+        [b, ..] if is_visible(*b) => LentLexeme::Made(LentKind::Char(*b), 1, State::Middle),
+        [b, ..] if *b > 127 => LentLexeme::NotAscii(0),
+        _ => LentLexeme::BadByte(0),
     }
 }

@@ -25,7 +25,7 @@ fn push_token(list: &mut Vec<Token>, token: Token) -> Result<(), AllocError>
 ///
 /// `TooLong` exactly above [`MAX_SOURCE`] bytes. Otherwise `NotAscii` or `BadByte` with the offset
 /// of the first byte at fault: `NotAscii` at a byte above 127 outside a comment, `BadByte` at any
-/// other byte that cannot stand there, at a `\` that nothing, a blank or a line end follows, and at
+/// other byte that no token begins with, at a `\` that nothing, a blank or a line end follows, and at
 /// the second `^` of `^^`. `OutOfMemory` where memory ran out.
 pub fn tokens(alloc: Global, bytes: &[u8]) -> Result<TokenList, TokenError>
     ensures is { Lexes result (source_tokens bytes.now) }

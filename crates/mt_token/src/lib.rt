@@ -7,16 +7,20 @@
 mod cause;
 mod character;
 mod cursor;
+mod hash;
 mod lent;
 mod lexeme;
 mod lexer;
 mod lexicon;
+mod own_tokens;
 mod token;
 
 pub use cause::FIRST_OUTSIDE_CAUSE;
 pub use character::{character_code, is_space};
 pub use cursor::Lexer;
+pub use hash::name_hash;
 pub use lent::{LentKind, LentToken};
 pub use lexer::{MAX_SOURCE, first_fault, tokens};
 pub use lexicon::Lexicon;
+pub use own_tokens::OwnTokens;
 pub use token::{Token, TokenError, TokenKind, TokenList};

@@ -14,7 +14,7 @@ pub enum TokenKind {
     Control(Name),
     /// A character other than a blank, by its ASCII code.
     Char(u8),
-    /// The space that a run of blanks, or the end of a line, stands for.
+    /// The space that a run of blanks, or the end of a line, gives.
     Space,
 }
 
@@ -43,7 +43,7 @@ pub enum TokenError {
     /// A byte above 127 outside a comment.
     #[error("byte {0} is not ASCII")]
     NotAscii(u32),
-    /// Another byte that cannot stand there.
+    /// Another byte that is not allowed there.
     #[error("byte {0} cannot stand there")]
     BadByte(u32),
     /// The source has more than [`crate::MAX_SOURCE`] bytes.
@@ -89,11 +89,11 @@ impl TokenError {
 }
 
 impl TokenKind {
-    ghost use Rattle.mt_token.specs.LentKinds.{kind_told};
+    ghost use Rattle.mt_token.specs.LentKinds.{owned_kind};
 
     /// The same kind, with its name lent.
     pub fn lent<'a>(&'a self) -> LentKind<'a>
-        ensures { kind_told result ≡ self.now }
+        ensures { owned_kind result ≡ self.now }
     {
         match self {
             TokenKind::Control(name) => LentKind::Control(name.as_slice()),
@@ -106,14 +106,7 @@ impl TokenKind {
     pub fn copied(&self, alloc: Global) -> Result<TokenKind, AllocError>
         ensures { IfOk result (λ kind. kind ≡ self.now) }
     {
-        match self {
-            TokenKind::Control(name) => Ok(TokenKind::Control(Name::from_slice(
-                alloc,
-                name.as_slice(),
-            )?)),
-            TokenKind::Char(c) => Ok(TokenKind::Char(*c)),
-            TokenKind::Space => Ok(TokenKind::Space),
-        }
+        self.lent().owned(alloc)
     }
 }
 
