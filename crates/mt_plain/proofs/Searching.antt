@@ -11,7 +11,7 @@ use Rattle.std.proofs.lemmas.Map.Entries.{lookup_tail}
 use Rattle.std.proofs.lemmas.Slice.Eq.{bytes_eq-Decides}
 use Rattle.mt_plain.specs.declared.meaning.Meaning.{Meaning}
 use Rattle.mt_plain.specs.Names.{NameRow, row_name, control, meanings}
-use Rattle.mt_plain.specs.Buckets.{AreBuckets, in_rows, is_slot, rows_in, slot_of, start_of}
+use Rattle.mt_plain.specs.inner.Buckets.{AreBuckets, in_rows, is_slot, rows_in, slot_count, slot_of, start_of}
 
 pub first : (a b : Bool) → (a && b) ≡ true → a ≡ true
 first true b e = refl
@@ -79,14 +79,14 @@ all_at p zero a i h l = absurd (omega (arith, l))
 all_at p (suc n) a zero h l = let e : a + 0 ≡ a = omega arith in ap p e ∙ first _ _ h
 all_at p (suc n) a (suc i) h l = let e : a + suc i ≡ a + 1 + i = omega arith in ap p e ∙ all_at p n (a + 1) i (second _ _ h) (omega (arith, l))
 
-slot_fits : (rows : List NameRow) (starts : List ℕ) (slot : ℕ) → AreBuckets rows starts → slot < 512 → is_slot rows starts slot ≡ true
-slot_fits rows starts slot index l = let e : slot ≡ 0 + slot = omega arith in ap (is_slot rows starts) e ∙ all_at (is_slot rows starts) 512 0 slot index.slots l
+slot_fits : (rows : List NameRow) (starts : List ℕ) (slot : ℕ) → AreBuckets rows starts → slot < slot_count → is_slot rows starts slot ≡ true
+slot_fits rows starts slot index l = let e : slot ≡ 0 + slot = omega arith in ap (is_slot rows starts) e ∙ all_at (is_slot rows starts) slot_count 0 slot index.slots l
 
 le_from : (a b : ℕ) → nat_le a b ≡ true → a ≤ b
 le_from a b h = grind (arith, nat_tests, h)
 
-pub slot_rises : (rows : List NameRow) (starts : List ℕ) (slot : ℕ) → AreBuckets rows starts → slot < 512 → start_of starts slot ≤ start_of starts (slot + 1)
+pub slot_rises : (rows : List NameRow) (starts : List ℕ) (slot : ℕ) → AreBuckets rows starts → slot < slot_count → start_of starts slot ≤ start_of starts (slot + 1)
 slot_rises rows starts slot index l = le_from _ _ (first _ _ (slot_fits rows starts slot index l))
 
-pub slot_within : (rows : List NameRow) (starts : List ℕ) (slot : ℕ) → AreBuckets rows starts → slot < 512 → start_of starts (slot + 1) ≤ length rows
+pub slot_within : (rows : List NameRow) (starts : List ℕ) (slot : ℕ) → AreBuckets rows starts → slot < slot_count → start_of starts (slot + 1) ≤ length rows
 slot_within rows starts slot index l = le_from _ _ (second _ _ (slot_fits rows starts slot index l))

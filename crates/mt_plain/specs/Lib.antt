@@ -4,8 +4,6 @@ pub mod MathNames
 pub mod Commands
 -- what names mean in a formula
 pub mod Names
--- a table of names by slots
-pub mod Buckets
 -- the codes of characters
 pub mod Characters
 -- what a code may be
@@ -16,3 +14,5 @@ pub mod CodeTables
 pub mod MacroTexts
 -- the macros that plain TeX's definitions make
 pub mod PlainMacros
+-- of the table of names: only inner contracts cite it
+pub mod inner

@@ -1,22 +1,22 @@
-//! Tokens, of which the codes of characters know that each stands for itself.
+//! Codes as the lexicon of tokens, by which each token is read as itself.
 use crate::codes::Codes;
-use mt_token::{LentKind, Lexicon, Token, character_code, is_space};
+use mt_token::{LentKind, Lexicon, OwnTokens, Token};
 
 impl Lexicon<Token> for Codes {
     ghost token = { λ _ t. t };
 
     #[inline]
     fn lent<'a>(&'a self, item: &'a Token) -> LentKind<'a> {
-        item.kind.lent()
+        OwnTokens.lent(item)
     }
 
     #[inline]
     fn code(&self, item: &Token) -> u8 {
-        character_code(item)
+        OwnTokens.code(item)
     }
 
     #[inline]
-    fn is_blank(&self, item: &Token) -> bool {
-        is_space(item)
+    fn is_space(&self, item: &Token) -> bool {
+        OwnTokens.is_space(item)
     }
 }

@@ -1,10 +1,13 @@
 //! The names that mean something in a formula.
-ghost use Rattle.mt_plain.specs.Buckets.{AreBuckets};
+ghost use Rattle.mt_plain.specs.inner.Buckets.{AreBuckets};
 
 use crate::meaning::{Command, Meaning};
 
 /// A name, filled up with blanks, and what it means.
 pub type NameRow = ([u8; 18], Meaning);
+
+/// How many slots the names are in.
+pub const SLOT_COUNT: usize = 512;
 
 // The rows of a slot (`slot_of` in `names.rt`) are together, and the slots in order.
 #[rattlefmt::skip]
@@ -256,7 +259,7 @@ static MEANINGS: [NameRow; 243] = [
 
 // How many rows there are before those of a slot; the last number is that of all rows.
 #[rattlefmt::skip]
-static STARTS: [u8; 513] = [
+static STARTS: [u8; SLOT_COUNT + 1] = [
     0, 0, 0, 0, 0, 1, 1, 1, 1, 2, 3, 4, 4, 5, 6, 6, 7, 7, 7, 7, 7, 7, 7, 8, 11, 11, 11,
     12, 12, 12, 12, 13, 13, 13, 15, 15, 15, 15, 15, 16, 16, 16, 16, 17, 17, 18, 19, 19, 19, 20, 21, 21, 21, 21,
     21, 23, 23, 24, 25, 25, 27, 27, 27, 28, 29, 30, 30, 30, 30, 31, 31, 32, 32, 32, 32, 32, 32, 32, 32, 32, 33,

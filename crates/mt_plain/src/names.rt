@@ -1,11 +1,12 @@
 //! What names mean.
-ghost use Rattle.std.specs.Prelude.{◌≡◌, ◌<◌, ◌≤◌, ◌-◌, get_or, length, take, drop};
+ghost use Rattle.std.specs.Prelude.{◌≡◌, ◌<◌, ◌≤◌, ◌-◌, length, take, drop};
 ghost use Rattle.std.specs.Str.{bytes_eq};
 ghost use Rattle.mt_plain.specs.Names.{control, row_name};
-ghost use Rattle.mt_plain.specs.Buckets.{AreBuckets, in_rows, rows_in, slot_of, start_of};
+ghost use Rattle.mt_plain.specs.inner.Buckets.{AreBuckets, in_rows, rows_in, slot_count, slot_of, start_of};
 
 use crate::meaning::Meaning;
-use crate::meanings::{NameIndex, NameRow, name_index};
+use crate::meanings::{NameIndex, NameRow, SLOT_COUNT, name_index};
+use mt_token::name_hash;
 
 // Whether a row has this name.
 fn is_row(row: &NameRow, name: &[u8]) -> bool
@@ -40,33 +41,18 @@ fn in_rows(rows: &[NameRow], name: &[u8]) -> Option<Meaning>
     None
 }
 
-// A byte of a name, 0 past its end.
-fn byte_at(name: &[u8], index: usize) -> usize
-    ensures is { result ≡ get_or name.now index 0 }
-    ensures small { result < 256 }
-{
-    match name.get(index) {
-        Some(byte) => usize::from(*byte),
-        None => 0,
-    }
-}
-
 // The slot of a name.
 fn slot_of(name: &[u8]) -> usize
     ensures is { result ≡ slot_of name.now }
-    ensures small { result < 512 }
+    ensures small { result < slot_count }
 {
-    (29 * byte_at(name, 0)
-        + 3 * byte_at(name, 1)
-        + 101 * byte_at(name, name.len().saturating_sub(1))
-        + 67 * name.len().min(31))
-        % 512
+    name_hash(name) % SLOT_COUNT
 }
 
 // How many rows there are before those of a slot.
 fn start_of(index: NameIndex, slot: usize) -> usize
     requires index { AreBuckets index.rows.now index.starts.now }
-    requires slot { slot ≤ 512 }
+    requires slot { slot ≤ slot_count }
     ensures { result ≡ start_of index.starts.now slot }
 {
     usize::from(index.starts[slot])
@@ -83,7 +69,7 @@ fn rows_between(rows: &'static [NameRow], from: usize, to: usize) -> &'static [N
 // The rows of a slot.
 fn rows_in(index: NameIndex, slot: usize) -> &'static [NameRow]
     requires index { AreBuckets index.rows.now index.starts.now }
-    requires slot { slot < 512 }
+    requires slot { slot < slot_count }
     ensures { result.now ≡ rows_in index.rows.now index.starts.now slot }
 {
     rows_between(index.rows, start_of(index, slot), start_of(index, slot + 1))

@@ -13,7 +13,7 @@ abbrev pub Meets : {A : Type 0} → Result (Scanned A Token) FaultFields → Rea
 Meets (Ok part) read = read ≡ Got part.value part.rest.now
 Meets (Err fault) read = read ≡ Fault fault.cause fault.left
 
--- the same where items are left, each of which stands for a token
+-- the same where items are left, each of which is read as a token
 abbrev pub MeetsBy : {A T : Type 0} → (T → Token) → Result (Scanned A T) FaultFields → Read A → Type 0
 MeetsBy token (Ok part) read = read ≡ Got part.value (map token part.rest.now)
 MeetsBy token (Err fault) read = read ≡ Fault fault.cause fault.left
@@ -34,7 +34,7 @@ abbrev pub IsAfter : Option (Bor (List Token)) → Option (List Token) → Type 
 IsAfter None after = after ≡ None
 IsAfter (Some rest) after = after ≡ Some rest.now
 
--- the same of items that are lent, each of which stands for a token
+-- the same of items that are lent, each of which is read as a token
 abbrev pub IsAfterBy : {T : Type 0} → (T → Token) → Option (Bor (List T)) → Option (List Token) → Type 0
 IsAfterBy token None after = after ≡ None
 IsAfterBy token (Some rest) after = after ≡ Some (map token rest.now)

@@ -48,8 +48,11 @@ fn delimiter_by_code<'a, T, R: Lexicon<T>>(
     }
 }
 
-/// The delimiter of a character, as the token before these stands for it. The fault is at that token where the
-/// character has no delimiter code.
+/// The delimiter of a character, which is the item before these. The fault is at that item where the character has no
+/// delimiter code.
+///
+/// The character is below 128, and the items after it are fewer than 2^64 - 1, so that they can be counted with the
+/// item of the character. Every slice of items that take memory is so short.
 pub fn character_delimiter<'a, T, R: Roles<T>>(
     tables: &R,
     c: u8,

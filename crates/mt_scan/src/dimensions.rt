@@ -36,7 +36,7 @@ fn signed_length(minus: bool, value: i64) -> i64
     if minus { -value } else { value }
 }
 
-// A dimension of this number of units and this sign, which stands where so many tokens are left, if it is in range.
+// A dimension of this number of units and this sign, which begins where so many tokens are left, if it is in range.
 fn dimension_of<'a, T, R: Lexicon<T>>(
     tables: &R,
     units: Units,
@@ -107,7 +107,7 @@ pub fn dimension<'a, T, R: Lexicon<T>>(
     dimension_from(tables, units, mu, true, tokens)
 }
 
-// The tokens after a word in either case, if it stands in front.
+// The tokens after a word in either case, if it is in front.
 fn after_letters<'a, T, R: Lexicon<T>>(tables: &R, word: &[u8], tokens: &'a [T]) -> Option<&'a [T]>
     ensures is { IsAfterBy (R.token tables.now) result (after_letters word.now (map (R.token tables.now) tokens.now)) }
     ensures falls { IfSome result (λ rest. length rest.now ≤ length tokens.now) }
@@ -126,7 +126,7 @@ fn after_letters<'a, T, R: Lexicon<T>>(tables: &R, word: &[u8], tokens: &'a [T])
     Some(rest)
 }
 
-// Spaces, a word and a dimension that is not negative; where the word does not stand there, nothing is read.
+// Spaces, a word and a dimension that is not negative; where the word is not there, nothing is read.
 fn amount<'a, T, R: Lexicon<T>>(
     tables: &R,
     units: Units,

@@ -1,6 +1,6 @@
 //! The parts of a formula in front of items of any kind.
 //!
-//! Each call takes the items as a slice `&[T]`, and tables that tell for which token an item stands
+//! Each call takes the items as a slice `&[T]`, and tables that know which token an item is read as
 //! (`R: Lexicon<T>`) or also what it is in a formula (`R: Roles<T>`). Its clauses speak of the tokens
 //! `map (R.token tables.now) items.now`.
 

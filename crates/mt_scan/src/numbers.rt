@@ -1,5 +1,5 @@
 //! Numbers.
-ghost use Rattle.mt_token.specs.LentKinds.{kind_told};
+ghost use Rattle.mt_token.specs.LentKinds.{owned_kind};
 ghost use Rattle.std.specs.Prelude.{◌≡◌, ◌≤◌, ◌<◌, ◌*◌, ◌+◌, min, pos, false, length, IfOk, IfSome, map};
 ghost use Rattle.mt_scan.specs.Limits.{max_number, size_cap};
 ghost use Rattle.mt_scan.specs.Numbers.{turns_sign, sign_after, signs, with_sign, digit_value, digit_of};
@@ -29,7 +29,7 @@ fn bad_number(left: usize) -> Fault
 }
 
 fn turns_sign(kind: LentKind) -> Option<bool>
-    ensures { result ≡ turns_sign (kind_told kind.entry) }
+    ensures { result ≡ turns_sign (owned_kind kind.entry) }
 {
     match kind {
         LentKind::Control(_) => None,
@@ -174,7 +174,7 @@ fn digits_in<'a, T, R: Lexicon<T>>(
 }
 
 fn quoted_kind(kind: LentKind) -> Option<u8>
-    ensures { result ≡ quoted_kind (kind_told kind.entry) }
+    ensures { result ≡ quoted_kind (owned_kind kind.entry) }
 {
     match kind {
         LentKind::Char(c) => Some(c),
@@ -226,7 +226,7 @@ fn unsigned_number<'a, T, R: Lexicon<T>>(
     }
 }
 
-// A number of this size, which stands where so many tokens are left, if it is in range.
+// A number of this size, which begins where so many tokens are left, if it is in range.
 fn in_bound<'a, T, R: Lexicon<T>>(
     tables: &R,
     first: usize,

@@ -8,7 +8,7 @@ use mt_plain::{Codes, Command, MAX_MATH_CODE, Meaning};
 use mt_rules::{Class, Delim, Glue, Limits, Style, Symbol};
 use mt_token::{Token, TokenKind};
 
-/// A side of an atom on which a script stands.
+/// A side of an atom on which a script is set.
 #[derive(Clone, Copy, Debug, PartialEq, Eq)]
 pub enum Side {
     /// A superscript.
@@ -127,7 +127,7 @@ pub enum Role {
     /// `\pmatrix`
     PmatrixWord,
     /// `\eqalignno`, `\leqalignno` or `\displaylines`: a display with these columns, and whether its
-    /// numbers stand at the left.
+    /// numbers are at the left.
     DisplayWord(Preamble, bool),
     /// A word that takes a field as the nucleus of an atom of this kind.
     Nucleus(FieldKind),

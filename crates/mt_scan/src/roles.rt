@@ -1,4 +1,4 @@
-//! What tells what items are in a formula.
+//! What knows what items are in a formula.
 ghost use Rattle.std.specs.Prelude.{◌≡◌, ◌<◌, true};
 ghost use Rattle.mt_plain.specs.CodeTables.{CodeTables, delcode_of, is_delcode};
 ghost use Rattle.mt_scan.specs.Role.{role_of};
@@ -7,7 +7,7 @@ use crate::role::{Role, role_of};
 use mt_plain::Codes;
 use mt_token::{Lexicon, Token};
 
-/// What tells what items are in a formula.
+/// What knows what items are in a formula.
 pub trait Roles<T>: Lexicon<T> {
     /// The codes of characters.
     ghost codes: { Self → CodeTables };

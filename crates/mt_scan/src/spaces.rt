@@ -13,7 +13,7 @@ pub fn after_spaces<'a, T, R: Lexicon<T>>(tables: &R, tokens: &'a [T]) -> &'a [T
 {
     let mut rest = tokens;
     while let [token, after @ ..] = rest {
-        if !tables.is_blank(token) {
+        if !tables.is_space(token) {
             return rest;
         }
         rest = after;
@@ -21,13 +21,13 @@ pub fn after_spaces<'a, T, R: Lexicon<T>>(tables: &R, tokens: &'a [T]) -> &'a [T
     rest
 }
 
-/// The tokens after one Space, where one stands.
+/// The tokens after one Space, where there is one.
 pub fn after_one_space<'a, T, R: Lexicon<T>>(tables: &R, tokens: &'a [T]) -> &'a [T]
     ensures is { map (R.token tables.now) result.now ≡ after_one_space (map (R.token tables.now) tokens.now) }
     ensures falls { length result.now ≤ length tokens.now }
 {
     match tokens {
-        [token, after @ ..] if tables.is_blank(token) => after,
+        [token, after @ ..] if tables.is_space(token) => after,
         _ => tokens,
     }
 }

@@ -13,36 +13,14 @@ use crate::scanned::Scanned;
 use mt_plain::Codes;
 use mt_rules::{Delim, Glue};
 use mt_scaled::Units;
-use mt_token::{LentKind, Lexicon, Token, character_code, is_space};
-
-// Tokens, each of which stands for itself.
-struct Themselves;
-
-impl Lexicon<Token> for Themselves {
-    ghost token = { λ _ t. t };
-
-    #[inline]
-    fn lent<'a>(&'a self, item: &'a Token) -> LentKind<'a> {
-        item.kind.lent()
-    }
-
-    #[inline]
-    fn code(&self, item: &Token) -> u8 {
-        character_code(item)
-    }
-
-    #[inline]
-    fn is_blank(&self, item: &Token) -> bool {
-        is_space(item)
-    }
-}
+use mt_token::{OwnTokens, Token};
 
 /// The tokens after Spaces.
 pub fn after_spaces<'a>(tokens: &'a [Token]) -> &'a [Token]
     ensures is { result.now ≡ after_spaces tokens.now }
     ensures falls { length result.now ≤ length tokens.now }
 {
-    items::after_spaces(&Themselves, tokens)
+    items::after_spaces(&OwnTokens, tokens)
 }
 
 /// The tokens after Spaces and `\relax`.
@@ -58,7 +36,7 @@ pub fn whole_number<'a>(tokens: &'a [Token]) -> Result<Scanned<'a, i64>, Fault>
     ensures is { Meets result (whole_number tokens.now) }
     ensures falls { IfOk result (λ part. length part.rest.now ≤ length tokens.now) }
 {
-    items::whole_number(&Themselves, tokens)
+    items::whole_number(&OwnTokens, tokens)
 }
 
 /// A number from 0 to a greatest.
@@ -67,11 +45,11 @@ pub fn number_to<'a>(most: u32, tokens: &'a [Token]) -> Result<Scanned<'a, u32>,
     ensures falls { IfOk result (λ part. length part.rest.now ≤ length tokens.now) }
     ensures bound { IfOk result (λ part. part.value ≤ most) }
 {
-    items::number_to(&Themselves, most, tokens)
+    items::number_to(&OwnTokens, most, tokens)
 }
 
-/// The delimiter of a character, as the token before these stands for it. The fault is at that token where the
-/// character has no delimiter code.
+/// The delimiter of a character, which is the token before these. The fault is at that token where the character has
+/// no delimiter code. The character is below 128.
 pub fn character_delimiter<'a>(
     codes: &Codes,
     c: u8,
@@ -99,7 +77,7 @@ pub fn dimension<'a>(units: Units, mu: bool, tokens: &'a [Token]) -> Result<Scan
     ensures is { Meets result (dimension units mu tokens.now) }
     ensures falls { IfOk result (λ part. length part.rest.now ≤ length tokens.now) }
 {
-    items::dimension(&Themselves, units, mu, tokens)
+    items::dimension(&OwnTokens, units, mu, tokens)
 }
 
 /// Glue, in math units where these are asked for. What it can stretch has no effect.
@@ -109,5 +87,5 @@ pub fn glue<'a>(units: Units, mu: bool, tokens: &'a [Token]) -> Result<Scanned<'
     ensures is { Meets result (glue units mu tokens.now) }
     ensures falls { IfOk result (λ part. length part.rest.now ≤ length tokens.now) }
 {
-    items::glue(&Themselves, units, mu, tokens)
+    items::glue(&OwnTokens, units, mu, tokens)
 }

@@ -1,6 +1,6 @@
 -- Numbers, dimensions and delimiters count no turns: they are read or at fault (`IsAnswered`).
 use Rattle.std.proofs.Common.{ℕ, ◌+◌, Bool, true, false, List, [], ◌∷◌, length, Option, Some, None}
-use Rattle.std.specs.Prelude.{ℤ, pos, negsuc, nat_le, nat_lt, ◌==◌, ◌&&◌, ⊤, if◌then◌else◌, codes}
+use Rattle.std.specs.Prelude.{ℤ, pos, negsuc, nat_le, nat_lt, ◌==◌, ◌&&◌, if◌then◌else◌, codes}
 use Rattle.mt_token.specs.declared.token.Token.{Token}
 use Rattle.mt_token.specs.Character.{character_code}
 use Rattle.mt_scaled.specs.declared.unit.Unit.{Unit as Measure}

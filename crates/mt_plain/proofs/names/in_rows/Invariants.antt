@@ -1,5 +1,5 @@
 use Rattle.std.proofs.Common.{◌≡◌, drop}
-use Rattle.mt_plain.specs.Buckets.{in_rows}
+use Rattle.mt_plain.specs.inner.Buckets.{in_rows}
 use Rattle.mt_plain.proofs.names.in_rows.Given as goal
 
 abbrev pub invariant-loop-row : goal.invariant-loop-row

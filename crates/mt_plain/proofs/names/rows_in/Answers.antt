@@ -1,5 +1,5 @@
 use Rattle.std.proofs.Common.{◌-◌, ◌+◌, ℕ, take, drop, ap, ◌∙◌, arith}
-use Rattle.mt_plain.specs.Buckets.{start_of}
+use Rattle.mt_plain.specs.inner.Buckets.{start_of}
 use Rattle.mt_plain.proofs.Searching.{slot_rises, slot_within}
 use Rattle.mt_plain.proofs.names.rows_in.Goals as goal
 

@@ -1,0 +1,2 @@
+-- a table of names by slots
+pub mod Buckets
