@@ -1,15 +1,16 @@
 -- Where groups end.
 use Rattle.std.proofs.Common.{◌≡◌, ℕ, zero, suc, ◌+◌, ◌-◌, ◌<◌, ◌≤◌, Bool, true, false, List, []}
-use Rattle.std.proofs.Common.{◌∷◌, ◌++◌, length, take, drop, get_or, refl, sym, ap, ◌∙◌}
+use Rattle.std.proofs.Common.{◌∷◌, ◌++◌, length, take, drop, map, get_or, set, refl, sym, ap, subst, ◌∙◌}
 use Rattle.std.proofs.Common.{arith, append_assoc, length-append}
 use Rattle.std.specs.Prelude.{slice_index_or, Option, Some, None, ◌==◌, ◌&&◌}
-use Rattle.std.proofs.lemmas.List.{append-nil, drop-append-le, take-append-le, length-drop, drop_more}
+use Rattle.std.proofs.lemmas.List.{append-nil, drop-append-le, take-append-le, length-drop, take_all}
 use Rattle.mt_token.specs.declared.token.Token.{Token}
 use Rattle.mt_macro.specs.Braces.{Taken, onto, group, level_after, is_open, is_close, index_after_first}
-use Rattle.mt_macro.specs.declared.pieces.Closing.TheVariants.{At, Open}
+use Rattle.mt_macro.specs.declared.closing.Closing.TheVariants.{At, Open}
 use Rattle.mt_macro.specs.inner.Ends.{end_index, IsEnd, AreEnds, joined}
-use Rattle.mt_macro.specs.inner.Pieces.{Closes}
+use Rattle.mt_macro.specs.inner.Closings.{Closes}
 use Rattle.mt_macro.specs.inner.Taking.{Takes}
+use Rattle.mt_macro.proofs.Mapped.{mapped_drop}
 use Rattle.mt_macro.proofs.Indexes.{shifted, shifted_none, shifted_next, shifted_here}
 use Rattle.mt_macro.proofs.Unmatched.{inside_not, level_open, level_close, level_other, group_on}
 use Rattle.mt_macro.proofs.Unmatched.{not_open, true_not_false}
@@ -192,6 +193,29 @@ end_at_index (suc n) [] es h l w = absurd (omega (arith, w))
 end_at_index (suc n) (t ∷ ts) [] h l w = absurd (omega (arith, l))
 end_at_index (suc n) (t ∷ ts) (f ∷ es) h l w = end_at_index n ts es h.1 (omega (arith, l)) w
 
+-- the ends from an index on, by the end there
+are_ends_back : {T : Type 0} (f : T → Token) (i e : ℕ) (xs : List T) (x : T) (es : List ℕ) → i < length xs → length es ≡ length xs → x ≡ get_or xs i x
+    → AreEnds (drop (suc i) (map f xs)) (drop (suc i) es) → IsEnd e (f x ∷ drop (suc i) (map f xs)) → AreEnds (drop i (map f xs)) (drop i (set es i e))
+are_ends_back f i e [] x es h l k a b = absurd (omega (arith, h))
+are_ends_back f i e (y ∷ xs) x [] h l k a b = absurd (omega (arith, l))
+are_ends_back f zero e (y ∷ xs) x (g ∷ es) h l k a b = (subst (λ z. IsEnd e (f z ∷ map f xs)) k b, a)
+are_ends_back f (suc i) e (y ∷ xs) x (g ∷ es) h l k a b = are_ends_back f i e xs x es (omega (arith, h)) (omega (arith, l)) k a b
+
+pub ends_step : {T : Type 0} (f : T → Token) (xs : List T) (x : T) (es : List ℕ) (i n e : ℕ) → n ≡ i + 1 → n ≤ length xs → length es ≡ length xs → x ≡ get_or xs i x → AreEnds (drop n (map f xs)) (drop n es)
+    → IsEnd e (f x ∷ map f (take (length xs - (i + 1)) (drop (i + 1) xs))) → AreEnds (drop i (map f xs)) (drop i (set es i e))
+ends_step f xs x es i n e z h l k a b =
+    let y : n ≡ suc i = omega (arith, z) in
+    let w : i + 1 ≡ suc i = omega arith in
+    are_ends_back f i e xs x es (omega (arith, z, h)) l k (subst (λ (m : ℕ). AreEnds (drop m (map f xs)) (drop m es)) y a)
+    (subst (λ (m : ℕ). IsEnd e (f x ∷ drop m (map f xs))) w (subst (λ (ts : List Token). IsEnd e (f x ∷ ts)) (mapped_drop f xs (i + 1)) b))
+
+pub ends_slices : {T : Type 0} (f : T → Token) (xs : List T) (es ds : List ℕ) (i n : ℕ) → n ≡ i → AreEnds (drop n (map f xs)) (drop n es) → ds ≡ es
+    → AreEnds (map f (take (length xs - i) (drop i xs))) (take (length ds - i) (drop i ds))
+ends_slices f xs es ds i n z a e =
+    let here : AreEnds (drop i (map f xs)) (drop i es) = subst (λ (m : ℕ). AreEnds (drop m (map f xs)) (drop m es)) z a in
+    let all : take (length ds - i) (drop i ds) ≡ drop i es = take_all (length ds - i) (drop i ds) (omega (arith, length-drop i ds)) ∙ ap (drop i) e in
+    subst (λ (ts : List Token). AreEnds ts (take (length ds - i) (drop i ds))) (sym (mapped_drop f xs i)) (subst (AreEnds (drop i (map f xs))) (sym all) here)
+
 pub no_end : (n e : ℕ) (ts : List Token) → length ts ≤ n → IsEnd e (drop n ts)
 no_end zero e [] h w = absurd (omega (arith, w))
 no_end zero e (t ∷ ts) h w = absurd (omega (arith, h))
@@ -357,22 +381,3 @@ joined_append (p ∷ ps) qs = ap (λ r. p ++ r) (joined_append ps qs) ∙ sym (a
 
 pub joined_more : (ps : List (List Token)) (p : List Token) → joined (ps ++ p ∷ []) ≡ joined ps ++ p
 joined_more ps p = joined_append ps (p ∷ []) ∙ ap (λ r. joined ps ++ r) (append-nil p)
-
-joined_drop : (n : ℕ) (ps : List (List Token)) → length (joined (drop n ps)) ≤ length (joined ps)
-joined_drop zero ps = omega arith
-joined_drop (suc n) [] = omega arith
-joined_drop (suc n) (p ∷ ps) = let w = joined_drop n ps in omega (arith, w, length-append p (joined ps))
-
--- a piece and those after it
-pub joined_from : (ps : List (List Token)) (i : ℕ) (p : List Token) → i < length ps → p ≡ get_or ps i p
-    → length p + length (joined (drop (i + 1) ps)) ≤ length (joined ps)
-joined_from ps i p h g =
-    let w = joined_drop i ps in
-    omega (
-      arith,
-      w,
-      ap (λ (x : List (List Token)). length (joined x)) (drop_more ps i p h),
-      length-append
-          (get_or ps i p) (joined (drop (i + 1) ps)),
-      ap length g,
-    )

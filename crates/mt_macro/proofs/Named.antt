@@ -1,17 +1,20 @@
 -- Macros by their names.
-use Rattle.std.proofs.Common.{◌≡◌, ℕ, suc, ◌+◌, Bool, true, false, List, [], ◌∷◌, map, refl, sym}
-use Rattle.std.proofs.Common.{ap, subst, ◌∙◌, arith, cond, get_or, Bor}
-use Rattle.std.specs.Prelude.{Option, Some, None, All, IfSome, sum_by, ◌||◌, ◌&&◌, not, unwrap_or, if◌then◌else◌}
-use Rattle.std.specs.Option.{option_map, option_copied}
+use Rattle.std.proofs.Common.{◌≡◌, ℕ, suc, ◌+◌, Bool, true, false, List, [], ◌∷◌, refl, sym}
+use Rattle.std.proofs.Common.{ap, subst, ◌∙◌, arith, cond, get_or}
+use Rattle.std.specs.Prelude.{Option, Some, None, All, ◌||◌, ◌&&◌, not, unwrap_or, if◌then◌else◌}
+use Rattle.std.specs.Option.{option_map}
 use Rattle.std.specs.Str.{bytes_eq}
 use Rattle.std.specs.Map.{lookup, keys_of, values_of}
-use Rattle.std.specs.BTreeMap.{insert_entry, is_at}
+use Rattle.std.specs.BTreeMap.{is_at}
 use Rattle.std.specs.List.Sorted.{IsStrictlySortedBy}
 use Rattle.std.specs.Cmp.Lexicographic.{slice_cmp}
 use Rattle.std.specs.Ordering.{nat_cmp, is_eq, match_ordering}
 use Rattle.std.specs.declared.cmp.Ordering.{Ordering}
 use Rattle.std.specs.declared.cmp.Ordering.TheVariants.{Less, Equal, Greater}
-use Rattle.std.proofs.lemmas.Cmp.{nat_list_cmp_total, on_total}
+use Rattle.std.proofs.lemmas.Cmp.{nat_list_cmp_total}
+use Rattle.mt_macro.specs.declared.table.Entry.{Entry}
+use Rattle.mt_macro.specs.inner.Entries.{table_of}
+use Rattle.mt_macro.proofs.Entries.{sorted_with}
 use Rattle.std.proofs.lemmas.Map.Text.{is_eq-slice_cmp}
 use Rattle.std.proofs.lemmas.Map.Entries.{sum_by-insert_entry}
 use Rattle.std.proofs.lemmas.Map.Views.{All-keys-insert_entry, All-values-insert_entry}
@@ -30,29 +33,6 @@ own_found : (o : Option Macro)
 own_found None = refl
 own_found (Some m) = refl
 
-test_some : (b : Bool) (m : Macro) (o : Option Macro) → HasShortBody m → IfSome o HasShortBody
-    → IfSome (cond b (Some m) o) HasShortBody
-test_some true m o h k = h
-test_some false m o h k = k
-
-found_short : (test : List ℕ → Bool) (table : Table) → All HasShortBody (values_of table)
-    → IfSome (lookup test table) HasShortBody
-found_short test [] h = tt
-found_short test (e ∷ es) h =
-    test_some (test e.0) e.1 _ (h 0 e.1 (omega arith)) (found_short test es (λ k d l. h (suc k) d (omega (arith, l))))
-
-some_copied : (r : Option (Bor Macro)) → IfSome (option_copied r) HasShortBody
-    → IfSome r (λ (m : Bor Macro). HasShortBody m.now)
-some_copied None h = tt
-some_copied (Some b) h = h
-
-pub named_short : (table : Table) (name : List ℕ) (r : Option (Bor Macro)) (own : ℕ) (marks : NameMarks)
-    → IsKept table own marks → option_copied r ≡ macro_of table name
-    → IfSome r (λ (m : Bor Macro). HasShortBody m.now)
-named_short table name r own marks kept e =
-    some_copied r (subst (λ (o : Option Macro). IfSome o HasShortBody) (sym e)
-    (found_short (λ (n : List ℕ). bytes_eq name n) table kept.short))
-
 count_cases : (makes_own was : Bool) (new old : ℕ)
     → new + (if was then 1 else 0) ≡ old + (if makes_own || was then 1 else 0)
     → (if makes_own && not was then old + 1 else old) ≡ new
@@ -61,95 +41,62 @@ count_cases true false new old e = omega (arith, e)
 count_cases false true new old e = omega (arith, e)
 count_cases false false new old e = omega (arith, e)
 
--- entries whose keys are seen as names
-module _ {K : Type 0} (name_of : K → List ℕ) where
-  abbrev pub named : List (K × Macro) → Table
-  named es = map (λ (e : K × Macro). (name_of e.0, e.1)) es
+lookup_is : (name : List ℕ) (es : Table) → lookup (is_at (slice_cmp nat_cmp name)) es ≡ macro_of es name
+lookup_is name [] = refl
+lookup_is name (e ∷ es) =
+    ap (λ b. cond b (Some e.1) (lookup (is_at (slice_cmp nat_cmp name)) es)) (is_eq-slice_cmp name e.0)
+    ∙ ap (cond (bytes_eq name e.0) (Some e.1)) (lookup_is name es)
 
-  pub lookup_named : (name : List ℕ) (es : List (K × Macro))
-      → lookup (is_at (λ (k : K). slice_cmp nat_cmp name (name_of k))) es ≡ macro_of (named es) name
-  lookup_named name [] = refl
-  lookup_named name (e ∷ es) =
-      ap (λ b. cond b (Some e.1) (lookup (is_at (λ (k : K). slice_cmp nat_cmp name (name_of k))) es))
-      (is_eq-slice_cmp name (name_of e.0)) ∙ ap (cond (bytes_eq name (name_of e.0)) (Some e.1)) (lookup_named name es)
+-- the user's own names, after a definition
+own_inserted : (name : List ℕ) (v : Macro) (es : Table) → IsStrictlySortedBy (slice_cmp nat_cmp) (keys_of es)
+    → own_count (with_macro es name v) + (if is_own (macro_of es name) then 1 else 0)
+    ≡ own_count es + (if v.own then 1 else 0)
+own_inserted name v es sorted =
+    let own : Macro → ℕ = λ (m : Macro). if m.own then 1 else 0 in
+    let total = sum_by-insert_entry own nat_list_cmp_total es name v sorted in
+    let found : unwrap_or (option_map own (lookup (is_at (slice_cmp nat_cmp name)) es)) 0 ≡
+    (if is_own (macro_of es name) then 1 else 0) = ap
+    (λ (o : Option Macro). unwrap_or (option_map own o) 0) (lookup_is name es)
+    ∙ own_found (macro_of es name) in
+    omega (arith, total, found)
 
-  insert_at : (r : Ordering) (k : K) (v : Macro) (e : K × Macro) (es : List (K × Macro))
-      → named (insert_entry (λ (a b : K). slice_cmp nat_cmp (name_of a) (name_of b)) es k v) ≡ with_macro (named es)
-      (name_of k) v → named
-      (match_ordering r ((k, v) ∷ e ∷ es) ((e.0, v) ∷ es)
-      (e ∷ insert_entry (λ (a b : K). slice_cmp nat_cmp (name_of a) (name_of b)) es k v)) ≡ match_ordering r
-      ((name_of k, v) ∷ named (e ∷ es)) ((name_of e.0, v) ∷ named es)
-      ((name_of e.0, e.1) ∷ with_macro (named es) (name_of k) v)
-  insert_at Less k v e es h = refl
-  insert_at Equal k v e es h = refl
-  insert_at Greater k v e es h = ap (λ (t : Table). (name_of e.0, e.1) ∷ t) h
+pub put_kept : (table table' : Table) (name : List ℕ) (v : Macro) (makes_own was : Bool) (own own' : ℕ)
+    (marks marks' : NameMarks) → IsKept table own marks → HasShortBody v → table' ≡ with_macro table name v
+    → was ≡ is_own (macro_of table name) → v.own ≡ (makes_own || was)
+    → own' ≡ (if makes_own && not was then own + 1 else own) → has_mark marks' name ≡ true
+    → ((other : List ℕ) → has_mark marks other ≡ true → has_mark marks' other ≡ true)
+    → IsKept table' own' marks'
+put_kept table table' name v makes_own was own own' marks marks' kept short placed w o is here others =
+    let before : own_count (with_macro table name v) + (if was then 1 else 0) ≡ own_count table +
+    (if makes_own || was then 1 else 0) = ap
+    (λ (b : Bool). own_count (with_macro table name v) + (if b then 1 else 0)) w
+    ∙ (own_inserted name v table kept.sorted ∙ ap (λ (b : Bool). own_count table + (if b then 1 else 0)) o) in
+    record {
+      counted =
+          is ∙ (ap (λ (n : ℕ). if makes_own && not was then n + 1 else n) kept.counted
+          ∙ (count_cases makes_own was _ _ before ∙ ap own_count (sym placed)));
+      short =
+          subst (λ (t : Table). All HasShortBody (values_of t)) (sym placed)
+          (All-values-insert_entry (slice_cmp nat_cmp) name v HasShortBody table kept.short short);
+      marked =
+          subst (λ (t : Table). All (λ (n : List ℕ). has_mark marks' n ≡ true) (keys_of t)) (sym placed)
+          (All-keys-insert_entry (slice_cmp nat_cmp) name v (λ (n : List ℕ). has_mark marks' n ≡ true) table
+          (λ i d l. others (get_or (keys_of table) i d) (kept.marked i d l)) here);
+      sorted =
+          subst (λ (t : Table). IsStrictlySortedBy (slice_cmp nat_cmp) (keys_of t)) (sym placed)
+          (sorted_with table name v kept.sorted);
+    }
 
-  pub insert_named : (k : K) (v : Macro) (es : List (K × Macro))
-      → named (insert_entry (λ (a b : K). slice_cmp nat_cmp (name_of a) (name_of b)) es k v) ≡ with_macro (named es)
-      (name_of k) v
-  insert_named k v [] = refl
-  insert_named k v (e ∷ es) = insert_at (slice_cmp nat_cmp (name_of k) (name_of e.0)) k v e es (insert_named k v es)
-
-  values_named : (es : List (K × Macro)) → values_of (named es) ≡ values_of es
-  values_named [] = refl
-  values_named (e ∷ es) = ap (λ (ms : List Macro). e.1 ∷ ms) (values_named es)
-
-  -- the user's own names, after a definition
-  pub own_inserted : (k : K) (v : Macro) (es : List (K × Macro))
-      → IsStrictlySortedBy (λ (a b : K). slice_cmp nat_cmp (name_of a) (name_of b)) (keys_of es)
-      → own_count (with_macro (named es) (name_of k) v) + (if is_own (macro_of (named es) (name_of k)) then 1 else 0)
-      ≡ own_count (named es) + (if v.own then 1 else 0)
-  own_inserted k v es sorted =
-      let own : Macro → ℕ = λ (m : Macro). if m.own then 1 else 0 in
-      let total = sum_by-insert_entry own (on_total name_of nat_list_cmp_total) es k v sorted in
-      let after : own_count (with_macro (named es) (name_of k) v) ≡ sum_by own
-      (values_of (insert_entry (λ (a b : K). slice_cmp nat_cmp (name_of a) (name_of b)) es k v)) = ap own_count
-      (sym (insert_named k v es))
-      ∙ ap (sum_by own) (values_named
-      (insert_entry (λ (a b : K). slice_cmp nat_cmp (name_of a) (name_of b)) es k v)) in
-      let before : own_count (named es) ≡ sum_by own (values_of es) = ap (sum_by own) (values_named es) in
-      let found : unwrap_or
-      (option_map own (lookup (is_at (λ (a : K). slice_cmp nat_cmp (name_of k) (name_of a))) es)) 0 ≡
-      (if is_own (macro_of (named es) (name_of k)) then 1 else 0) = ap
-      (λ (o : Option Macro). unwrap_or (option_map own o) 0) (lookup_named (name_of k) es)
-      ∙ own_found (macro_of (named es) (name_of k)) in
-      omega (arith, total, after, before, found)
-
-  pub put_is : (k : K) (v : Macro) (es fs : List (K × Macro)) (name : List ℕ)
-      → fs ≡ insert_entry (λ (a b : K). slice_cmp nat_cmp (name_of a) (name_of b)) es k v → name_of k ≡ name
-      → named fs ≡ with_macro (named es) name v
-  put_is k v es fs name e n = ap named e ∙ (insert_named k v es ∙ ap (λ (x : List ℕ). with_macro (named es) x v) n)
-
-  pub put_kept : (k : K) (v : Macro) (es fs : List (K × Macro)) (name : List ℕ) (makes_own was : Bool) (own own' : ℕ)
-      (marks marks' : NameMarks) → IsKept (named es) own marks → HasShortBody v
-      → fs ≡ insert_entry (λ (a b : K). slice_cmp nat_cmp (name_of a) (name_of b)) es k v → name_of k ≡ name
-      → IsStrictlySortedBy (λ (a b : K). slice_cmp nat_cmp (name_of a) (name_of b)) (keys_of es)
-      → was ≡ is_own (macro_of (named es) name) → v.own ≡ (makes_own || was)
-      → own' ≡ (if makes_own && not was then own + 1 else own) → has_mark marks' name ≡ true
-      → ((other : List ℕ) → has_mark marks other ≡ true → has_mark marks' other ≡ true)
-      → IsKept (named fs) own' marks'
-  put_kept k v es fs name makes_own was own own' marks marks' kept short e n sorted w o is here others =
-      let placed = put_is k v es fs name e n in
-      let total =
-      subst (λ (x : List ℕ). own_count (with_macro (named es) x v) +
-      (if is_own (macro_of (named es) x) then 1 else 0) ≡ own_count (named es) + (if v.own then 1 else 0)) n
-      (own_inserted k v es sorted) in
-      let before : own_count (with_macro (named es) name v) + (if was then 1 else 0) ≡ own_count (named es) +
-      (if makes_own || was then 1 else 0) = ap
-      (λ (b : Bool). own_count (with_macro (named es) name v) + (if b then 1 else 0)) w
-      ∙ (total ∙ ap (λ (b : Bool). own_count (named es) + (if b then 1 else 0)) o) in
-      record {
-        counted =
-            is ∙ (ap (λ (n : ℕ). if makes_own && not was then n + 1 else n) kept.counted
-            ∙ (count_cases makes_own was _ _ before ∙ ap own_count (sym placed)));
-        short =
-            subst (λ (t : Table). All HasShortBody (values_of t)) (sym placed)
-            (All-values-insert_entry (slice_cmp nat_cmp) name v HasShortBody (named es) kept.short short);
-        marked =
-            subst (λ (t : Table). All (λ (n : List ℕ). has_mark marks' n ≡ true) (keys_of t)) (sym placed)
-            (All-keys-insert_entry (slice_cmp nat_cmp) name v (λ (n : List ℕ). has_mark marks' n ≡ true) (named es)
-            (λ i d l. others (get_or (keys_of (named es)) i d) (kept.marked i d l)) here);
-      }
+pub kept_none : (es : List Entry) (marks : NameMarks) → es ≡ [] → IsKept (table_of es) 0 marks
+unfolding IsStrictlySortedBy
+kept_none es marks e =
+    subst (λ (x : List Entry). IsKept (table_of x) 0 marks) (sym e)
+    (record {
+      counted = refl;
+      short = λ i d l. absurd (omega (arith, l));
+      marked = λ i d l. absurd (omega (arith, l));
+      sorted = tt;
+    })
 
 -- the new table has the macro, and all others
 same_names : (a b : List ℕ) → bytes_eq a b ≡ true → a ≡ b

@@ -8,23 +8,13 @@ use Rattle.std.proofs.lemmas.Bool.Decides.{nat_tests}
 use Rattle.mt_token.specs.declared.token.Token.{Token}
 use Rattle.mt_macro.specs.declared.table.Macro.{Macro}
 use Rattle.mt_macro.specs.Table.{Table, macro_at}
-use Rattle.std.specs.Borrow.{Bor}
 use Rattle.mt_macro.specs.Limits.{max_tokens, max_steps}
 use Rattle.mt_macro.specs.Arguments.{Arguments, arguments, fill}
-use Rattle.mt_macro.specs.inner.Taking.{lent_tokens}
 use Rattle.mt_macro.specs.Expansion.{MacroStep, Done, Missing, Next, past, macro_step}
 use Rattle.mt_macro.specs.Expansion.{macro_step_at, replacement, Expansion, Expanded, OverBudget}
 use Rattle.mt_macro.specs.Expansion.{NoArgument, at_last, further, within_budget, run}
+use Rattle.mt_macro.specs.inner.Passing.{Plain}
 use Rattle.mt_macro.specs.inner.Replacing.{ExceedsBudget, FitsBudget}
-
-pub lent_length : (ts : List (Bor Token)) → length (lent_tokens ts) ≡ length ts
-lent_length [] = refl
-lent_length (t ∷ ts) = ap suc (lent_length ts)
-
--- tokens that name no macro
-abbrev pub Plain : Table → List Token → Type 0
-Plain table [] = Unit {0}
-Plain table (t ∷ ts) = (macro_at table t ≡ None) × Plain table ts
 
 plain_more : (table : Table) (ts : List Token) (t : Token) → Plain table ts → macro_at table t ≡ None
     → Plain table (ts ++ t ∷ [])
@@ -88,6 +78,21 @@ going_pass whole table left steps out out' rest rest' t g e f o = record {
       ∙ (sym (append_assoc out (t ∷ []) rest') ∙ ap (λ x. x ++ rest') (sym o)));
   plain = subst (Plain table) (sym o) (plain_more table out t g.plain f);
   small = omega (arith, g.small, ap length e, ap length o, length-append out (t ∷ []));
+  count = g.count;
+}
+
+plain_all : (table : Table) (ts us : List Token) → Plain table ts → Plain table us → Plain table (ts ++ us)
+plain_all table [] us h k = k
+plain_all table (t ∷ ts) us h k = (h.0, plain_all table ts us h.1 k)
+
+pub going_plain : (whole : Expansion) (table : Table) (left steps : ℕ) (out out' rest rest' passed : List Token)
+    → Going whole table left steps out rest → rest ≡ passed ++ rest' → Plain table passed → out' ≡ out ++ passed
+    → Going whole table left steps out' rest'
+going_plain whole table left steps out out' rest rest' passed g e f o = record {
+  is = g.is ∙ ap (run table left steps) (ap (λ r. out ++ r) e
+      ∙ (sym (append_assoc out passed rest') ∙ ap (λ x. x ++ rest') (sym o)));
+  plain = subst (Plain table) (sym o) (plain_all table out passed g.plain f);
+  small = omega (arith, g.small, ap length e, ap length o, length-append out passed, length-append passed rest');
   count = g.count;
 }
 

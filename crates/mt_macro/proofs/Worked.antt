@@ -31,7 +31,7 @@ left_brace = record { kind = Char 123; start = 0; end = 0; ascii = omega arith }
 abbrev right_brace : Token
 right_brace = record { kind = Char 125; start = 0; end = 0; ascii = omega arith }
 
--- \x drops its argument, \y stands for itself
+-- \x drops its argument, \y stays as it is
 abbrev table : Table
 table =
     (codes "x", record { own = true; params = 1; body = [] }) ∷

@@ -33,7 +33,7 @@ abbrev pub preload : Table → List ℕ → ℕ → List Token → Result Table 
 preload table name params body = unless_fault (body_fault params body)
     (Ok (with_macro table name (record { own = is_own (macro_of table name); params = params; body = body })))
 
--- the result and the new table are this answer; want of memory comes only in place of a table
+-- the result and the new table are this answer; memory runs out only in place of a table
 abbrev pub Answers : Result (Unit {0}) MacroError → Table → Result Table MacroError → Type 0
 Answers (Ok done) new answer = answer ≡ Ok new
 Answers (Err OutOfMemory) new answer = IsOk answer

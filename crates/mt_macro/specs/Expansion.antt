@@ -74,7 +74,7 @@ expansion table list =
     if nat_lt max_tokens (length list) then ListTooLong
     else unless_unmatched (first_unmatched 0 list) (run table max_steps 0 list)
 
--- the error is that of this outcome, or want of memory
+-- the error is that of this outcome, or memory ran out
 abbrev pub IsErrorOf : ExpandError → Expansion → Type 0
 IsErrorOf (Budget steps n) o = o ≡ OverBudget steps n
 IsErrorOf (MissingArgument index) o = o ≡ NoArgument index
@@ -82,7 +82,7 @@ IsErrorOf (Unbalanced index) o = o ≡ NoPartner index
 IsErrorOf TooLong o = o ≡ ListTooLong
 IsErrorOf OutOfMemory o = Unit {0}
 
--- the result is this outcome, or want of memory
+-- the result is this outcome, or memory ran out
 abbrev pub Expands : Result (List Token) ExpandError → Expansion → Type 0
 Expands (Ok list) o = o ≡ Expanded list
 Expands (Err e) o = IsErrorOf e o

@@ -1,4 +1,4 @@
-//! Braces and their partners, in lists of items that stand for tokens.
+//! Braces and their partners, in lists of items that are read as tokens.
 ghost use Rattle.std.specs.Prelude.{ℕ, take, drop, MatchOption, Some, None, ◌≡◌, ◌<◌, ◌≤◌, ◌+◌, ◌^◌, ◌==◌, ◌&&◌, length, map, if◌then◌else◌};
 ghost use Rattle.std.specs.Prelude.{IfSome};
 ghost use Rattle.mt_macro.specs.Braces.{is_open, is_close, level_after, group, first_unmatched};

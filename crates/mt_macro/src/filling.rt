@@ -1,71 +1,49 @@
 //! A body with arguments in place of its parameters.
-ghost use Rattle.std.specs.Prelude.{◌≡◌, ◌<◌, ◌≤◌, ◌+◌, ◌-◌, ◌^◌, ◌++◌, [], IfOk, IfSome, OnOk, IsTrue};
-ghost use Rattle.std.specs.Prelude.{MatchOption, length, All, get_or};
+ghost use Rattle.std.specs.Prelude.{◌≡◌, ◌<◌, ◌≤◌, ◌+◌, ◌-◌, ◌^◌, ◌++◌, IsTrue, IfSome, OnOk, [], length, map, get_or};
 ghost use Rattle.mt_token.specs.Character.{character_code};
-ghost use Rattle.mt_macro.specs.Arguments.{fill};
+ghost use Rattle.mt_macro.specs.inner.Bodies.{begins_parameter, has_no_token, next_parameter};
 ghost use Rattle.mt_macro.specs.inner.Ends.{joined};
-ghost use Rattle.mt_macro.specs.inner.Bodies.{begins_parameter, next_parameter, IsPlain, BeginsWith};
-ghost use Rattle.mt_macro.specs.inner.Taking.{IsShortArgument};
+ghost use Rattle.mt_macro.specs.inner.Runs.{sources, meanings, left_of, part, all_tokens, AreGiven, AreShort, AreRuns, AreLeft};
+ghost use Rattle.mt_macro.specs.inner.Fillings.{Fills, Puts};
 
-use crate::argument::Argument;
-use crate::own::is_hash;
-use crate::pieces::Piece;
-use crate::spare::SpareLists;
-use mt_token::{Token, character_code};
+use crate::bodies::Bodies;
+use crate::parameters::is_hash;
+use crate::run::{Place, Run};
+use crate::stack::{Parts, Rest, item_at, items_in};
+use mt_token::Lexicon;
 use std::alloc::AllocError;
 
 // The index of a parameter's argument, by its digit.
-fn index_of(digit: &Token) -> usize
-    ensures { result ≡ character_code digit.now.kind - 49 }
+fn index_of<T, L: Lexicon<T>>(tables: &L, digit: &T) -> usize
+    ensures { result ≡ character_code (L.token tables.now digit.now).kind - 49 }
 {
-    usize::from(character_code(digit).saturating_sub(b'1'))
+    usize::from(tables.code(digit).saturating_sub(b'1'))
 }
 
-// How many tokens a parameter's argument has, 0 where there is none.
-fn argument_len(arguments: &[Argument], digit: &Token) -> usize
-    requires { All IsShortArgument arguments.now }
-    ensures is { result ≡ length (get_or arguments.now (character_code digit.now.kind - 49) []) }
-    ensures short { result < 2 ^ 31 }
+// Whether there are no items.
+fn has_none<T, L: Lexicon<T>>(tables: &L, items: &[T]) -> bool
+    ensures is { result ≡ has_no_token (map (L.token tables.now) items.now) }
 {
-    match arguments.get(index_of(digit)) {
-        Some(argument) => argument.len(),
-        None => 0,
-    }
+    items.is_empty()
 }
 
-/// How many tokens a body has with arguments in place of its parameters.
-pub fn fill_len(body: &[Token], arguments: &[Argument]) -> u64
-    requires body { length body.now ≤ 2 ^ 32 }
-    requires arguments { All IsShortArgument arguments.now }
-    ensures is { result ≡ length (fill arguments.now body.now) }
-    ensures small { result ≤ 2 ^ 63 }
+// Whether an item is a `#` before another item.
+fn begins_parameter<T, L: Lexicon<T>>(tables: &L, item: &T, after: &[T]) -> bool
+    ensures { result ≡ begins_parameter (L.token tables.now item.now)
+        (map (L.token tables.now) after.now) }
 {
-    let mut count = 0;
-    let mut rest = body;
-    loop {
-        match rest {
-            [hash, digit, after @ ..] if is_hash(hash) => {
-                count += argument_len(arguments, digit) as u64;
-                rest = after;
-            }
-            [_, after @ ..] => {
-                count += 1;
-                rest = after;
-            }
-            [] => return count,
-        }
-    }
+    is_hash(tables, item) && !has_none(tables, after)
 }
 
-// The index of the first `#` that a token follows.
-fn next_parameter(tokens: &[Token]) -> Option<usize>
-    ensures is { result ≡ next_parameter tokens.now }
-    ensures within { IfSome result (λ at. at + 1 < length tokens.now) }
+// The index of the first `#` that an item follows.
+fn next_parameter<T, L: Lexicon<T>>(tables: &L, items: &[T]) -> Option<usize>
+    ensures is { result ≡ next_parameter (map (L.token tables.now) items.now) }
+    ensures within { IfSome result (λ index. index + 1 < length items.now) }
 {
     let mut index = 0;
-    let mut rest = tokens;
-    while let [token, after @ ..] = rest {
-        if begins_parameter(token, after) {
+    let mut rest = items;
+    while let [item, after @ ..] = rest {
+        if begins_parameter(tables, item, after) {
             return Some(index);
         }
         index += 1;
@@ -74,81 +52,137 @@ fn next_parameter(tokens: &[Token]) -> Option<usize>
     None
 }
 
-// Whether a token is a `#` before another token.
-fn begins_parameter(token: &Token, after: &[Token]) -> bool
-    ensures is { result ≡ begins_parameter token.now after.now }
-    ensures more { IsTrue result → 0 < length after.now }
+/// Fills a list with the runs of a body with arguments in place of its parameters.
+pub fn fill<T, B: Bodies<T>>(
+    tables: &B,
+    list: &[T],
+    parts: &Parts,
+    number: usize,
+    taken: &[Run],
+    filled: &mut Rest,
+) -> Result<(), AllocError>
+    requires given { AreGiven (sources (B.token tables.now) (B.body tables.now) list.now)
+        (meanings (sources (B.token tables.now) (B.body tables.now) list.now) parts.now.runs.items)
+        taken.now }
+    requires short { AreShort taken.now }
+    ensures { OnOk result (Fills (sources (B.token tables.now) (B.body tables.now) list.now)
+        (meanings (sources (B.token tables.now) (B.body tables.now) list.now) parts.now.runs.items)
+        (B.body tables.now number) taken.now filled.new) }
 {
-    is_hash(token) && !after.is_empty()
-}
-
-// The first parameter of a body.
-#[derive(Clone, Copy)]
-struct Parameter<'a> {
-    // The tokens before its `#`.
-    before: &'a [Token],
-    digit: &'a Token,
-    // The tokens after its digit.
-    after: &'a [Token],
-}
-
-// The first parameter of a body, if it has one.
-fn first_parameter<'a>(body: &'a [Token]) -> Option<Parameter<'a>>
-    ensures is { MatchOption result (IsPlain body.now)
-        (λ p. BeginsWith body.now p.before.now p.digit.now p.after.now) }
-    ensures falls { IfSome result (λ p. length p.after.now < length body.now) }
-{
-    match next_parameter(body) {
-        Some(index) => Some(Parameter {
-            before: &body[..index],
-            digit: &body[index + 1],
-            after: &body[index + 2..],
-        }),
-        None => None,
+    filled.runs.clear();
+    filled.count = 0;
+    let body = tables.body(number);
+    let mut at = 0;
+    while let Some(index) = next_parameter(tables, items_in(body, at, body.len())) {
+        put_items(tables, list, parts, number, at, at + index, filled)?;
+        let digit = index_of(tables, item_at(body, at + index + 1));
+        put_given(tables, list, parts, taken, digit, filled)?;
+        at += index + 2;
     }
+    put_items(tables, list, parts, number, at, body.len(), filled)
 }
 
-/// The pieces of a body with arguments in place of its parameters.
-pub fn fill<'a>(
-    spare: &mut SpareLists<'a>,
-    body: &'a [Token],
-    arguments: &[Argument<'a>],
-) -> Result<Vec<Piece<'a>>, AllocError>
-    ensures { IfOk result (λ pieces. joined pieces.items ≡ fill arguments.now body.now) }
+// Puts items of a body at the end.
+fn put_items<T, B: Bodies<T>>(
+    tables: &B,
+    list: &[T],
+    parts: &Parts,
+    number: usize,
+    start: usize,
+    end: usize,
+    filled: &mut Rest,
+) -> Result<(), AllocError>
+    requires within { end ≤ length (B.body tables.now number) }
+    requires room { filled.old.count + (end - start) < 2 ^ 64 }
+    ensures { OnOk result (Puts (sources (B.token tables.now) (B.body tables.now) list.now)
+        (meanings (sources (B.token tables.now) (B.body tables.now) list.now) parts.now.runs.items)
+        filled.old filled.new (part start end (B.body tables.now number))) }
 {
-    let mut pieces = spare.take();
-    let mut rest = body;
-    while let Some(parameter) = first_parameter(rest) {
-        push_run(&mut pieces, parameter.before)?;
-        push_argument(&mut pieces, arguments, parameter.digit)?;
-        rest = parameter.after;
+    if start >= end {
+        return Ok(());
     }
-    push_run(&mut pieces, rest)?;
-    Ok(pieces)
+    filled.runs.push(Run {
+        place: Place::Body(number),
+        start,
+        end,
+    })?;
+    filled.count += end - start;
+    Ok(())
+}
+
+// The argument with an index.
+fn argument_at(taken: &[Run], index: usize) -> Run
+    requires { index < length taken.now }
+    ensures { result ≡ get_or taken.now index result }
+{
+    taken[index]
 }
 
 // Puts a parameter's argument at the end.
-fn push_argument<'a>(
-    pieces: &mut Vec<Piece<'a>>,
-    arguments: &[Argument<'a>],
-    digit: &Token,
+fn put_given<T, B: Bodies<T>>(
+    tables: &B,
+    list: &[T],
+    parts: &Parts,
+    taken: &[Run],
+    index: usize,
+    filled: &mut Rest,
 ) -> Result<(), AllocError>
-    ensures { OnOk result (joined pieces.new.items ≡ joined pieces.old.items
-        ++ get_or arguments.now (character_code digit.now.kind - 49) []) }
+    requires given { AreGiven (sources (B.token tables.now) (B.body tables.now) list.now)
+        (meanings (sources (B.token tables.now) (B.body tables.now) list.now) parts.now.runs.items)
+        taken.now }
+    requires short { AreShort taken.now }
+    requires room { filled.old.count < 2 ^ 63 + 2 ^ 62 }
+    ensures { OnOk result (Puts (sources (B.token tables.now) (B.body tables.now) list.now)
+        (meanings (sources (B.token tables.now) (B.body tables.now) list.now) parts.now.runs.items)
+        filled.old filled.new
+        (get_or (all_tokens (sources (B.token tables.now) (B.body tables.now) list.now)
+        (meanings (sources (B.token tables.now) (B.body tables.now) list.now) parts.now.runs.items)
+        taken.now) index [])) }
 {
-    match arguments.get(index_of(digit)) {
-        Some(argument) => argument.append_to(pieces),
-        None => Ok(()),
-    }
-}
-
-// Puts tokens of a body at the end, as one piece.
-fn push_run<'a>(pieces: &mut Vec<Piece<'a>>, run: &'a [Token]) -> Result<(), AllocError>
-    ensures { OnOk result (joined pieces.new.items ≡ joined pieces.old.items ++ run.now) }
-{
-    if run.is_empty() {
+    if index >= taken.len() {
         return Ok(());
     }
-    pieces.push(Piece::plain(run))?;
+    let run = argument_at(taken, index);
+    let count = run.len();
+    if count == 0 {
+        return Ok(());
+    }
+    filled.runs.push(run)?;
+    filled.count += count;
+    Ok(())
+}
+
+/// Puts runs, such as those of a filled body, before the rest.
+pub fn put_filled<T, B: Bodies<T>>(
+    tables: &B,
+    list: &[T],
+    parts: &Parts,
+    filled: &mut Rest,
+    rest: &mut Rest,
+) -> Result<(), AllocError>
+    requires left { AreLeft (sources (B.token tables.now) (B.body tables.now) list.now)
+        parts.now.runs.items rest.old }
+    requires runs { AreRuns (sources (B.token tables.now) (B.body tables.now) list.now)
+        (meanings (sources (B.token tables.now) (B.body tables.now) list.now) parts.now.runs.items)
+        filled.old.runs.items }
+    requires short { length (left_of (sources (B.token tables.now) (B.body tables.now) list.now)
+        parts.now.runs.items rest.old)
+        + length (joined (all_tokens (sources (B.token tables.now) (B.body tables.now) list.now)
+        (meanings (sources (B.token tables.now) (B.body tables.now) list.now) parts.now.runs.items)
+        filled.old.runs.items)) < 2 ^ 63 }
+    ensures left { OnOk result (AreLeft (sources (B.token tables.now) (B.body tables.now) list.now)
+        parts.now.runs.items rest.new) }
+    ensures is { OnOk result (left_of (sources (B.token tables.now) (B.body tables.now) list.now)
+        parts.now.runs.items rest.new
+        ≡ joined (all_tokens (sources (B.token tables.now) (B.body tables.now) list.now)
+        (meanings (sources (B.token tables.now) (B.body tables.now) list.now) parts.now.runs.items)
+        filled.old.runs.items)
+        ++ left_of (sources (B.token tables.now) (B.body tables.now) list.now) parts.now.runs.items
+        rest.old) }
+{
+    while let Some(run) = filled.runs.pop() {
+        rest.runs.push(run)?;
+        rest.count += run.len();
+    }
     Ok(())
 }

@@ -2,25 +2,26 @@
 //! chapter 20; tex.web part 25).
 #![tactic(auto)]
 
-mod argument;
 mod arguments;
+mod bodies;
 mod braces;
+mod closing;
 mod definition;
 mod ends;
+mod expander;
 mod expansion;
 mod filling;
-mod inputs;
-pub mod lists;
+pub mod items;
 mod name_marks;
 mod own;
 mod parameters;
-mod pieces;
-mod spare;
+mod parts;
+mod passing;
+mod run;
+mod stack;
 mod table;
 
 pub use definition::MacroError;
 pub use expansion::{ExpandError, expand, expands_to_itself};
-pub use own::{
-    OwnTokens, closes_none, closing_brace, first_bad_parameter, is_close, is_open, level_after,
-};
+pub use own::{closes_none, closing_brace, first_bad_parameter, is_close, is_open, level_after};
 pub use table::Macros;

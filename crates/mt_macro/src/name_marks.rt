@@ -1,22 +1,25 @@
-//! Marks of names, by which most names that were not put in are told without a look-up.
-ghost use Rattle.std.specs.Prelude.{◌≡◌, ◌<◌, ℕ, List, true, get_or};
-ghost use Rattle.mt_macro.specs.inner.Marks.{mark_of, has_mark};
+//! Marks of names, by which most names that were not put in are found without a look-up.
+ghost use Rattle.std.specs.Prelude.{◌≡◌, ◌<◌, ℕ, List, true};
+ghost use Rattle.mt_macro.specs.inner.Marks.{mark_count, mark_of, has_mark};
 
-/// How many marks there are.
-const MARKS: usize = 256;
+use mt_token::name_hash;
+
+/// How many marks there are. With so many, most names of formulas that are no macros of plain TeX
+/// have a mark that none of its macros has.
+const MARK_COUNT: usize = 512;
 
 /// A mark for each name that was put in; names may share one. A name without its mark was not put
 /// in.
 #[derive(Debug, Drop)]
 pub struct NameMarks {
-    marks: [bool; MARKS],
+    marks: [bool; MARK_COUNT],
 }
 
 impl NameMarks {
     /// No marks.
     pub fn none() -> NameMarks {
         NameMarks {
-            marks: [false; MARKS],
+            marks: [false; MARK_COUNT],
         }
     }
 
@@ -37,22 +40,10 @@ impl NameMarks {
     }
 }
 
-// A byte of a name, 0 past its end.
-fn byte_at(name: &[u8], index: usize) -> usize
-    ensures is { result ≡ get_or name.now index 0 }
-    ensures small { result < 256 }
-{
-    match name.get(index) {
-        Some(byte) => usize::from(*byte),
-        None => 0,
-    }
-}
-
-// The mark of a name, by its first two bytes and its length. With these factors most names of
-// formulas that are no macros of plain TeX have a mark that none of its macros has.
+// The mark of a name.
 fn mark_of(name: &[u8]) -> usize
     ensures is { result ≡ mark_of name.now }
-    ensures small { result < 256 }
+    ensures small { result < mark_count }
 {
-    (29 * byte_at(name, 0) + 3 * byte_at(name, 1) + 11 * name.len().min(31)) % MARKS
+    name_hash(name) % MARK_COUNT
 }

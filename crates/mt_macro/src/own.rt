@@ -1,33 +1,11 @@
-//! Tokens, each of which stands for itself.
+//! Braces and parameters in lists of tokens, each of which is read as itself.
 ghost use Rattle.std.specs.Prelude.{◌≡◌, ◌<◌, ◌≤◌, ℕ, ◌+◌, ◌^◌, ◌==◌, ◌&&◌, length, take, drop};
 ghost use Rattle.std.specs.Prelude.{None, Some, IfSome, MatchOption};
-ghost use Rattle.mt_token.specs.Character.{character_code};
-ghost use Rattle.mt_token.specs.Spaces.{is_space};
 ghost use Rattle.mt_macro.specs.Braces.{is_open, is_close, level_after, group, first_unmatched};
-ghost use Rattle.mt_macro.specs.Parameters.{is_hash, first_bad_parameter};
+ghost use Rattle.mt_macro.specs.Parameters.{first_bad_parameter};
 
 use crate::{braces, parameters};
-use mt_token::{LentKind, Lexicon, Token, character_code, is_space};
-
-/// A lexicon for lists of tokens: each token stands for itself.
-#[derive(Clone, Copy, Debug)]
-pub struct OwnTokens;
-
-impl Lexicon<Token> for OwnTokens {
-    ghost token = { λ _ t. t };
-
-    fn lent<'a>(&'a self, item: &'a Token) -> LentKind<'a> {
-        item.kind.lent()
-    }
-
-    fn code(&self, item: &Token) -> u8 {
-        character_code(item)
-    }
-
-    fn is_blank(&self, item: &Token) -> bool {
-        is_space(item)
-    }
-}
+use mt_token::{OwnTokens, Token};
 
 /// Whether a token opens a group.
 pub fn is_open(token: &Token) -> bool
@@ -65,13 +43,6 @@ pub(crate) fn first_unmatched(list: &[Token]) -> Option<usize>
     ensures within { IfSome result (λ index. index < length list.now) }
 {
     braces::first_unmatched(&OwnTokens, list)
-}
-
-/// Whether a token is `#`.
-pub(crate) fn is_hash(token: &Token) -> bool
-    ensures { result ≡ is_hash token.now }
-{
-    parameters::is_hash(&OwnTokens, token)
 }
 
 /// The index of the `}` that closes a group, of which the `{` is before the tokens.

@@ -11,7 +11,7 @@ pub fn is_hash<T, L: Lexicon<T>>(tables: &L, token: &T) -> bool
     tables.code(token) == b'#'
 }
 
-// Whether a digit from 1 to the number of parameters stands in front.
+// Whether a digit from 1 to the number of parameters is in front.
 fn begins_with_parameter<T, L: Lexicon<T>>(tables: &L, params: u8, rest: &[T]) -> bool
     ensures { result ≡ begins_with_parameter params (map (L.token tables.now) rest.now) }
 {

@@ -1,27 +1,31 @@
 //! The macros by their names.
-ghost use Rattle.std.specs.Prelude.{◌≡◌, ◌≤◌, ◌^◌, ◌<◌, ◌+◌, ◌||◌, ◌&&◌, not, [], true, false, length};
-ghost use Rattle.std.specs.Prelude.{if◌then◌else◌, IfOk, IfSome, OnOk, OnErr};
-ghost use Rattle.std.specs.Option.{option_copied};
+ghost use Rattle.std.specs.Prelude.{◌≡◌, ◌≤◌, ◌^◌, ◌<◌, ◌+◌, ◌||◌, ◌&&◌, not, [], true, false, None, length};
+ghost use Rattle.std.specs.Prelude.{if◌then◌else◌, MatchOption, IfOk, IfErr, OnOk, OnErr};
+ghost use Rattle.std.specs.Map.{keys_of};
+ghost use Rattle.std.specs.List.Sorted.{IsStrictlySortedBy};
+ghost use Rattle.std.specs.Cmp.Lexicographic.{slice_cmp};
+ghost use Rattle.std.specs.Ordering.{nat_cmp};
 ghost use Rattle.mt_macro.specs.Limits.{max_own_names};
-ghost use Rattle.mt_macro.specs.Table.{macro_of, macro_at, is_own, own_count, with_macro};
-ghost use Rattle.mt_macro.specs.inner.Kept.{HasShortBody};
-ghost use Rattle.mt_macro.specs.inner.Naming.{names_macro};
+ghost use Rattle.mt_macro.specs.Table.{macro_of, is_own, own_count, with_macro};
+ghost use Rattle.mt_macro.specs.inner.Entries.{table_of, body_at, HasAt, IsPlace};
+ghost use Rattle.mt_macro.specs.inner.Naming.{IsMacro};
 
+use crate::bodies::{Bodies, Found};
 use crate::name_marks::NameMarks;
 use mt_scaled::Name;
-use mt_token::{Token, TokenKind, TokenList};
+use mt_token::{LentKind, Lexicon, OwnTokens, Token, TokenKind, TokenList};
 use std::alloc::{AllocError, Global};
-use std::collections::BTreeMap;
+use std::cmp::Ordering;
 use std::marker::Model;
 
-/// What a name stands for.
+/// What a name is replaced by, where it is the name of a macro.
 #[derive(Debug, Drop)]
 pub struct Macro {
     /// Whether the name is the user's own.
     pub own: bool,
     /// The number of parameters.
     pub params: u8,
-    /// The tokens that it is replaced by, in which `#` and a digit stand for a parameter.
+    /// The tokens that it is replaced by, in which `#` and a digit are a parameter.
     pub body: TokenList,
 }
 
@@ -32,23 +36,28 @@ pub struct Macro {
 #[derive(Debug, Drop)]
 pub struct Macros {
     alloc: Global,
-    by_name: BTreeMap<Vec<u8>, Macro>,
+    entries: Vec<Entry>,
     own_names: usize,
     marks: NameMarks,
-    has_parameters: bool,
+}
+
+/// A name and its macro.
+#[derive(Debug, Drop)]
+struct Entry {
+    name: Name,
+    meaning: Macro,
 }
 
 impl Model for Macros {
-    ghost use Rattle.std.specs.Prelude.{map};
     ghost use Rattle.mt_macro.specs.Table.{Table};
     ghost use Rattle.mt_macro.specs.inner.Kept.{IsKept};
+    ghost use Rattle.mt_macro.specs.inner.Entries.{table_of};
 
     ghost Value = { Table };
 
-    ghost view = { λ m. map (λ e. (e.0.items, e.1)) m.by_name.entries };
+    ghost view = { λ m. table_of m.entries.items };
 
-    ghost invariant = { λ m. IsKept (map (λ e. (e.0.items, e.1)) m.by_name.entries) m.own_names
-        m.marks };
+    ghost invariant = { λ m. IsKept (table_of m.entries.items) m.own_names m.marks };
 }
 
 impl Macros {
@@ -58,48 +67,47 @@ impl Macros {
     {
         Macros {
             alloc,
-            by_name: BTreeMap::new(alloc),
+            entries: Vec::new(alloc),
             own_names: 0,
             marks: NameMarks::none(),
-            has_parameters: false,
         }
     }
 
-    /// The macro of a name.
-    pub(crate) fn macro_of(&self, name: &[u8]) -> Option<&Macro>
-        ensures is { option_copied result ≡ macro_of self.now name.now }
-        ensures short { IfSome result (λ m. HasShortBody m.now) }
+    // The place of a name among the entries, where it is there.
+    fn place_of(&self, name: &[u8]) -> Option<usize>
+        ensures { MatchOption result (macro_of self.now name.now ≡ None)
+            (λ i. HasAt self.now i (macro_of self.now name.now)) }
     {
         if !self.marks.has(name) {
             return None;
         }
-        self.by_name.get(name)
-    }
-
-    /// The macro that a token names.
-    pub(crate) fn macro_at(&self, token: &Token) -> Option<&Macro>
-        ensures is { option_copied result ≡ macro_at self.now token.now }
-        ensures short { IfSome result (λ m. HasShortBody m.now) }
-    {
-        match &token.kind {
-            TokenKind::Control(name) => self.macro_of(name.as_slice()),
-            _ => None,
+        match search(self.entries.as_slice(), name) {
+            Ok(place) => Some(place),
+            Err(_) => None,
         }
     }
 
-    /// Whether a token names a macro.
-    pub(crate) fn names_macro(&self, token: &Token) -> bool
-        ensures { result ≡ names_macro self.now token.now }
+    // The macro of a name, by the place of its body.
+    fn found(&self, name: &[u8]) -> Option<Found>
+        ensures { MatchOption result (macro_of self.now name.now ≡ None)
+            (λ found. IsMacro (macro_of self.now name.now) found.params
+            (body_at self.now found.body)) }
     {
-        self.macro_at(token).is_some()
+        match self.place_of(name) {
+            Some(place) => Some(Found {
+                params: self.entries[place].meaning.params,
+                body: place,
+            }),
+            None => None,
+        }
     }
 
     /// Whether a name is the user's own.
     pub(crate) fn is_own(&self, name: &[u8]) -> bool
         ensures { result ≡ is_own (macro_of self.now name.now) }
     {
-        match self.macro_of(name) {
-            Some(found) => found.own,
+        match self.place_of(name) {
+            Some(place) => self.entries[place].meaning.own,
             None => false,
         }
     }
@@ -109,11 +117,6 @@ impl Macros {
         ensures { result ≡ own_count self.now }
     {
         self.own_names
-    }
-
-    /// Whether a macro with parameters was ever put in. Only the time of expansions depends on it.
-    pub(crate) fn has_parameters(&self) -> bool {
-        self.has_parameters
     }
 
     /// Puts a macro under a name, in place of an older one. The name is the user's own where this
@@ -137,18 +140,93 @@ impl Macros {
         ensures err { OnErr result (self.new ≡ self.old) }
     {
         let was_own = self.is_own(name.as_slice());
-        let key = Vec::from_slice(self.alloc, name.as_slice())?;
-        let entry = Macro {
+        let key = Name::from_slice(self.alloc, name.as_slice())?;
+        let meaning = Macro {
             own: either(makes_own, was_own),
             params,
             body: copy_body(self.alloc, body)?,
         };
-        self.by_name.insert(key, entry)?;
+        put_entry(&mut self.entries, key, meaning)?;
         self.own_names = own_names_after(self.own_names, makes_own, was_own);
         self.marks.add(name.as_slice());
-        self.has_parameters = either(self.has_parameters, params > 0);
         Ok(())
     }
+}
+
+impl Lexicon<Token> for Macros {
+    ghost token = { λ _ t. t };
+
+    fn lent<'a>(&'a self, item: &'a Token) -> LentKind<'a> {
+        OwnTokens.lent(item)
+    }
+
+    fn code(&self, item: &Token) -> u8 {
+        OwnTokens.code(item)
+    }
+
+    fn is_space(&self, item: &Token) -> bool {
+        OwnTokens.is_space(item)
+    }
+}
+
+impl Bodies<Token> for Macros {
+    ghost use Rattle.mt_macro.specs.inner.Entries.{body_at};
+
+    ghost macros = { λ m. m };
+
+    ghost body = { λ m n. body_at m n };
+
+    fn macro_at(&self, item: &Token) -> Option<Found> {
+        match &item.kind {
+            TokenKind::Control(name) => self.found(name.as_slice()),
+            _ => None,
+        }
+    }
+
+    fn body(&self, number: usize) -> &[Token] {
+        match self.entries.as_slice().get(number) {
+            Some(entry) => entry.meaning.body.as_slice(),
+            None => &[],
+        }
+    }
+
+    fn again(&self, alloc: Global, item: &Token) -> Result<Token, AllocError> {
+        item.copied(alloc)
+    }
+}
+
+// Where a name is among entries in the names' order, or where it would be put.
+fn search(entries: &[Entry], name: &[u8]) -> Result<usize, usize>
+    requires { IsStrictlySortedBy (slice_cmp nat_cmp) (keys_of (table_of entries.now)) }
+    ensures is { IsPlace (table_of entries.now) name.now result }
+    ensures within { IfOk result (λ i. i < length entries.now) }
+    ensures bound { IfErr result (λ i. i ≤ length entries.now) }
+{
+    let mut low = 0;
+    let mut high = entries.len();
+    while low < high {
+        let middle = low + (high - low) / 2;
+        match name.cmp(entries[middle].name.as_slice()) {
+            Ordering::Less => high = middle,
+            Ordering::Equal => return Ok(middle),
+            Ordering::Greater => low = middle + 1,
+        }
+    }
+    Err(low)
+}
+
+// Puts a macro under a name in place of an older one, or puts the name in its place.
+fn put_entry(entries: &mut Vec<Entry>, name: Name, meaning: Macro) -> Result<(), AllocError>
+    requires { IsStrictlySortedBy (slice_cmp nat_cmp) (keys_of (table_of entries.old.items)) }
+    ensures ok { OnOk result (table_of entries.new.items ≡ with_macro (table_of entries.old.items)
+        name meaning) }
+    ensures err { OnErr result (entries.new.items ≡ entries.old.items) }
+{
+    match search(entries.as_slice(), name.as_slice()) {
+        Ok(place) => entries[place].meaning = meaning,
+        Err(place) => entries.insert(place, Entry { name, meaning })?,
+    }
+    Ok(())
 }
 
 fn either(one: bool, other: bool) -> bool

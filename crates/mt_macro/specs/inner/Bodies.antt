@@ -1,11 +1,9 @@
 -- The parameters of a body.
-use Rattle.std.specs.Prelude.{◌≡◌, ℕ, ◌-◌, Bool, true, false, not, ◌&&◌, List, [], ◌∷◌, ◌++◌, get_or, Option, Some}
+use Rattle.std.specs.Prelude.{ℕ, Bool, true, false, not, ◌&&◌, List, [], ◌∷◌, Option, Some}
 use Rattle.std.specs.Prelude.{None, if◌then◌else◌}
 use Rattle.mt_token.specs.declared.token.Token.{Token}
 use Rattle.mt_macro.specs.Braces.{index_after_first}
-use Rattle.mt_token.specs.Character.{character_code}
 use Rattle.mt_macro.specs.Parameters.{is_hash}
-use Rattle.mt_macro.specs.Arguments.{fill}
 
 abbrev pub has_no_token : List Token → Bool
 has_no_token [] = true
@@ -19,13 +17,3 @@ begins_parameter t rest = is_hash t && not (has_no_token rest)
 abbrev pub next_parameter : List Token → Option ℕ
 next_parameter [] = None
 next_parameter (t ∷ rest) = if begins_parameter t rest then Some 0 else index_after_first (next_parameter rest)
-
--- a body without parameters
-abbrev pub IsPlain : List Token → Type 0
-IsPlain body = (arguments : List (List Token)) → fill arguments body ≡ body
-
--- a body begins with these tokens and a parameter of this digit, and these tokens follow
-abbrev pub BeginsWith : List Token → List Token → Token → List Token → Type 0
-BeginsWith body before digit after =
-    (arguments : List (List Token))
-    → fill arguments body ≡ before ++ (get_or arguments (character_code digit.kind - 49) [] ++ fill arguments after)

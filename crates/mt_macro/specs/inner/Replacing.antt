@@ -1,12 +1,18 @@
 -- What became of a macro and its arguments in a step.
-use Rattle.std.specs.Prelude.{◌≡◌, ℕ, ◌+◌, ◌<◌, ◌≤◌, List, length}
+use Rattle.std.specs.Prelude.{◌≡◌, ℕ, ◌+◌, ◌<◌, ◌≤◌, List, length, Result, Ok, Err}
 use Rattle.mt_token.specs.declared.token.Token.{Token}
 use Rattle.mt_macro.specs.Limits.{max_tokens}
-use Rattle.mt_macro.specs.Expansion.{MacroStep, Missing, Next}
-use Rattle.mt_macro.specs.declared.expansion.Replacement.{Replacement}
-use Rattle.mt_macro.specs.declared.expansion.Replacement.TheVariants.{NoArgument, TooLong, Done}
+use Rattle.mt_macro.specs.Arguments.{arguments}
+use Rattle.mt_macro.specs.Expansion.{MacroStep, Missing, Next, Expansion, Expanded, replacement, IsErrorOf}
+use Rattle.mt_macro.specs.declared.expansion.ExpandError.{ExpandError}
+use Rattle.mt_macro.specs.declared.table.Macro.{Macro}
+use Rattle.mt_macro.specs.declared.run.Run.{Run}
+use Rattle.mt_macro.specs.declared.stack.Rest.{Rest}
+use Rattle.mt_macro.specs.declared.expander.Replacement.{Replacement}
+use Rattle.mt_macro.specs.declared.expander.Replacement.TheVariants.{NoArgument, TooLong, Done}
+use Rattle.mt_macro.specs.inner.Runs.{Sources, left_of, AreLeft}
 
--- a step makes the list n tokens long, more than max_tokens, where so many tokens stand before the macro
+-- a step makes the list n tokens long, more than max_tokens, where so many tokens are before the macro
 pub record ExceedsBudget (passed n : ℕ) (s : MacroStep) : Type 0 where
   pub list : List Token
   pub is : s ≡ Next list
@@ -18,8 +24,24 @@ pub record FitsBudget (passed : ℕ) (s : MacroStep) (after : List Token) : Type
   pub is : s ≡ Next after
   pub few : passed + length after ≤ max_tokens
 
--- what became of a macro is what the step makes of it, where so many tokens stand before it
-abbrev pub Replaces : ℕ → Replacement → MacroStep → List Token → Type 0
-Replaces passed NoArgument s after = s ≡ Missing 0
-Replaces passed (TooLong n) s after = ExceedsBudget passed n s
-Replaces passed Done s after = FitsBudget passed s after
+-- what became of a macro is what the step makes of it, where so many tokens are before it
+abbrev pub ReplacesBy : ℕ → Replacement → MacroStep → List Token → Type 0
+ReplacesBy passed NoArgument s after = s ≡ Missing 0
+ReplacesBy passed (TooLong n) s after = ExceedsBudget passed n s
+ReplacesBy passed Done s after = FitsBudget passed s after
+
+-- after a step that was done there are tokens left
+abbrev pub AreLeftAfter : Replacement → Sources → List Run → Rest → Type 0
+AreLeftAfter NoArgument src parts rest = Unit {0}
+AreLeftAfter (TooLong n) src parts rest = Unit {0}
+AreLeftAfter Done src parts rest = AreLeft src parts rest
+
+-- the same of each macro with so many parameters and this body, where these tokens follow it
+pub record Replaces (passed : ℕ) (r : Replacement) (params : ℕ) (body before : List Token) (src : Sources) (parts : List Run) (rest : Rest) : Type 0 where
+  pub is : (m : Macro) → m.params ≡ params → m.body ≡ body → ReplacesBy passed r (replacement m (arguments m.params before)) (left_of src parts rest)
+  pub below : AreLeftAfter r src parts rest
+
+-- the list, or the error, is this outcome, or memory ran out
+abbrev pub ExpandsTo : Result (Unit {0}) ExpandError → List Token → Expansion → Type 0
+ExpandsTo (Ok done) list o = o ≡ Expanded list
+ExpandsTo (Err e) list o = IsErrorOf e o

@@ -1,13 +1,8 @@
--- What is taken of the tokens that are left, and tokens that are lent.
-use Rattle.std.specs.Prelude.{◌≡◌, ◌<◌, ◌^◌, List, length, map, Option, Some, None}
-use Rattle.std.specs.Borrow.{Bor}
+-- What is taken of the tokens that are left.
+use Rattle.std.specs.Prelude.{◌≡◌, List, Option, Some, None}
 use Rattle.mt_token.specs.declared.token.Token.{Token}
 use Rattle.mt_macro.specs.Braces.{Taken}
 use Rattle.mt_macro.specs.Arguments.{Arguments}
-
--- the tokens that references lend
-abbrev pub lent_tokens : List (Bor Token) → List Token
-lent_tokens ts = map (λ (t : Bor Token). t.now) ts
 
 -- what was taken, if anything, is this argument, and these tokens are left after it
 abbrev pub Takes : Option (List Token) → Option Taken → List Token → Type 0
@@ -18,7 +13,3 @@ Takes (Some argument) expected after = expected ≡ Some (record { argument = ar
 abbrev pub TakesAll : Option (List (List Token)) → Option Arguments → List Token → Type 0
 TakesAll None expected after = expected ≡ None
 TakesAll (Some all) expected after = expected ≡ Some (record { arguments = all; after = after })
-
--- an argument that is short enough for the tokens of a filled body to be counted
-abbrev pub IsShortArgument : List Token → Type 0
-IsShortArgument argument = length argument < 2 ^ 31

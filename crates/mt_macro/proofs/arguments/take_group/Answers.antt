@@ -1,13 +1,17 @@
-use Rattle.std.proofs.Common.{ap, ◌∙◌, ◌++◌, List, []}
-use Rattle.mt_token.specs.declared.token.Token.{Token}
-use Rattle.mt_macro.proofs.Ending.{gathering_ends, gathering_none}
+use Rattle.std.proofs.Common.{arith}
+use Rattle.mt_macro.proofs.Gathers.{grouping_start, grouping_none, grouping_ends}
 use Rattle.mt_macro.proofs.arguments.take_group.Goals as goal
 
-pub returns-in-At-clause-takes : goal.returns-in-At-clause-takes
-returns-in-At-clause-takes c =
-    gathering_ends _ _ _ _ _ _ _ _ _ c.loop-piece.invariant c.in-Some.ensures.1 c.in-At.ensures
-    (c.in_ok-push-in-At.ensures ∙ ap (λ (q : List Token). c.loop-piece.inside ++ q) c.up_to.ensures)
-    (c.in_ok-put-in-At.ensures ∙ ap (λ (q : List Token). q ++ c.take_piece.new.self) c.from_index.ensures)
+pub loop-run-init : goal.loop-run-init
+loop-run-init g c = grouping_start _ _ _ _ c.requires.left (omega arith)
 
-pub returns-clause-takes : goal.returns-clause-takes
-returns-clause-takes c = gathering_none _ _ [] _ _ c.loop-piece.invariant c.in_default.ensures.0
+pub returns-in-At : goal.returns-in-At
+returns-in-At g c =
+    let v = rw c.in-Some.is at c.in_ok-run.ensures in
+    grouping_ends _ _ _ _ _ _ _ _ _ _ _ _ c.in-Some.run' _ c.loop-run.invariant v c.in-At.ensures c.in_ok-push_before-in-At.ensures
+    c.in_ok-put_from-in-At.ensures.left c.in_ok-put_from-in-At.ensures.is c.argument_of.ensures.one c.argument_of.ensures.more
+
+pub returns : goal.returns
+returns g c =
+    let v = rw c.in_default.is at c.in_ok-run.ensures in
+    grouping_none _ _ _ _ _ _ _ _ c.loop-run.invariant v

@@ -1,0 +1,210 @@
+//! The steps of an expansion, in memory that is kept.
+ghost use Rattle.std.specs.Prelude.{◌≡◌, ◌<◌, ◌≤◌, ◌+◌, ◌^◌, ◌++◌, ◌∷◌, [], IfOk, OnOk, Err, None, length, map};
+ghost use Rattle.mt_macro.specs.Limits.{max_steps, max_tokens};
+ghost use Rattle.mt_macro.specs.Braces.{first_unmatched};
+ghost use Rattle.mt_macro.specs.Expansion.{run, expansion};
+ghost use Rattle.mt_macro.specs.inner.Ends.{AreEnds};
+ghost use Rattle.mt_macro.specs.inner.Replacing.{Replaces, ExpandsTo};
+ghost use Rattle.mt_macro.specs.inner.Runs.{sources, meanings, left_of, all_tokens, AreRuns, AreLeft};
+ghost use Rattle.mt_macro.specs.declared.expansion.ExpandError.TheVariants.{OutOfMemory};
+
+use crate::arguments::take_arguments;
+use crate::bodies::{Bodies, Found};
+use crate::braces::first_unmatched;
+use crate::ends::known_ends;
+use crate::expansion::ExpandError;
+use crate::filling::{fill, put_filled};
+use crate::parts::bound_parts;
+use crate::passing::{pass_plain, push_again};
+use crate::run::{Place, Run};
+use crate::stack::{Parts, Rest, next_token};
+use std::alloc::{AllocError, Global};
+
+/// The greatest number of tokens that a list has, before and after each step.
+pub const MAX_TOKENS: usize = 50_000;
+
+/// The greatest number of steps.
+const MAX_STEPS: u32 = 20_000;
+
+/// The memory of expansions, which later ones take again.
+#[derive(Drop)]
+pub struct Expander {
+    alloc: Global,
+    parts: Parts,
+    rest: Rest,
+    taken: Vec<Run>,
+    filled: Rest,
+}
+
+// What became of a macro and its arguments.
+#[derive(Clone, Copy, Debug)]
+enum Replacement {
+    NoArgument,
+    TooLong(u64),
+    Done,
+}
+
+impl Expander {
+    /// Memory for no expansion yet; it is taken by this allocator.
+    pub fn new(alloc: Global) -> Expander {
+        Expander {
+            alloc,
+            parts: Parts {
+                runs: Vec::new(alloc),
+            },
+            rest: Rest {
+                runs: Vec::new(alloc),
+                count: 0,
+            },
+            taken: Vec::new(alloc),
+            filled: Rest {
+                runs: Vec::new(alloc),
+                count: 0,
+            },
+        }
+    }
+
+    /// The list in which no macro is left, put into `out` in place of what it has. Each step
+    /// replaces the leftmost macro, with its arguments, by its body (The TeXbook, chapter 20).
+    pub fn expand<T: Drop, B: Bodies<T>>(
+        &mut self,
+        tables: &B,
+        list: &[T],
+        out: &mut Vec<T>,
+    ) -> Result<(), ExpandError>
+        ensures is { ExpandsTo result (map (B.token tables.now) out.new.items)
+            (expansion (B.macros tables.now) (map (B.token tables.now) list.now)) }
+        ensures memory { result ≡ Err OutOfMemory
+            → (length list.now ≤ max_tokens)
+            × (first_unmatched 0 (map (B.token tables.now) list.now) ≡ None) }
+    {
+        if list.len() > MAX_TOKENS {
+            return Err(ExpandError::TooLong);
+        }
+        if let Some(index) = first_unmatched(tables, list) {
+            return Err(ExpandError::Unbalanced(index as u32));
+        }
+        let ends = known_ends(self.alloc, tables, list)?;
+        self.run_steps(tables, list, ends.as_slice(), out)
+    }
+
+    // The tokens that the steps leave.
+    fn run_steps<T: Drop, B: Bodies<T>>(
+        &mut self,
+        tables: &B,
+        list: &[T],
+        ends: &[u32],
+        out: &mut Vec<T>,
+    ) -> Result<(), ExpandError>
+        requires short { length list.now ≤ max_tokens }
+        requires ends { AreEnds (map (B.token tables.now) list.now) ends.now }
+        ensures { ExpandsTo result (map (B.token tables.now) out.new.items)
+            (run (B.macros tables.now) max_steps 0 (map (B.token tables.now) list.now)) }
+    {
+        out.clear();
+        out.reserve(list.len())?;
+        start(tables, list, &mut self.parts, &mut self.rest)?;
+        let mut steps = 0;
+        while let Some(one) = next_token(tables, list, &self.parts, &mut self.rest)? {
+            let Some(found) = tables.macro_at(one.item) else {
+                push_again(tables, self.alloc, one.item, out)?;
+                pass_plain(tables, self.alloc, list, &self.parts, &mut self.rest, out)?;
+                continue;
+            };
+            if steps == MAX_STEPS {
+                let length = (out.len() + self.rest.count + 1) as u64;
+                return Err(ExpandError::Budget { steps, length });
+            }
+            steps += 1;
+            match self.replace(tables, list, ends, found, out.len())? {
+                Replacement::NoArgument => {
+                    return Err(ExpandError::MissingArgument(out.len() as u32));
+                }
+                Replacement::TooLong(length) => return Err(ExpandError::Budget { steps, length }),
+                Replacement::Done => {}
+            }
+        }
+        Ok(())
+    }
+
+    // Puts the macro's body, with its arguments, before the rest, if these and what is passed are
+    // not too many tokens.
+    fn replace<T, B: Bodies<T>>(
+        &mut self,
+        tables: &B,
+        list: &[T],
+        ends: &[u32],
+        found: Found,
+        passed: usize,
+    ) -> Result<Replacement, AllocError>
+        requires ends { AreEnds (map (B.token tables.now) list.now) ends.now }
+        requires left { AreLeft (sources (B.token tables.now) (B.body tables.now) list.now)
+            self.old.parts.runs.items self.old.rest }
+        requires short { passed + length (left_of (sources (B.token tables.now) (B.body tables.now)
+            list.now) self.old.parts.runs.items self.old.rest) ≤ max_tokens }
+        ensures { IfOk result (λ r. Replaces passed r found.params (B.body tables.now found.body)
+            (left_of (sources (B.token tables.now) (B.body tables.now) list.now)
+            self.old.parts.runs.items self.old.rest)
+            (sources (B.token tables.now) (B.body tables.now) list.now) self.new.parts.runs.items
+            self.new.rest) }
+    {
+        let all = take_arguments(
+            tables,
+            list,
+            ends,
+            &mut self.parts,
+            &mut self.rest,
+            found.params,
+            &mut self.taken,
+        )?;
+        if !all {
+            return Ok(Replacement::NoArgument);
+        }
+        fill(
+            tables,
+            list,
+            &self.parts,
+            found.body,
+            self.taken.as_slice(),
+            &mut self.filled,
+        )?;
+        let length = (passed + self.rest.count) as u64 + self.filled.count as u64;
+        if length > MAX_TOKENS as u64 {
+            return Ok(Replacement::TooLong(length));
+        }
+        put_filled(tables, list, &self.parts, &mut self.filled, &mut self.rest)?;
+        bound_parts(
+            tables,
+            list,
+            &mut self.parts,
+            &mut self.rest,
+            &mut self.filled,
+        )?;
+        Ok(Replacement::Done)
+    }
+}
+
+// No parts, and the list given is left.
+fn start<T, B: Bodies<T>>(
+    tables: &B,
+    list: &[T],
+    parts: &mut Parts,
+    rest: &mut Rest,
+) -> Result<(), AllocError>
+    ensures left { OnOk result (AreLeft (sources (B.token tables.now) (B.body tables.now) list.now)
+        parts.new.runs.items rest.new) }
+    ensures is { OnOk result (left_of (sources (B.token tables.now) (B.body tables.now) list.now)
+        parts.new.runs.items rest.new ≡ map (B.token tables.now) list.now) }
+{
+    parts.runs.clear();
+    rest.runs.clear();
+    rest.count = list.len();
+    if !list.is_empty() {
+        rest.runs.push(Run {
+            place: Place::Given,
+            start: 0,
+            end: list.len(),
+        })?;
+    }
+    Ok(())
+}

@@ -1,0 +1,7 @@
+//! Braces and parameters in lists of items that are read as tokens: the calls of the same names at
+//! the top of the crate for whatever a [`mt_token::Lexicon`] knows.
+
+pub use crate::braces::{
+    closes_none, closing_brace, first_unmatched, is_close, is_open, level_after,
+};
+pub use crate::parameters::first_bad_parameter;
