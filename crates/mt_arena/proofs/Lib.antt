@@ -3,3 +3,5 @@ pub mod Putting
 pub mod Opening
 pub mod Making
 pub mod Leaving
+pub mod Rowing
+pub mod Equating

@@ -1,6 +1,6 @@
 -- The items of open lists, while lists are opened and closed and items come and go.
 use Rattle.std.proofs.Common.{◌≡◌, ℕ, ◌+◌, ◌-◌, ◌<◌, ◌≤◌, List, [], ◌∷◌, ◌++◌, length, map, take, drop, reverse, refl, sym, ap, ◌∙◌, arith, subst, length-append, Some, None, MatchOption}
-use Rattle.std.proofs.lemmas.List.{length-map, length_push, length-drop, length-take-le, reverse-append, take_all, drop_all, take-append-le, drop-append-le, append-nil}
+use Rattle.std.proofs.lemmas.List.{length-map, length_push, length-drop, length-take-le, reverse-append, take_all, drop_all, take-append-drop, take-append-le, drop-append-le, append-nil}
 use Rattle.std.specs.Prelude.{Option, IfSome, IfNone, option_to_list}
 use Rattle.mt_arena.specs.declared.thing.Thing.{Thing}
 use Rattle.mt_arena.specs.Arena.{Held, value_in, first_open, other_open}
@@ -95,6 +95,22 @@ pub empty_top : (hs : List Held) (ss : List ℕ) → length hs ≤ first_start s
 empty_top [] [] l = refl
 empty_top (h ∷ hs) [] l = absurd (omega (arith, l))
 empty_top hs (s ∷ ss) l = drop_all s hs l
+
+-- it has none only so
+pub only_empty : (hs : List Held) (ss : List ℕ) → top_in hs ss ≡ [] → length hs ≤ first_start ss
+only_empty hs [] e = omega (arith, ap length e)
+only_empty hs (s ∷ ss) e = omega (arith, ap length e, length-drop s hs)
+
+-- the items of the innermost list are behind those of the list round it
+pub joined_top : (hs : List Held) (ss : List ℕ) → Falls (length hs) ss → top_in hs (drop 1 ss) ≡ first_open (below_in hs ss) ++ top_in hs ss
+joined_top hs [] h = refl
+joined_top hs (s ∷ []) h = sym (take-append-drop s hs)
+joined_top hs (s ∷ r ∷ ss) h =
+    ap (drop r) (sym (take-append-drop s hs)) ∙ drop-append-le r (take s hs) (drop s hs) (omega (arith, h.1.0, length-take-le s hs h.0))
+
+pub joined_here : (f : Thing → Held) (ps : List Thing) (ss : List ℕ) → Falls (length ps) ss
+    → top_in (map f ps) (drop 1 ss) ≡ first_open (below_in (map f ps) ss) ++ top_in (map f ps) ss
+joined_here f ps ss h = joined_top (map f ps) ss (subst (λ n. Falls n ss) (sym (length-map ps f)) h)
 
 -- ---- a list is closed
 

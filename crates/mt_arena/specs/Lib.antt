@@ -6,3 +6,5 @@ pub mod Keeping
 pub mod Rest
 -- how the fields of an arena are seen: only the type cites it
 pub mod inner
+-- formulas in an arena
+pub mod Formulas

@@ -1,5 +1,5 @@
 //! The things of a formula's lists, one behind another.
-ghost use Rattle.std.specs.Prelude.{◌≡◌, reverse, ◌≤◌, ◌<◌, ◌++◌, ◌∷◌, [], Some, OnOk, OnErr, IfOk, IfSome, IfNone, length, take, drop, slice_get};
+ghost use Rattle.std.specs.Prelude.{◌≡◌, ◌↔◌, true, reverse, ◌≤◌, ◌<◌, ◌++◌, ◌∷◌, [], Some, OnOk, OnErr, IfOk, IfSome, IfNone, length, take, drop, slice_get};
 ghost use Rattle.mt_arena.specs.Arena.{empty_arena, first_open, other_open, held_in, value_in, thing_end};
 ghost use Rattle.mt_arena.specs.inner.Backward.{first_start};
 ghost use Rattle.mt_arena.specs.Keeping.{HeldLists, AllLists};
@@ -121,6 +121,23 @@ impl Arena {
         move_items(&mut self.things, &mut self.pending, start)?;
         drop_last(&mut self.starts);
         Ok(span)
+    }
+
+    /// Whether the innermost open list has no items.
+    pub fn is_open_list_empty(&self) -> bool
+        ensures { (result ≡ true) ↔ (self.now.top ≡ []) }
+    {
+        self.pending.len() <= last_start(&self.starts)
+    }
+
+    /// Puts the items of the innermost open list behind those of the list in which it was opened, which is then the
+    /// innermost one. Where no list was opened, nothing changes.
+    pub fn join(&mut self)
+        ensures top { self.new.top ≡ first_open self.old.below ++ self.old.top }
+        ensures below { self.new.below ≡ other_open self.old.below }
+        ensures closed { self.new.closed ≡ self.old.closed }
+    {
+        drop_last(&mut self.starts);
     }
 
     /// Adds a thing that is in no list, as a root, and answers its place. What it holds stands in the arena already.

@@ -201,8 +201,8 @@ fn put_grid(arena: &mut Arena, grid: &TableRows) -> Result<Span, AllocError>
     arena.close()
 }
 
-// Amounts in 32 bits. Larger ones, which no modest list has, are answered by want of memory.
-fn short_amount(amount: i64) -> Result<i32, AllocError>
+/// An amount in 32 bits. Of a larger one, which no modest list has, it is answered that memory ran out.
+pub fn short_amount(amount: i64) -> Result<i32, AllocError>
     ensures { IfOk result (λ a. a ≡ amount) }
 {
     match i32::try_from(amount) {
@@ -211,7 +211,8 @@ fn short_amount(amount: i64) -> Result<i32, AllocError>
     }
 }
 
-fn short_glue(glue: Glue) -> Result<ShortGlue, AllocError>
+/// A space in 32 bits, as [`short_amount`] has amounts.
+pub fn short_glue(glue: Glue) -> Result<ShortGlue, AllocError>
     ensures { IfOk result (λ g. glue_of g ≡ glue) }
 {
     let width = short_amount(glue.width)?;
@@ -219,7 +220,8 @@ fn short_glue(glue: Glue) -> Result<ShortGlue, AllocError>
     Ok(ShortGlue { width, shrink })
 }
 
-fn short_thickness(thickness: Option<i64>) -> Result<Option<i32>, AllocError>
+/// The thickness of a rule in 32 bits, as [`short_amount`] has amounts.
+pub fn short_thickness(thickness: Option<i64>) -> Result<Option<i32>, AllocError>
     ensures { IfOk result (λ t. t ≡ thickness) }
 {
     match thickness {

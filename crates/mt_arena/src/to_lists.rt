@@ -161,8 +161,9 @@ fn root_of(alloc: Global, arena: &Arena, thing: &Thing) -> Result<Field, AllocEr
     Ok(Field::Root(Box::new(alloc, root)?))
 }
 
+/// The rows of a span, with all lists inside them. Want of memory is the only error.
 #[cycle(make)]
-fn rows_of(alloc: Global, arena: &Arena, span: Span) -> Result<RowList, AllocError>
+pub fn rows_of(alloc: Global, arena: &Arena, span: Span) -> Result<RowList, AllocError>
     requires within { span.end ≤ length arena.now.closed }
     ensures { IfOk result (λ r. r ≡ rows_in arena.now.closed span) }
 {
