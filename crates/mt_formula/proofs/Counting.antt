@@ -12,10 +12,10 @@ use Rattle.mt_scan.specs.declared.role.Role.TheVariants.{CloseBrace, HboxWord}
 use Rattle.mt_scan.specs.Role.{role_of, is_middle}
 use Rattle.mt_scan.specs.Parts.{Read, Got, Fault, NoTurn, then_read, after_spaces}
 use Rattle.mt_scan.specs.Delimiters.{scan_delimiter}
-use Rattle.mt_formula.specs.declared.open.open_list.Ending.TheVariants.{AtRight, AtCell}
-use Rattle.mt_formula.specs.declared.open.table.Column.{Column}
-use Rattle.mt_formula.specs.declared.open.table.TableStep.{TableStep}
-use Rattle.mt_formula.specs.declared.open.table.TableStep.TheVariants.{NextCell, NextRow, Closes}
+use Rattle.mt_formula.specs.declared.reading.ends.Ending.TheVariants.{AtRight, AtCell}
+use Rattle.mt_formula.specs.declared.actions.table_form.Column.{Column}
+use Rattle.mt_formula.specs.declared.actions.table_form.TableStep.{TableStep}
+use Rattle.mt_formula.specs.declared.actions.table_form.TableStep.TheVariants.{NextCell, NextRow, Closes}
 use Rattle.mt_formula.specs.Atoms.{append}
 use Rattle.mt_formula.specs.Lists.{ItemRunReader, list, list_after}
 use Rattle.mt_formula.specs.Groups.{SegmentsReader, after_segment, segment_end, segments_from, segments}

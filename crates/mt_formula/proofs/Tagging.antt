@@ -13,8 +13,8 @@ use Rattle.mt_scan.specs.declared.role.Role.TheVariants.{FractionWord, DisplayWo
 use Rattle.mt_scan.specs.Role.{role_of}
 use Rattle.mt_scan.specs.Parts.{Read, Got, Fault, NoTurn, IsAnswered, then_read, after_blanks}
 use Rattle.mt_formula.specs.Atoms.{append}
-use Rattle.mt_formula.specs.declared.open.open_list.Ending.TheVariants.{AtEnd, AtNumber}
-use Rattle.mt_formula.specs.declared.open.open_list.FractionHead.{FractionHead}
+use Rattle.mt_formula.specs.declared.reading.ends.Ending.TheVariants.{AtEnd, AtNumber}
+use Rattle.mt_formula.specs.declared.reading.fraction.FractionHead.{FractionHead}
 use Rattle.mt_formula.specs.Lists.{ItemRun, ItemRunReader, fraction_list, fraction_head, list_end, denominator, after_item_run_at, after_item_run, list}
 use Rattle.mt_formula.specs.Displays.{display_rows}
 use Rattle.mt_formula.specs.Rules.{FormulaParts, item_run, is_at_left, with_tag, list_formula, display_at, display_here, formula}

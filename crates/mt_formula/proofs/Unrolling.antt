@@ -11,8 +11,8 @@ use Rattle.mt_formula.specs.Rules.{run_of, readers, item_run, formula}
 use Rattle.mt_formula.specs.Whole.{whole_readers, whole_rows, whole_cells}
 use Rattle.mt_formula.proofs.Below.{Below, below_refl, below_trans, RunsBelow, TailsBelow, ItemsBelow, tail_below, items_below, run_after_below, formula_below, readers_below}
 use Rattle.mt_scan.specs.declared.role.Preamble.{Preamble}
-use Rattle.mt_formula.specs.declared.open.open_list.Ending.TheVariants.{AtRight, AtCell}
-use Rattle.mt_formula.specs.declared.open.table.Column.{Column}
+use Rattle.mt_formula.specs.declared.reading.ends.Ending.TheVariants.{AtRight, AtCell}
+use Rattle.mt_formula.specs.declared.actions.table_form.Column.{Column}
 use Rattle.mt_formula.specs.Lists.{list, list_after}
 use Rattle.mt_formula.specs.Groups.{segment_end, segments}
 use Rattle.mt_formula.specs.Rows.{row, first_rows, later_rows, rows}

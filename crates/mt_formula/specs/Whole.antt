@@ -4,7 +4,7 @@ use Rattle.mt_token.specs.declared.token.Token.{Token}
 use Rattle.mt_scaled.specs.declared.unit.Units.{Units}
 use Rattle.mt_plain.specs.CodeTables.{CodeTables}
 use Rattle.mt_scan.specs.declared.role.Preamble.{Preamble}
-use Rattle.mt_formula.specs.declared.open.table.Column.{Column}
+use Rattle.mt_formula.specs.declared.actions.table_form.Column.{Column}
 use Rattle.mt_formula.specs.Atoms.{AtomValue}
 use Rattle.mt_formula.specs.Lists.{ItemRunReader}
 use Rattle.mt_formula.specs.Rows.{RowsReader, rows_from}

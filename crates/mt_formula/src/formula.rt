@@ -1,26 +1,35 @@
 //! Formulas.
-ghost use Rattle.std.specs.Prelude.{◌≡◌, ◌≤◌, ◌^◌, ◌+◌, ◌*◌, length, IfOk};
+ghost use Rattle.std.specs.Prelude.{◌≡◌, ◌≤◌, ◌^◌, ◌+◌, ◌*◌, None, length, IfOk, OnOk};
 ghost use Rattle.mt_scaled.specs.Number.{Within};
 ghost use Rattle.mt_macro.specs.Limits.{max_tokens};
+ghost use Rattle.mt_arena.specs.Arena.{Extends, sequence_in};
+ghost use Rattle.mt_arena.specs.Keeping.{KeptList};
 ghost use Rattle.mt_scan.specs.Parts.{Read, after_blanks, IsAnswered};
 ghost use Rattle.mt_formula.specs.Answers.{IsFault, ReadsAs};
 ghost use Rattle.mt_formula.specs.Counts.{body_rows, formula_items, IsModestFormula};
-ghost use Rattle.mt_formula.specs.Rules.{FormulaParts, is_at_left, body_ending};
 ghost use Rattle.mt_formula.specs.Formulas.{ReadFault, reading_of};
-ghost use Rattle.mt_formula.specs.Rules.{display_here, formula, list_formula};
 ghost use Rattle.mt_formula.specs.Formulas.{reading};
+ghost use Rattle.mt_formula.specs.Lists.{list};
+ghost use Rattle.mt_formula.specs.Rules.{FormulaParts, is_at_left, body_ending};
+ghost use Rattle.mt_formula.specs.Rules.{display_here, formula, list_formula};
 ghost use Rattle.mt_formula.specs.Tags.{IsTagPlaced};
-ghost use Rattle.mt_formula.specs.machine.Carried.{carried_run};
-ghost use Rattle.mt_formula.specs.machine.Reads.{HasFault, ReadsFormula};
+ghost use Rattle.mt_arena.specs.Formulas.{FormulaLists, formula_end, formula_in};
+ghost use Rattle.mt_formula.specs.reading.Formulas.{ReadsFormulaInto, ReadsWhole};
+ghost use Rattle.mt_formula.specs.reading.Reads.{ReadsInto, whole_run};
+ghost use Rattle.mt_formula.specs.reading.Stops.{HasFault};
 
-use crate::open::open_list::{Ending, Stop};
 use crate::read_error::ReadError;
-use crate::step::displays::read_display;
-use crate::step::reading::read_list;
+use crate::reading::context::{Grammar, Group};
+use crate::reading::displays::read_display;
+use crate::reading::ends::Ending;
+use crate::reading::list::read_list;
+use crate::reading::stop::Stop;
+use crate::reading::whole_list::span_of;
+use mt_arena::{Arena, Span, SpanBody, SpanFormula, SpanTag, formula_of};
 use mt_plain::Codes;
 use mt_rules::{Body, Tag};
 use mt_scaled::Units;
-use mt_scan::{ReadCause, Role, after_blanks, role_of};
+use mt_scan::{ReadCause, Role, Scanned, after_blanks, role_of};
 use mt_token::Token;
 use std::alloc::Global;
 
@@ -44,75 +53,92 @@ fn is_at_left(role: Role) -> bool
     }
 }
 
+// A list that ends so, with no group round it.
+fn read_outer<'a>(
+    arena: &mut Arena,
+    grammar: Grammar<'_>,
+    ending: Ending,
+    tokens: &'a [Token],
+) -> Result<Scanned<'a, Span>, Stop>
+    ensures is { ReadsInto sequence_in result arena.old arena.new (list grammar.entry.codes.now grammar.entry.units (whole_run grammar.entry.codes.now grammar.entry.units) ending 0 None tokens.now) }
+    ensures within { IfOk result (λ part. part.value.end ≤ length arena.new.closed) }
+    ensures lists { IfOk result (λ part. KeptList (sequence_in arena.new.closed part.value)) }
+{
+    let list = read_list(arena, grammar, Group::without_family(0), ending, tokens)?;
+    Ok(Scanned {
+        value: span_of(arena, list.value)?,
+        rest: list.rest,
+    })
+}
+
 // A list, and its number.
 fn list_parts(
-    alloc: Global,
-    codes: &Codes,
-    units: Units,
+    arena: &mut Arena,
+    grammar: Grammar<'_>,
     display: bool,
     tokens: &[Token],
-) -> Result<(Body, Option<Tag>), Stop>
-    requires em { Within (2 ^ 31) units.em }
-    requires ex { Within (2 ^ 31) units.ex }
-    ensures { ReadsFormula result
-        (list_formula codes.now units (carried_run codes.now units (length tokens.now + 1)) display tokens.now) }
+) -> Result<SpanFormula, Stop>
+    ensures is { ReadsWhole formula_in result arena.old arena.new (list_formula grammar.entry.codes.now grammar.entry.units (whole_run grammar.entry.codes.now grammar.entry.units) display tokens.now) }
+    ensures within { IfOk result (λ formula. formula_end formula ≤ length arena.new.closed) }
+    ensures lists { IfOk result (FormulaLists arena.new.closed) }
 {
-    let body = read_list(alloc, codes, units, body_ending(display), tokens)?;
+    let body = read_outer(arena, grammar, body_ending(display), tokens)?;
     match body.rest {
         [token, rest @ ..] => {
-            let side = read_list(alloc, codes, units, Ending::AtEnd, rest)?;
-            let left = is_at_left(role_of(codes, token));
-            let tag = Tag {
+            let side = read_outer(arena, grammar, Ending::AtEnd, rest)?;
+            let tag = SpanTag {
                 body: side.value,
-                left,
+                left: is_at_left(role_of(grammar.codes, token)),
             };
-            Ok((Body::List(body.value), Some(tag)))
+            Ok(SpanFormula {
+                body: SpanBody::List(body.value),
+                tag: Some(tag),
+            })
         }
-        [] => Ok((Body::List(body.value), None)),
+        [] => Ok(SpanFormula {
+            body: SpanBody::List(body.value),
+            tag: None,
+        }),
     }
 }
 
 // The body of a display, and its number.
 fn display_parts(
-    alloc: Global,
-    codes: &Codes,
-    units: Units,
+    arena: &mut Arena,
+    grammar: Grammar<'_>,
     tokens: &[Token],
-) -> Result<(Body, Option<Tag>), Stop>
-    requires em { Within (2 ^ 31) units.em }
-    requires ex { Within (2 ^ 31) units.ex }
-    ensures { ReadsFormula result (display_here codes.now units
-        (carried_run codes.now units (length tokens.now + 1)) tokens.now (after_blanks codes.now tokens.now)) }
+) -> Result<SpanFormula, Stop>
+    ensures is { ReadsWhole formula_in result arena.old arena.new (display_here grammar.entry.codes.now grammar.entry.units (whole_run grammar.entry.codes.now grammar.entry.units) tokens.now (after_blanks grammar.entry.codes.now tokens.now)) }
+    ensures within { IfOk result (λ formula. formula_end formula ≤ length arena.new.closed) }
+    ensures lists { IfOk result (FormulaLists arena.new.closed) }
 {
-    match after_blanks(codes, tokens) {
-        [token, rest @ ..] => match role_of(codes, token) {
+    match after_blanks(grammar.codes, tokens) {
+        [token, rest @ ..] => match role_of(grammar.codes, token) {
             Role::DisplayWord(preamble, left) => {
-                let body = read_display(alloc, codes, units, preamble, left, rest)?;
-                Ok((body, None))
+                let body = read_display(arena, grammar, preamble, left, rest)?;
+                Ok(SpanFormula { body, tag: None })
             }
-            _ => list_parts(alloc, codes, units, true, tokens),
+            _ => list_parts(arena, grammar, true, tokens),
         },
-        [] => list_parts(alloc, codes, units, true, tokens),
+        [] => list_parts(arena, grammar, true, tokens),
     }
 }
 
 // The body of a formula, and its number.
 fn formula_parts(
-    alloc: Global,
-    codes: &Codes,
-    units: Units,
+    arena: &mut Arena,
+    grammar: Grammar<'_>,
     display: bool,
     tokens: &[Token],
-) -> Result<(Body, Option<Tag>), Stop>
-    requires em { Within (2 ^ 31) units.em }
-    requires ex { Within (2 ^ 31) units.ex }
-    ensures { ReadsFormula result
-        (formula codes.now units (carried_run codes.now units (length tokens.now + 1)) display tokens.now) }
+) -> Result<SpanFormula, Stop>
+    ensures is { ReadsWhole formula_in result arena.old arena.new (formula grammar.entry.codes.now grammar.entry.units (whole_run grammar.entry.codes.now grammar.entry.units) display tokens.now) }
+    ensures within { IfOk result (λ formula. formula_end formula ≤ length arena.new.closed) }
+    ensures lists { IfOk result (FormulaLists arena.new.closed) }
 {
     if display {
-        display_parts(alloc, codes, units, tokens)
+        display_parts(arena, grammar, tokens)
     } else {
-        list_parts(alloc, codes, units, false, tokens)
+        list_parts(arena, grammar, false, tokens)
     }
 }
 
@@ -147,6 +173,40 @@ fn error_of(stop: Stop, count: usize) -> ReadError
     }
 }
 
+/// The body of a formula and its number, as of [`read_formula`], read into an arena: as spans of its closed lists. The
+/// lists that are closed before stay, and so do the open ones.
+///
+/// # Errors
+///
+/// Those of [`read_formula`]. What is in the arena after an error is not said.
+pub fn read_spans(
+    arena: &mut Arena,
+    codes: &Codes,
+    units: Units,
+    display: bool,
+    list: &[Token],
+) -> Result<SpanFormula, ReadError>
+    requires length { length list.now ≤ 2 ^ 31 }
+    requires em { Within (2 ^ 31) units.em }
+    requires ex { Within (2 ^ 31) units.ex }
+    ensures is { ReadsFormulaInto result arena.new (reading codes.now units display list.now) }
+    ensures front { OnOk result (Extends arena.old.closed arena.new.closed) }
+    ensures top { OnOk result (arena.new.top ≡ arena.old.top) }
+    ensures below { OnOk result (arena.new.below ≡ arena.old.below) }
+    ensures within { IfOk result (λ formula. formula_end formula ≤ length arena.new.closed) }
+    ensures lists { IfOk result (FormulaLists arena.new.closed) }
+    ensures items { IfOk result (λ formula. formula_items (formula_in arena.new.closed formula) ≤ 4 * length list.now + 8) }
+    ensures rows { IfOk result (λ formula. body_rows (formula_in arena.new.closed formula).0 ≤ length list.now) }
+    ensures modest { length list.now ≤ max_tokens → IfOk result (λ formula. IsModestFormula (formula_in arena.new.closed formula)) }
+    ensures tags { IfOk result (λ formula. IsTagPlaced display (formula_in arena.new.closed formula).0 (formula_in arena.new.closed formula).1) }
+{
+    let grammar = Grammar { codes, units };
+    match formula_parts(arena, grammar, display, list) {
+        Ok(formula) => Ok(formula),
+        Err(stop) => Err(error_of(stop, list.len())),
+    }
+}
+
 /// The body of a formula, and what is set at its side as its number (The TeXbook, chapters 17, 18, 19
 /// and 26). Only a display has such a number, given by `\eqno` or `\leqno`; a display of several lines
 /// has none, since its rows have their own.
@@ -173,8 +233,7 @@ pub fn read_formula(
     ensures modest { length list.now ≤ max_tokens → IfOk result IsModestFormula }
     ensures tags { IfOk result (λ formula. IsTagPlaced display formula.0 formula.1) }
 {
-    match formula_parts(alloc, codes, units, display, list) {
-        Ok(formula) => Ok(formula),
-        Err(stop) => Err(error_of(stop, list.len())),
-    }
+    let mut arena = Arena::new(alloc);
+    let formula = read_spans(&mut arena, codes, units, display, list)?;
+    Ok(formula_of(alloc, &arena, formula)?)
 }

@@ -1,14 +1,13 @@
 //! Formulas: tokens are read into math lists (The TeXbook, chapters 17, 18 and 26).
 #![tactic(auto)]
 
-mod forms;
+mod actions;
 mod formula;
 mod laws;
-mod open;
 mod read_error;
-mod step;
+mod reading;
 
-pub use formula::read_formula;
+pub use formula::{read_formula, read_spans};
 pub use laws::{
     parts_of_lists_count_no_turns, reading_counts_no_turns, tokens_are_a_formula_or_at_fault,
 };

@@ -23,7 +23,7 @@ use Rattle.mt_scan.specs.Numbers.{whole_number, math_code, delimiter_number}
 use Rattle.mt_scan.specs.Dimensions.{dimension, amount, glue}
 use Rattle.mt_scan.specs.Delimiters.{character_delimiter, scan_delimiter}
 use Rattle.mt_scan.specs.Symbols.{null_delim, delim_of, code_symbol}
-use Rattle.mt_formula.specs.declared.step.action.Action.TheVariants.{Prime as PrimeAction, Limits as LimitsAction}
+use Rattle.mt_formula.specs.declared.actions.action.Action.TheVariants.{Prime as PrimeAction, Limits as LimitsAction}
 use Rattle.mt_formula.specs.Atoms.{AtomValue, is_free, is_op}
 use Rattle.mt_formula.specs.Fields.{field_start_at, field_start_here, field_start}
 use Rattle.mt_formula.specs.Items.{nucleus_action, script_action, amount_action, left_action, pmatrix_action, big_action, action, action_here}

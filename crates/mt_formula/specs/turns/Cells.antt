@@ -7,9 +7,9 @@ use Rattle.mt_scan.specs.declared.role.Role.{Role}
 use Rattle.mt_scan.specs.declared.role.Role.TheVariants.{CloseBrace, Tab, CrWord}
 use Rattle.mt_scan.specs.Role.{role_of, is_close_brace}
 use Rattle.mt_scan.specs.Parts.{Got, after_spaces}
-use Rattle.mt_formula.specs.declared.open.table.Column.{Column}
-use Rattle.mt_formula.specs.declared.open.table.TableStep.{TableStep}
-use Rattle.mt_formula.specs.declared.open.table.TableStep.TheVariants.{NextRow, Closes}
+use Rattle.mt_formula.specs.declared.actions.table_form.Column.{Column}
+use Rattle.mt_formula.specs.declared.actions.table_form.TableStep.{TableStep}
+use Rattle.mt_formula.specs.declared.actions.table_form.TableStep.TheVariants.{NextRow, Closes}
 use Rattle.mt_formula.specs.Tables.{next_column, row_or_end, next_cell, after_cell_at, after_cell}
 use Rattle.mt_scan.specs.turns.Short.{Within, within_if, within_more, none, Shortens, spaces_short}
 

@@ -17,18 +17,18 @@ use Rattle.mt_scan.specs.Parts.{Read, ReadOr, Got, Fault, NoTurn, then_read, aft
 use Rattle.mt_scan.specs.Numbers.{whole_number, number_to}
 use Rattle.mt_scan.specs.Delimiters.{scan_delimiter}
 use Rattle.mt_formula.specs.Atoms.{AtomValue, append, element_of_atom, takes_scripts, root_atom, nucleus_atom, plain_atom, with_script, prime_atom, prime_items}
-use Rattle.mt_formula.specs.declared.open.open_list.Ending.{Ending}
-use Rattle.mt_formula.specs.declared.open.open_list.Ending.TheVariants.{AtEnd, AtBrace, AtRight, AtDollar, AtCell, AtOf}
-use Rattle.mt_formula.specs.declared.open.open_list.FractionHead.{FractionHead}
-use Rattle.mt_formula.specs.declared.open.table.TableForm.{TableForm}
-use Rattle.mt_formula.specs.declared.open.table.TableForm.TheVariants.{Spaced, Enclosed}
-use Rattle.mt_formula.specs.declared.open.table.Column.{Column}
-use Rattle.mt_formula.specs.declared.open.table.TableStep.{TableStep}
-use Rattle.mt_formula.specs.declared.open.table.TableStep.TheVariants.{NextCell, NextRow, Closes}
-use Rattle.mt_formula.specs.declared.step.action.FieldStart.{FieldStart}
-use Rattle.mt_formula.specs.declared.step.action.FieldStart.TheVariants.{Symbol as SymbolStart, Group as GroupStart}
-use Rattle.mt_formula.specs.declared.step.action.Action.{Action}
-use Rattle.mt_formula.specs.declared.step.action.Action.TheVariants.{Nothing, Atom, Script, Item, Family, Limits, Prime as PrimeAction, Rows as RowsAction, Group, ScriptGroup, LeftRight, Choice, Table, Big, Root, Stop}
+use Rattle.mt_formula.specs.declared.reading.ends.Ending.{Ending}
+use Rattle.mt_formula.specs.declared.reading.ends.Ending.TheVariants.{AtEnd, AtBrace, AtRight, AtDollar, AtCell, AtOf}
+use Rattle.mt_formula.specs.declared.reading.fraction.FractionHead.{FractionHead}
+use Rattle.mt_formula.specs.declared.actions.table_form.TableForm.{TableForm}
+use Rattle.mt_formula.specs.declared.actions.table_form.TableForm.TheVariants.{Spaced, Enclosed}
+use Rattle.mt_formula.specs.declared.actions.table_form.Column.{Column}
+use Rattle.mt_formula.specs.declared.actions.table_form.TableStep.{TableStep}
+use Rattle.mt_formula.specs.declared.actions.table_form.TableStep.TheVariants.{NextCell, NextRow, Closes}
+use Rattle.mt_formula.specs.declared.actions.action.FieldStart.{FieldStart}
+use Rattle.mt_formula.specs.declared.actions.action.FieldStart.TheVariants.{Symbol as SymbolStart, Group as GroupStart}
+use Rattle.mt_formula.specs.declared.actions.action.Action.{Action}
+use Rattle.mt_formula.specs.declared.actions.action.Action.TheVariants.{Nothing, Atom, Script, Item, Family, Limits, Prime as PrimeAction, Rows as RowsAction, Group, ScriptGroup, LeftRight, Choice, Table, Big, Root, Stop}
 use Rattle.mt_formula.specs.Lists.{then_give, ends_with_tokens, ends_at, misplaced_cause, ItemRun, items_before, ItemRunReader, fraction_list, fraction_head, list_end, denominator, after_item_run_at, after_item_run, list_after, list}
 use Rattle.mt_formula.specs.Groups.{group_list, brace_group, SegmentsReader, after_segment, segment_end, segments_from, segments}
 use Rattle.mt_formula.specs.Fields.{field_start}

@@ -15,10 +15,10 @@ use Rattle.mt_scan.specs.declared.role.Amount.{Amount}
 use Rattle.mt_scan.specs.declared.role.Amount.TheVariants.{MuSkip, MuKern, Skip, Kern}
 use Rattle.mt_scan.specs.declared.role.Role.{Role}
 use Rattle.mt_scan.specs.declared.role.Role.TheVariants.{Blank, MathCode, CharWord, DelimiterWord, Prime as PrimeRole, Script as ScriptRole, OpenBrace, Nucleus, RadicalWord, AccentWord, RootWord, BigWord, VcenterWord, HboxWord, TableWord, PmatrixWord, LeftWord, LimitsWord, ChoiceWord, AmountWord, ItemWord, FamilyWord, Unknown}
-use Rattle.mt_formula.specs.declared.step.action.FieldStart.{FieldStart}
-use Rattle.mt_formula.specs.declared.step.action.FieldStart.TheVariants.{Symbol as SymbolStart, Group as GroupStart}
-use Rattle.mt_formula.specs.declared.step.action.Action.{Action}
-use Rattle.mt_formula.specs.declared.step.action.Action.TheVariants.{Prime as PrimeAction, Limits as LimitsAction, Stop}
+use Rattle.mt_formula.specs.declared.actions.action.FieldStart.{FieldStart}
+use Rattle.mt_formula.specs.declared.actions.action.FieldStart.TheVariants.{Symbol as SymbolStart, Group as GroupStart}
+use Rattle.mt_formula.specs.declared.actions.action.Action.{Action}
+use Rattle.mt_formula.specs.declared.actions.action.Action.TheVariants.{Prime as PrimeAction, Limits as LimitsAction, Stop}
 use Rattle.mt_scan.specs.Role.{role_of, is_open_brace, is_left, is_pmatrix, is_root}
 use Rattle.mt_scan.specs.Parts.{Got, Fault, after_blanks, opening}
 use Rattle.mt_scan.specs.Numbers.{math_code, delimiter_number, whole_number}
