@@ -20,5 +20,5 @@ pub use fault::SetFault;
 pub use half::{Half, HalfList};
 pub use halfway::Halfway;
 pub use laws::turns_of_a_list_are_enough;
-pub use passes::{first_pass, set_list, set_list_on};
+pub use passes::{first_pass, set_list, set_span};
 pub use second::pass::second_pass;

@@ -47,11 +47,10 @@ use crate::set::parts::{
     accent, field_skew, fraction, root_of, skew_of, vcenter, veil, with_degree,
 };
 use crate::set::row::{test_row, tested};
-use crate::set::rows::{next_cells, next_row};
 use crate::set::scripts::{with_limits, with_scripts, without_scripts};
 use crate::set::settle::{Reach, finish};
 use crate::set::tables::{equations, has_column, matrix, push_count, table_strut};
-use mt_arena::{Arena, Cell, FractionNoad, Noad, Rest, Span};
+use mt_arena::{Arena, Cell, FractionNoad, Noad, Rest, Span, next_cells, next_row};
 use mt_family::FontSet;
 use mt_pieces::{Pieces, Scripts};
 use mt_rules::{Class, Delim, Kind, Look, Style, Symbol, in_points};

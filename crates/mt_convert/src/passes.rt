@@ -1,5 +1,7 @@
 //! The two passes over a math list (The TeXbook, Appendix G; tex.web, sections 719 to 767).
 ghost use Rattle.std.specs.Prelude.{◌≤◌, ◌*◌, ◌^◌, IfOk, OnOk, drop, length};
+ghost use Rattle.mt_arena.specs.Arena.{sequence_in};
+ghost use Rattle.mt_arena.specs.Keeping.{KeptList};
 ghost use Rattle.mt_box.specs.Rows.{piece_values};
 ghost use Rattle.mt_rules.specs.Modest.{IsModestList, list_nesting};
 ghost use Rattle.mt_convert.specs.Calls.{SetsHalves, SetsRow, SetsRowOn};
@@ -13,7 +15,7 @@ use crate::halfway::Halfway;
 use crate::list::{first_pass_on, set_span_on};
 use crate::set::clean::look_at_fonts;
 use crate::taking::halfway_of;
-use mt_arena::{Arena, put_list};
+use mt_arena::{Arena, Span, put_list};
 use mt_box::Row;
 use mt_family::FontSet;
 use mt_pieces::Pieces;
@@ -53,39 +55,41 @@ pub fn set_list(
 {
     let mut pieces = Pieces::with_capacity(alloc, ROOM)?;
     let mut arena = Arena::new(alloc);
-    set_list_on(&mut pieces, &mut arena, alloc, fonts, list, style)?;
+    let span = put_list(&mut arena, &list)?;
+    set_span(&mut pieces, alloc, fonts, &arena, span, style)?;
     Ok(pieces.take_row(alloc, 0)?)
 }
 
-/// The row of a math list in a style, as by [`set_list`], as pieces behind those that are there.
+/// The row of a math list of an arena in a style, as by [`set_list`], as pieces behind those that are there.
 ///
-/// The list is modest, as for [`set_list`]. What the arena has is dropped: its memory is used again.
+/// The list is modest, as for [`set_list`].
 ///
 /// # Errors
 ///
 /// Those of [`set_list`]. What pieces there are after an error is not said.
-pub fn set_list_on(
+pub fn set_span(
     pieces: &mut Pieces,
-    arena: &mut Arena,
     alloc: Global,
     fonts: &FontSet,
-    list: MathList,
+    arena: &Arena,
+    list: Span,
     style: Style,
 ) -> Result<(), SetFault>
-    requires modest { IsModestList list }
-    ensures is { SetsRowOn result pieces.old pieces.new (list_row fonts.now style list) }
+    requires within { list.end ≤ length arena.now.closed }
+    requires modest { IsModestList (sequence_in arena.now.closed list) }
+    requires lists { KeptList (sequence_in arena.now.closed list) }
+    ensures is { SetsRowOn result pieces.old pieces.new
+        (list_row fonts.now style (sequence_in arena.now.closed list)) }
     ensures few { OnOk result (length (drop (length pieces.old) pieces.new) ≤ 2 ^ 21) }
     ensures holds { OnOk result (RowHolds fonts.now (drop (length pieces.old) pieces.new)) }
 {
     look_at_fonts(fonts);
-    arena.clear();
-    let span = put_list(arena, &list)?;
     let context = Context {
         alloc,
         fonts,
         arena,
     };
-    set_span_on(pieces, context, span, style)
+    set_span_on(pieces, context, list, style)
 }
 
 /// The first pass over a math list in a style: its items set, with their final classes, and how far

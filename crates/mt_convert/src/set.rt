@@ -8,7 +8,6 @@ pub mod lengths;
 pub mod nucleus;
 pub mod parts;
 pub mod row;
-pub mod rows;
 pub mod scripts;
 pub mod settle;
 pub mod tables;

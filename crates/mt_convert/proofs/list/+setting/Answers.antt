@@ -703,7 +703,7 @@ set_rows-loop-list-init t c = (c.requires.within, rows_start c.args.context.font
 pub set_rows-pack_list-requires : goal.set_rows-pack_list-requires
 set_rows-pack_list-requires t c =
     let i = c.loop-list.invariant.1 in
-    (omega (arith, next_size _ _ _ _ _ _ _ _ _ i c.in-Some.ensures.is, c.decreases), record { within = c.in-Some.ensures.within; modest = next_row _ _ _ _ _ _ _ _ _ i c.in-Some.ensures.is; kept = c.in-Some.ensures.kept })
+    (omega (arith, next_size _ _ _ _ _ _ _ _ _ i c.in-Some.ensures.is, c.decreases), record { within = c.in-Some.ensures.within; modest = next_row _ _ _ _ _ _ _ _ _ i c.in-Some.ensures.is; kept = c.in-Some.ensures.lists })
 
 pub set_rows-returns-in_err-pack_list-clause-is : goal.set_rows-returns-in_err-pack_list-clause-is
 set_rows-returns-in_err-pack_list-clause-is t c =
