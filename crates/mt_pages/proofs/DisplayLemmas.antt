@@ -4,6 +4,11 @@ use Rattle.mt_pages.proofs.Common.{All-append, All-cons, All-head, All-nil, All-
 use Rattle.mt_box.specs.Extents.{first_out}
 use Rattle.mt_box.proofs.Still.{moved_have, pack_has}
 use Rattle.mt_rules.specs.declared.document.Equation.{Equation}
+use Rattle.mt_rules.specs.Sequence.{TableGrid, MoreTableRows}
+use Rattle.mt_arena.specs.Arena.{Held}
+use Rattle.mt_rules.specs.Equations.{equation_of, equations_of}
+use Rattle.mt_arena.specs.declared.equations.EquationSpans.{EquationSpans}
+use Rattle.mt_arena.specs.Formulas.{equation_in}
 use Rattle.mt_rules.specs.declared.style.Style.{Style}
 use Rattle.mt_rules.specs.Tables.{open_gap, open_places, rows_places}
 use Rattle.mt_convert.proofs.Behind.{rest_before, row_behind}
@@ -58,9 +63,9 @@ module _ {A R B : Type 0} (set : A → Result B Status) (view : R → B) (level 
       let h' : RowsSet set view level Q all [] made = subst (λ (xs : List A). RowsSet set view level Q all xs made) e h in
       h'.is
 
-pub lists_back : (rows : List Sequence) → lists_of (rows_of rows) ≡ rows
-lists_back [] = refl
-lists_back (list ∷ rows) = ap (λ (ls : List Sequence). list ∷ ls) (lists_back rows)
+-- the equation at hand, and the others
+pub equation_steps : (es : List Held) (grid rest : TableGrid) (cells : Rows) (e : EquationSpans) → grid ≡ MoreTableRows cells rest → equation_in es e ≡ equation_of cells → equations_of grid ≡ equation_in es e ∷ equations_of rest
+equation_steps es grid rest cells e g is = ap equations_of g ∙ ap (λ (x : Equation). x ∷ equations_of rest) (sym is)
 
 pub lists_few : (rows : Rows) → length (lists_of rows) ≡ rows_length rows
 lists_few NoRows = refl

@@ -1,7 +1,7 @@
 -- The lines of a formula on the stack of a page, and those of the formulas of a page.
-use Rattle.std.proofs.Common.{◌≡◌, ℕ, ℤ, pos, ◌+◌, ◌≤◌, ◌^◌, List, [], ◌∷◌, ◌++◌, length, refl, sym, ◌∙◌, ap, subst, arith, append_assoc, Bool, Option, Some, None, Result, Ok, Err, All}
+use Rattle.std.proofs.Common.{◌≡◌, ℕ, ℤ, pos, ◌+◌, ◌<◌, ◌≤◌, ◌^◌, List, [], ◌∷◌, ◌++◌, length, map, take, get_or, refl, sym, ◌∙◌, ap, subst, arith, append_assoc, Bool, Option, Some, None, Result, Ok, Err, All}
 use Rattle.mt_pages.proofs.Common.{append-nil, sum_by-append, sum_by-cons, All-append, All-map, All-nil, Within, ◌>>=◌, SetValue, sy, Text, PieceValue, pack, formula_weight, page_weight, Formula, D, T, Sequence, Setting, PlaceHolds, RowHolds, LineStack, NumberValue, display_lines, one_line, IsStack, line_boxes, LineValue, inline_lines, line_values, LineHas, NumberHas, display_has, inline_has, made_then, displayed_lines, formula_lines, formula_row, number_row, set_by, text_lines, PageLinesValue, no_lines, page_lines, with_formula_lines, IsPure, Status}
-use Rattle.std.proofs.lemmas.List.{length-append}
+use Rattle.std.proofs.lemmas.List.{length-append, take_more}
 use Rattle.mt_box.specs.Extents.{first_out}
 use Rattle.mt_rules.specs.declared.document.Tag.{Tag}
 use Rattle.mt_display.specs.declared.line.Line.{Line as LineFields}
@@ -102,11 +102,19 @@ laid_append set m n ls ms a b = record {
   hold = All-append (LineHas (PlaceHolds set)) ls ms a.hold b.hold;
 }
 
-pub shifts_small : (lines : PageLines) → IsStackable lines → All (λ s. Within (2 ^ 40) s) lines.workspace.lines.shifts.items
+pub shifts_small : (lines : PageLines) → IsStackable lines → All (λ s. Within (2 ^ 40) s) lines.stack.shifts.items
 shifts_small lines s = subst (λ (l : List ℤ). All (λ s. Within (2 ^ 40) s) l) (sym s.on.stack.shifts) (All-map (λ s. Within (2 ^ 40) s) (λ (l : LineValue). l.shift) s.page.lines s.shifts)
 
 weight_more : (fs : List Formula) (f : Formula) → page_weight (fs ++ f ∷ []) ≡ page_weight fs + formula_weight f
 weight_more fs f = omega (arith, sum_by-append formula_weight fs (f ∷ []), sum_by-cons formula_weight f [])
+
+map_push : {A : Type 0} (F : A → Formula) (xs : List A) (x : A) → map F (xs ++ x ∷ []) ≡ map F xs ++ F x ∷ []
+map_push F [] x = refl
+map_push F (y ∷ xs) x = ap (λ (fs : List Formula). F y ∷ fs) (map_push F xs x)
+
+-- one more of those that are taken
+pub lined_taken : {A : Type 0} (F : A → Formula) (xs : List A) (i : ℕ) (d : A) → i < length xs → map F (take (i + 1) xs) ≡ map F (take i xs) ++ F (get_or xs i d) ∷ []
+lined_taken F xs i d lt = ap (map F) (take_more xs i d lt) ∙ map_push F (take i xs) (get_or xs i d)
 
 -- the lines of the formulas so far, after which those of the others come
 pub record LinedSoFar (set : SetValue) (width : ℤ) (all left done : List Formula) (lines : PageLines) : Type 0 where

@@ -1,27 +1,28 @@
 //! The lines of a display of several lines (plain TeX's `\eqalignno`, `\leqalignno` and
 //! `\displaylines`).
 ghost use Rattle.std.specs.Prelude.{◌≡◌, ◌≤◌, ◌^◌, ◌++◌, ◌∷◌, [], List, length, IfOk, OnOk};
+ghost use Rattle.mt_arena.specs.Arena.{grid_in, rows_in, sequence_in};
 ghost use Rattle.mt_box.specs.Layout.{Layout};
 ghost use Rattle.mt_display.specs.LineStack.{IsStack};
 ghost use Rattle.mt_display.specs.Lines.{LineValue, line_values};
 ghost use Rattle.mt_rules.specs.DisplayRows.{EquationLayout};
-ghost use Rattle.mt_rules.specs.Modest.{IsModestList};
 ghost use Rattle.mt_formula.specs.Counts.{AreModestEquations, AreModestRows};
+ghost use Rattle.mt_rules.specs.Equations.{equations_of};
+ghost use Rattle.mt_arena.specs.Formulas.{equation_in};
 ghost use Rattle.mt_rules.specs.Sequence.{rows_length};
 ghost use Rattle.mt_pages.specs.FormulaLines.{equation_boxes, equations_lines, equations_set, formula_box};
 ghost use Rattle.mt_pages.specs.FormulaLines.{rows_lines, rows_set};
 ghost use Rattle.mt_pages.specs.LineWidth.{IsLineWidth};
 ghost use Rattle.mt_pages.specs.inner.Lines.{AreBoxes, AreEquations, BoxFits, BoxesFit, EquationFits, EquationsFit};
-ghost use Rattle.mt_pages.specs.inner.Lines.{IsBox, IsEquation, SetsLines};
+ghost use Rattle.mt_pages.specs.inner.Lines.{IsBox, IsEquation, IsModestSpan, SetsLines};
 
 use crate::formula_lines::{pack_refusal, put_row};
-use crate::workspace::Workspace;
-use mt_arena::Arena;
+use mt_arena::{Arena, EquationSpans, Span, equation_spans, next_cells, next_row};
 use mt_box::Packed;
 use mt_display::{EquationRow, EquationRows, LineStack, Lines, place_equations, place_rows};
 use mt_family::FontSet;
 use mt_pieces::Pieces;
-use mt_rules::{Equation, EquationList, MathList, PackedList, RowList, Style};
+use mt_rules::{PackedList, Style};
 use mt_scaled::Items;
 use mt_status::Status;
 use std::alloc::{AllocError, Global};
@@ -29,20 +30,20 @@ use std::alloc::{AllocError, Global};
 // A list of formula n as a box. The pieces stay as they are.
 fn formula_box(
     pieces: &mut Pieces,
-    arena: &mut Arena,
     alloc: Global,
     fonts: &FontSet,
+    arena: &Arena,
     n: u32,
     style: Style,
-    list: MathList,
+    list: Span,
 ) -> Result<Packed, Status>
-    requires modest { IsModestList list }
-    ensures is { IsBox (formula_box fonts.now n style list) result }
+    requires modest { IsModestSpan arena.now.closed list }
+    ensures is { IsBox (formula_box fonts.now n style (sequence_in arena.now.closed list)) result }
     ensures fits { IfOk result (BoxFits fonts.now) }
     ensures stay { OnOk result (pieces.new ≡ pieces.old) }
 {
     let first = pieces.len();
-    put_row(pieces, arena, alloc, fonts, n, style, list)?;
+    put_row(pieces, alloc, fonts, arena, n, style, list)?;
     match pieces.pack(first) {
         Ok(()) => Ok(pieces.take_box(alloc)?),
         Err(error) => Err(pack_refusal(n, error)),
@@ -52,22 +53,22 @@ fn formula_box(
 // The boxes of an equation of formula n, and that of its number.
 fn set_equation(
     pieces: &mut Pieces,
-    arena: &mut Arena,
     alloc: Global,
     fonts: &FontSet,
+    arena: &Arena,
     n: u32,
-    equation: Equation,
+    equation: EquationSpans,
 ) -> Result<EquationRow, Status>
-    requires first { IsModestList equation.first }
-    requires second { IsModestList equation.second }
-    requires number { IsModestList equation.number }
-    ensures is { IsEquation (equation_boxes fonts.now n equation) result }
+    requires first { IsModestSpan arena.now.closed equation.first }
+    requires second { IsModestSpan arena.now.closed equation.second }
+    requires number { IsModestSpan arena.now.closed equation.number }
+    ensures is { IsEquation (equation_boxes fonts.now n (equation_in arena.now.closed equation)) result }
     ensures fits { IfOk result (EquationFits fonts.now) }
     ensures stay { OnOk result (pieces.new ≡ pieces.old) }
 {
-    let first = formula_box(pieces, arena, alloc, fonts, n, Style::T, equation.first)?;
-    let second = formula_box(pieces, arena, alloc, fonts, n, Style::T, equation.second)?;
-    let number = formula_box(pieces, arena, alloc, fonts, n, Style::T, equation.number)?;
+    let first = formula_box(pieces, alloc, fonts, arena, n, Style::T, equation.first)?;
+    let second = formula_box(pieces, alloc, fonts, arena, n, Style::T, equation.second)?;
+    let number = formula_box(pieces, alloc, fonts, arena, n, Style::T, equation.number)?;
     Ok(EquationRow {
         first,
         second,
@@ -78,44 +79,49 @@ fn set_equation(
 // The boxes of the equations of formula n, row by row.
 fn set_equations(
     pieces: &mut Pieces,
-    arena: &mut Arena,
     alloc: Global,
     fonts: &FontSet,
+    arena: &Arena,
     n: u32,
-    equations: EquationList,
+    rows: Span,
 ) -> Result<EquationRows, Status>
-    requires modest { AreModestEquations equations }
-    requires few { length equations ≤ 2 ^ 18 }
-    ensures is { AreEquations (equations_set fonts.now n equations) result }
+    requires within { rows.end ≤ length arena.now.closed }
+    requires modest { AreModestEquations (equations_of (grid_in arena.now.closed rows)) }
+    requires few { length (equations_of (grid_in arena.now.closed rows)) ≤ 2 ^ 18 }
+    ensures is { AreEquations (equations_set fonts.now n (equations_of (grid_in arena.now.closed rows))) result }
     ensures fit { IfOk result (EquationsFit fonts.now) }
     ensures stay { OnOk result (pieces.new ≡ pieces.old) }
 {
-    let mut rows = Vec::with_capacity(alloc, equations.len())?;
-    for equation in equations.into_vec() {
-        let row = set_equation(pieces, arena, alloc, fonts, n, equation)?;
-        rows.push(row)?;
+    let mut boxes = Vec::new(alloc);
+    let mut left = rows;
+    while let Some(cells) = next_cells(arena, &mut left) {
+        let equation = equation_spans(arena, cells);
+        let row = set_equation(pieces, alloc, fonts, arena, n, equation)?;
+        boxes.push(row)?;
     }
-    Ok(Items::from_vec(rows))
+    Ok(Items::from_vec(boxes))
 }
 
 // The boxes of the rows of formula n, one after another.
 fn set_rows(
     pieces: &mut Pieces,
-    arena: &mut Arena,
     alloc: Global,
     fonts: &FontSet,
+    arena: &Arena,
     n: u32,
-    rows: RowList,
+    rows: Span,
 ) -> Result<PackedList, Status>
-    requires modest { AreModestRows rows }
-    requires few { rows_length rows ≤ 2 ^ 18 }
-    ensures is { AreBoxes (rows_set fonts.now n rows) result }
+    requires within { rows.end ≤ length arena.now.closed }
+    requires modest { AreModestRows (rows_in arena.now.closed rows) }
+    requires few { rows_length (rows_in arena.now.closed rows) ≤ 2 ^ 18 }
+    ensures is { AreBoxes (rows_set fonts.now n (rows_in arena.now.closed rows)) result }
     ensures fit { IfOk result (BoxesFit fonts.now) }
     ensures stay { OnOk result (pieces.new ≡ pieces.old) }
 {
-    let mut boxes = Vec::with_capacity(alloc, rows.len())?;
-    for list in rows.into_vec() {
-        let row = formula_box(pieces, arena, alloc, fonts, n, Style::D, list)?;
+    let mut boxes = Vec::new(alloc);
+    let mut left = rows;
+    while let Some(list) = next_row(arena, &mut left) {
+        let row = formula_box(pieces, alloc, fonts, arena, n, Style::D, list)?;
         boxes.push(row)?;
     }
     Ok(Items::from_vec(boxes))
@@ -139,27 +145,25 @@ fn put_only(stack: &mut LineStack, lines: &Lines) -> Result<(), AllocError>
 /// that of its list, then `Overflow` of its box. Then `Overflow` of the line. `OutOfMemory` where
 /// memory ran out.
 pub fn equations_lines(
-    space: &mut Workspace,
+    stack: &mut LineStack,
     alloc: Global,
     fonts: &FontSet,
     width: i64,
+    arena: &Arena,
     n: u32,
     left: bool,
-    equations: EquationList,
+    rows: Span,
 ) -> Result<(), Status>
-    requires modest { AreModestEquations equations }
-    requires few { length equations ≤ 2 ^ 18 }
+    requires within { rows.end ≤ length arena.now.closed }
+    requires modest { AreModestEquations (equations_of (grid_in arena.now.closed rows)) }
+    requires few { length (equations_of (grid_in arena.now.closed rows)) ≤ 2 ^ 18 }
     requires width { IsLineWidth width }
-    ensures { (lines : List LineValue) → IsStack lines [] space.old.lines
-        → SetsLines fonts.now 1 result lines space.new.lines
-        (equations_lines fonts.now width n left equations) }
+    ensures { (lines : List LineValue) → IsStack lines [] stack.old
+        → SetsLines fonts.now 1 result lines stack.new
+        (equations_lines fonts.now width n left (equations_of (grid_in arena.now.closed rows))) }
 {
-    let Workspace {
-        lines: stack,
-        arena,
-    } = space;
-    let rows = set_equations(&mut stack.pieces, arena, alloc, fonts, n, equations)?;
-    match place_equations(alloc, rows, left, width) {
+    let boxes = set_equations(&mut stack.pieces, alloc, fonts, arena, n, rows)?;
+    match place_equations(alloc, boxes, left, width) {
         Ok(lines) => Ok(put_only(stack, &lines)?),
         Err(error) => Err(pack_refusal(n, error)),
     }
@@ -173,24 +177,23 @@ pub fn equations_lines(
 /// The first refusal of a row: that of its list, then `Overflow` of its box. Then `Overflow` of the
 /// line. `OutOfMemory` where memory ran out.
 pub fn rows_lines(
-    space: &mut Workspace,
+    stack: &mut LineStack,
     alloc: Global,
     fonts: &FontSet,
     width: i64,
+    arena: &Arena,
     n: u32,
-    rows: RowList,
+    rows: Span,
 ) -> Result<(), Status>
-    requires modest { AreModestRows rows }
-    requires few { rows_length rows ≤ 2 ^ 18 }
+    requires within { rows.end ≤ length arena.now.closed }
+    requires modest { AreModestRows (rows_in arena.now.closed rows) }
+    requires few { rows_length (rows_in arena.now.closed rows) ≤ 2 ^ 18 }
     requires width { IsLineWidth width }
-    ensures { (lines : List LineValue) → IsStack lines [] space.old.lines
-        → SetsLines fonts.now 1 result lines space.new.lines (rows_lines fonts.now width n rows) }
+    ensures { (lines : List LineValue) → IsStack lines [] stack.old
+        → SetsLines fonts.now 1 result lines stack.new
+        (rows_lines fonts.now width n (rows_in arena.now.closed rows)) }
 {
-    let Workspace {
-        lines: stack,
-        arena,
-    } = space;
-    let boxes = set_rows(&mut stack.pieces, arena, alloc, fonts, n, rows)?;
+    let boxes = set_rows(&mut stack.pieces, alloc, fonts, arena, n, rows)?;
     match place_rows(alloc, boxes, width) {
         Ok(lines) => Ok(put_only(stack, &lines)?),
         Err(error) => Err(pack_refusal(n, error)),

@@ -1,29 +1,31 @@
 //! The lines of a formula.
 ghost use Rattle.std.specs.Prelude.{◌≡◌, ◌≤◌, ◌^◌, [], Err, IfSome, List, OnOk, drop, length, ⊤};
+ghost use Rattle.mt_arena.specs.Arena.{sequence_in};
 ghost use Rattle.mt_box.specs.Layout.{Layout};
 ghost use Rattle.mt_box.specs.Rows.{PieceValue};
 ghost use Rattle.mt_convert.specs.Calls.{SetFails};
 ghost use Rattle.mt_display.specs.LineStack.{IsStack, PutsLines};
 ghost use Rattle.mt_display.specs.Lines.{LineValue, LinesAnswer};
 ghost use Rattle.mt_display.specs.declared.line_stack.LineStack.{LineStack as LineStackFields};
+ghost use Rattle.mt_arena.specs.Formulas.{tag_in};
 ghost use Rattle.mt_pieces.specs.Putting.{PacksPieces, boxed_on};
+ghost use Rattle.mt_reader.specs.ArenaPages.{KeptFormula, page_formula};
 ghost use Rattle.mt_reader.specs.Weights.{HasModestLists, formula_weight};
-ghost use Rattle.mt_rules.specs.Modest.{IsModestList};
 ghost use Rattle.mt_rules.specs.Setting.{Setting};
 ghost use Rattle.mt_pages.specs.FormulaLines.{displayed_lines, formula_lines, formula_row, set_by, text_lines};
 ghost use Rattle.mt_pages.specs.LineWidth.{IsLineWidth};
-ghost use Rattle.mt_pages.specs.inner.Lines.{PutsFor, PutsRow, SetsLines};
+ghost use Rattle.mt_pages.specs.inner.Lines.{IsModestSpan, PutsFor, PutsRow, SetsLines};
 ghost use Rattle.mt_status.specs.Origins.{IsPure};
 
 use crate::display_rows::{equations_lines, rows_lines};
-use crate::workspace::Workspace;
-use mt_arena::Arena;
+use mt_arena::{Arena, Span, SpanBody, SpanFormula, SpanTag};
 use mt_box::PackError;
-use mt_convert::{SetFault, set_list_on};
-use mt_display::NumberSide;
+use mt_convert::{SetFault, set_span};
+use mt_display::{LineStack, NumberSide};
 use mt_family::FontSet;
 use mt_pieces::Pieces;
-use mt_rules::{Body, Formula, MathList, Style, Tag};
+use mt_reader::PageFormula;
+use mt_rules::Style;
 use mt_status::Status;
 use std::alloc::Global;
 
@@ -88,18 +90,19 @@ fn put_for(n: u32, put: Result<(), PackError>) -> Result<(), Status>
 // Puts the row of a list of formula n behind the pieces that are there: at most 2^21 pieces.
 pub(crate) fn put_row(
     pieces: &mut Pieces,
-    arena: &mut Arena,
     alloc: Global,
     fonts: &FontSet,
+    arena: &Arena,
     n: u32,
     style: Style,
-    list: MathList,
+    list: Span,
 ) -> Result<(), Status>
-    requires modest { IsModestList list }
-    ensures is { PutsRow fonts.now result pieces.old pieces.new (formula_row fonts.now n style list) }
+    requires modest { IsModestSpan arena.now.closed list }
+    ensures is { PutsRow fonts.now result pieces.old pieces.new
+        (formula_row fonts.now n style (sequence_in arena.now.closed list)) }
     ensures few { OnOk result (length (drop (length pieces.old) pieces.new) ≤ 2 ^ 21) }
 {
-    match set_list_on(pieces, arena, alloc, fonts, list, style) {
+    match set_span(pieces, alloc, fonts, arena, list, style) {
         Ok(()) => Ok(()),
         Err(fault) => Err(set_refusal(n, fault)),
     }
@@ -107,56 +110,58 @@ pub(crate) fn put_row(
 
 // The line of a list in the text.
 fn text_lines(
-    space: &mut Workspace,
+    stack: &mut LineStack,
     alloc: Global,
     fonts: &FontSet,
+    arena: &Arena,
     n: u32,
-    list: MathList,
+    list: Span,
 ) -> Result<(), Status>
-    requires modest { IsModestList list }
-    ensures { (lines : List LineValue) → IsStack lines [] space.old.lines
-        → SetsLines fonts.now 1 result lines space.new.lines (text_lines fonts.now n list) }
+    requires modest { IsModestSpan arena.now.closed list }
+    ensures { (lines : List LineValue) → IsStack lines [] stack.old
+        → SetsLines fonts.now 1 result lines stack.new
+        (text_lines fonts.now n (sequence_in arena.now.closed list)) }
 {
-    let Workspace { lines, arena } = space;
-    let first = lines.pieces.len();
-    put_row(&mut lines.pieces, arena, alloc, fonts, n, Style::T, list)?;
-    put_for(n, lines.put_inline(first))
+    let first = stack.pieces.len();
+    put_row(&mut stack.pieces, alloc, fonts, arena, n, Style::T, list)?;
+    put_for(n, stack.put_inline(first))
 }
 
 // The lines of a displayed list and its number.
 fn displayed_lines(
-    space: &mut Workspace,
+    stack: &mut LineStack,
     alloc: Global,
     fonts: &FontSet,
     width: i64,
+    arena: &Arena,
     n: u32,
-    list: MathList,
-    tag: Option<Tag>,
+    list: Span,
+    tag: Option<SpanTag>,
 ) -> Result<(), Status>
-    requires modest { IsModestList list }
-    requires tag { IfSome tag (λ t. IsModestList t.body) }
+    requires modest { IsModestSpan arena.now.closed list }
+    requires tag { IfSome tag (λ t. IsModestSpan arena.now.closed t.body) }
     requires width { IsLineWidth width }
-    ensures { (lines : List LineValue) → IsStack lines [] space.old.lines
-        → SetsLines fonts.now 2 result lines space.new.lines (displayed_lines fonts.now width n list tag) }
+    ensures { (lines : List LineValue) → IsStack lines [] stack.old
+        → SetsLines fonts.now 2 result lines stack.new
+        (displayed_lines fonts.now width n (sequence_in arena.now.closed list) (tag_in arena.now.closed tag)) }
 {
-    let Workspace { lines, arena } = space;
-    let first = lines.pieces.len();
-    put_row(&mut lines.pieces, arena, alloc, fonts, n, Style::D, list)?;
+    let first = stack.pieces.len();
+    put_row(&mut stack.pieces, alloc, fonts, arena, n, Style::D, list)?;
     let Some(tag) = tag else {
-        return put_for(n, lines.put_display(fonts, first, width));
+        return put_for(n, stack.put_display(fonts, first, width));
     };
-    let end = lines.pieces.len();
+    let end = stack.pieces.len();
     let side = NumberSide::of(tag.left);
     put_row(
-        &mut lines.pieces,
-        arena,
+        &mut stack.pieces,
         alloc,
         fonts,
+        arena,
         n,
         Style::T,
         tag.body,
     )?;
-    put_for(n, lines.put_numbered(fonts, first, end, side, width))
+    put_for(n, stack.put_numbered(fonts, first, end, side, width))
 }
 
 /// Puts the lines of a formula after the others: one in the text, and one or two where it is
@@ -174,35 +179,33 @@ fn displayed_lines(
 /// `OutOfMemory` where memory ran out. What lines there are after an error is not said.
 #[tactic(auto, unfolding(crate::specs::FormulaLines::formula_lines))]
 pub fn formula_lines(
-    space: &mut Workspace,
+    stack: &mut LineStack,
     alloc: Global,
     fonts: &FontSet,
     width: i64,
-    formula: Formula,
+    arena: &Arena,
+    formula: &PageFormula,
 ) -> Result<(), Status>
-    requires modest { HasModestLists formula }
+    requires kept { KeptFormula arena.now.closed formula.now }
+    requires modest { HasModestLists (page_formula arena.now.closed formula.now) }
     requires width { IsLineWidth width }
-    ensures { (lines : List LineValue) → IsStack lines [] space.old.lines
-        → SetsLines fonts.now (formula_weight formula) result lines space.new.lines
-        (formula_lines fonts.now width formula) }
+    ensures { (lines : List LineValue) → IsStack lines [] stack.old
+        → SetsLines fonts.now (formula_weight (page_formula arena.now.closed formula.now)) result lines stack.new
+        (formula_lines fonts.now width (page_formula arena.now.closed formula.now)) }
 {
-    let Formula {
-        number: n,
-        display,
-        body,
-        tag,
-    } = formula;
+    let n = formula.number;
+    let SpanFormula { body, tag } = formula.spans;
     match body {
-        Body::List(list) => {
-            if display {
-                displayed_lines(space, alloc, fonts, width, n, list, tag)
+        SpanBody::List(list) => {
+            if formula.display {
+                displayed_lines(stack, alloc, fonts, width, arena, n, list, tag)
             } else {
-                text_lines(space, alloc, fonts, n, list)
+                text_lines(stack, alloc, fonts, arena, n, list)
             }
         }
-        Body::Equations { left, rows } => equations_lines(
-            space, alloc, fonts, width, n, left, rows,
+        SpanBody::Equations { left, rows } => equations_lines(
+            stack, alloc, fonts, width, arena, n, left, rows,
         ),
-        Body::Lines(rows) => rows_lines(space, alloc, fonts, width, n, rows),
+        SpanBody::Lines(rows) => rows_lines(stack, alloc, fonts, width, arena, n, rows),
     }
 }

@@ -12,7 +12,6 @@ mod pages;
 mod source;
 mod summaries;
 mod text_line;
-mod workspace;
 
 pub use laws::refused_formula_has_a_cause;
 pub use listings::listing;

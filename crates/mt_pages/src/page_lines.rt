@@ -8,17 +8,20 @@ ghost use Rattle.mt_pages.specs.LineWidth.{IsLineWidth};
 ghost use Rattle.mt_pages.specs.inner.Lines.{IsPage, SetsPageLines};
 
 use crate::formula_lines::formula_lines;
-use crate::workspace::Workspace;
+use mt_display::LineStack;
 use mt_family::FontSet;
-use mt_rules::Page;
+use mt_reader::ArenaPage;
 use mt_status::Status;
 use std::alloc::{AllocError, Global};
+
+// How many pieces there is room for at first: those of twenty short formulas.
+const PIECES: usize = 256;
 
 /// The lines of a page, and of each the number of its formula.
 #[derive(Drop)]
 pub struct PageLines {
-    /// Where the lines are.
-    pub workspace: Workspace,
+    /// The lines, from the top of the page downward.
+    pub stack: LineStack,
     /// The number of the formula of each line.
     pub formulas: Vec<u32>,
 }
@@ -29,7 +32,7 @@ impl PageLines {
         ensures { IfOk result (λ lines. IsPage no_lines lines) }
     {
         Ok(PageLines {
-            workspace: Workspace::new(alloc)?,
+            stack: LineStack::with_capacity(alloc, PIECES)?,
             formulas: Vec::new(alloc),
         })
     }
@@ -38,18 +41,18 @@ impl PageLines {
     fn clear(&mut self)
         ensures { IsPage no_lines self.new }
     {
-        self.workspace.lines.clear();
+        self.stack.clear();
         self.formulas.clear();
     }
 
     // The lines that have no number yet are of formula n.
     fn number_lines(&mut self, n: u32) -> Result<(), AllocError>
         ensures { (page : PageLinesValue) (added : List LineValue)
-            → IsStack (page.lines ++ added) [] self.old.workspace.lines
+            → IsStack (page.lines ++ added) [] self.old.stack
             → self.old.formulas.items ≡ page.formulas → length page.formulas ≡ length page.lines
             → OnOk result (IsPage (with_formula_lines page n added) self.new) }
     {
-        self.formulas.resize(self.workspace.lines.shifts.len(), n)?;
+        self.formulas.resize(self.stack.shifts.len(), n)?;
         Ok(())
     }
 }
@@ -65,18 +68,18 @@ pub fn page_lines(
     alloc: Global,
     fonts: &FontSet,
     width: i64,
-    page: Page,
+    page: &ArenaPage,
 ) -> Result<(), Status>
     requires width { IsLineWidth width }
-    requires modest { All HasModestLists page }
-    ensures { SetsPageLines fonts.now (page_weight page) result lines.new
-        (page_lines fonts.now width no_lines page) }
+    requires modest { All HasModestLists page.now }
+    ensures { SetsPageLines fonts.now (page_weight page.now) result lines.new
+        (page_lines fonts.now width no_lines page.now) }
 {
     lines.clear();
-    for formula in page.into_vec() {
-        let n = formula.number;
-        formula_lines(&mut lines.workspace, alloc, fonts, width, formula)?;
-        lines.number_lines(n)?;
+    let (arena, formulas) = page.parts();
+    for formula in formulas {
+        formula_lines(&mut lines.stack, alloc, fonts, width, arena, formula)?;
+        lines.number_lines(formula.number)?;
     }
     Ok(())
 }

@@ -22,8 +22,7 @@ use mt_box::PlaceList;
 use mt_display::StackError;
 use mt_dvi::MAX_PLACES;
 use mt_family::FontSet;
-use mt_reader::PageReader;
-use mt_rules::Page;
+use mt_reader::{ArenaPage, PageReader};
 use mt_status::{Much, Status};
 use mt_token::Token;
 use std::alloc::{AllocError, Global};
@@ -60,7 +59,7 @@ fn page_places(
     ensures writable { (fonts : SetValue) → (lines : PageLinesValue) → IsPage lines page.now → LinesHold fonts lines.lines
         → IfOk result (λ places. IfOk places (λ page. All (IsWritable fonts) page)) }
 {
-    match page.workspace.lines.places(alloc, room) {
+    match page.stack.places(alloc, room) {
         Ok(places) => Ok(Ok(places)),
         Err(StackError::OutOfMemory) => Err(AllocError),
         Err(error) => Ok(Err(stack_refusal(&page.formulas, error))),
@@ -151,7 +150,7 @@ impl<'a> PageSetter<'a> {
         alloc: Global,
         fonts: &FontSet,
         width: i64,
-        page: Page,
+        page: ArenaPage,
     ) -> Result<Option<PlaceList>, AllocError>
         requires width { IsLineWidth width }
         requires modest { All HasModestLists page }
@@ -163,7 +162,7 @@ impl<'a> PageSetter<'a> {
         if self.held.is_setting() {
             return Ok(None);
         }
-        match page_lines(&mut self.lines, alloc, fonts, width, page) {
+        match page_lines(&mut self.lines, alloc, fonts, width, &page) {
             Ok(()) => self.place(alloc),
             Err(Status::OutOfMemory) => Err(AllocError),
             Err(status) => {
@@ -174,7 +173,7 @@ impl<'a> PageSetter<'a> {
     }
 
     // The formulas of the next page.
-    fn formulas(&mut self, alloc: Global, fonts: &FontSet) -> Result<Option<Page>, Status>
+    fn formulas(&mut self, alloc: Global, fonts: &FontSet) -> Result<Option<ArenaPage>, Status>
         requires more { CanGoOn self.old.reader }
         ensures is { (tokens : List TokenFields) → (read : List (List Formula))
             → IsReadOf (units_of fonts.now) tokens read self.old.reader

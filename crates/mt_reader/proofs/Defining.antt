@@ -31,7 +31,7 @@ here_or_later true later n p below e = let h : 0 ≡ p = cc in omega (arith, h)
 here_or_later false None n p below e = absurd (cc)
 here_or_later false (Some q) n p below e = let h : q + 1 ≡ p = cc in let l : q < n = below q refl in omega (arith, h, l)
 
--- a bad parameter stands in the body
+-- a bad parameter is in the body
 bad_within : (params : ℕ) (body : List Token) (p : ℕ) → first_bad_parameter params body ≡ Some p → p < length body
 bad_within params [] p e = absurd (cc)
 bad_within params (t ∷ rest) p e =

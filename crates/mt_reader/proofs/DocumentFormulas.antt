@@ -161,7 +161,7 @@ formulas_modest units tables macros tokens result e = all_formulas HasModestList
 tagged : (units : Units) → HoldsOfRead HasTagPlaced units
 tagged units tables display list body tag n few e = formula_tagged tables units display list body tag e
 
--- the number of a formula stands beside the list of a display
+-- the number of a formula is beside the list of a display
 pub formulas_tagged : (units : Units) (tables : CodeTables) (macros : Table) (tokens : List Token) (result : Result (List (List Formula)) DocError) → IsDocument result (document units tables macros tokens) → IfOk result HaveTagsPlaced
 formulas_tagged units tables macros tokens result e = all_formulas HasTagPlaced units (tagged units) tables macros tokens result e
 

@@ -1,7 +1,7 @@
 -- A document that is read page by page: what becomes of what was read, turn by turn.
 use Rattle.std.proofs.Common.{◌≡◌, ℕ, zero, suc, ◌+◌, ◌≤◌, true, false, List, [], ◌∷◌, ◌++◌, length, refl, sym, ap, ◌∙◌, arith, subst}
 use Rattle.std.specs.Prelude.{Option, Some, None, Ok, Err, replicate}
-use Rattle.std.proofs.lemmas.List.{length-append}
+use Rattle.std.proofs.lemmas.List.{length-append, length-replicate}
 use Rattle.std.proofs.lemmas.List.Sums.{sum_by-append, sum_by-cons}
 use Rattle.mt_token.specs.declared.token.Token.{Token}
 use Rattle.mt_scaled.specs.declared.unit.Units.{Units}
@@ -48,11 +48,24 @@ page_some read (f ∷ fs) some = refl
 -- the state after a page
 state_more : (read : List (List Formula)) (page : List Formula) (old new : StateFields) → IsTaken page old new → after_page_end (read_state read old) ≡ read_state (read ++ page ∷ []) new
 state_more read page old new taken =
-    let pages : with_page read old.page.items ≡ read ++ page ∷ [] = ap (with_page read) (sym taken.is) ∙ page_some read page taken.some in
+    let pages : with_page read old.page ≡ read ++ page ∷ [] = ap (with_page read) (sym taken.is) ∙ page_some read page taken.some in
     rw (pages, taken.empty, taken.codes, taken.macros, taken.count, taken.total) refl
 
-state_none : (read : List (List Formula)) (old new : StateFields) → old.page.items ≡ [] → new ≡ old → after_page_end (read_state read old) ≡ read_state read new
+state_none : (read : List (List Formula)) (old new : StateFields) → old.page ≡ [] → new ≡ old → after_page_end (read_state read old) ≡ read_state read new
 state_none read old new none same = rw same (rw none refl)
+
+-- nothing is read yet
+pub at_start : (units : Units) (tokens : List Token) (r : PageReader) → state_of r.state ≡ start_state plain_codes plain_table → r.rest.now ≡ tokens → r.whole ≡ length tokens → IsReadOf units tokens [] r
+at_start units tokens r s rest whole = record {
+  turns = length tokens;
+  enough = omega (arith, ap length rest);
+  is =
+      ap (λ (x : DocumentState). pages_from units (length tokens) (length tokens) (record x { pages = [] }) tokens) (sym s)
+      ∙ ap (pages_from units (length tokens) (length tokens) (read_state [] r.state)) (sym rest);
+  whole = whole;
+  ended = sym (ap (λ (x : DocumentState). length x.pages) s) ∙ length-replicate r.state.ended [];
+  weight = omega (arith, ap (λ (x : DocumentState). page_weight x.page) s, ap length rest);
+}
 
 page_role : (role : OutsideRole) → ends_page role ≡ true → role ≡ EndsPage
 page_role Passed is = absurd (cc)
@@ -136,7 +149,7 @@ module _ (units : Units) (tokens after : List Token) (read : List (List Formula)
         }
 
     pub read_no_page : IsReadOf units tokens read old → old.rest.now ≡ t ∷ after → ends_page role ≡ true → new.whole ≡ old.whole → new.rest.now ≡ after
-        → old.state.page.items ≡ [] → new.state ≡ old.state → IsReadOf units tokens read new
+        → old.state.page ≡ [] → new.state ≡ old.state → IsReadOf units tokens read new
     read_no_page r first ends whole rest none same =
         let at = page_turned r first ends in
         record {
@@ -191,7 +204,7 @@ module _ (units : Units) (tokens : List Token) (read : List (List Formula)) (old
   at_last : IsReadOf units tokens read old → old.rest.now ≡ [] → document units plain_codes plain_table tokens ≡ Ok (state_pages (read_state read old.state))
   at_last r none = r.is ∙ (ap (pages_from units (length tokens) r.turns (read_state read old.state)) none ∙ at_end units (length tokens) r.turns (read_state read old.state))
 
-  pub last_none : IsReadOf units tokens read old → old.rest.now ≡ [] → old.state.page.items ≡ [] → document units plain_codes plain_table tokens ≡ Ok read
+  pub last_none : IsReadOf units tokens read old → old.rest.now ≡ [] → old.state.page ≡ [] → document units plain_codes plain_table tokens ≡ Ok read
   last_none r none empty = at_last r none ∙ ap (λ (page : List Formula). Ok (with_page read page)) empty
 
   -- nothing has changed
@@ -228,7 +241,7 @@ module _ (units : Units) (tokens : List Token) (read : List (List Formula)) (old
 pub read_none : (units : Units) (tokens : List Token) (r : PageReader) → state_of r.state ≡ start_state plain_codes plain_table → r.rest.now ≡ tokens → r.whole ≡ length tokens → IsReadOf units tokens [] r
 read_none units tokens r start rest whole =
     let ended : replicate {A = List Formula} r.state.ended [] ≡ [] = ap (λ (s : DocumentState). s.pages) start in
-    let page : r.state.page.items ≡ [] = ap (λ (s : DocumentState). s.page) start in
+    let page : r.state.page ≡ [] = ap (λ (s : DocumentState). s.page) start in
     record {
       turns = length tokens;
       enough = omega (arith, ap length rest);

@@ -127,7 +127,7 @@ between_fits rest =
 
 -- ---- turns
 
--- a turn that goes on with at most so many tokens, and is no want of turns
+-- a turn that goes on with at most so many tokens, and does not end for lack of turns
 abbrev TurnSettles : ℕ → DocumentTurn → Type 0
 TurnSettles n (Goes s rest) = length rest ≤ n
 TurnSettles n (Ends s) = ⊤

@@ -41,8 +41,8 @@ pages_none n = placeholders n
 pub go_page : (old new : PageReader) (page : List Formula) → CanGoOn old → new.whole ≡ old.whole → length new.rest.now ≤ length old.rest.now → IsTaken page old.state new.state → IsBounded old new page
 go_page old new page can whole shorter taken =
     let some : 1 ≤ page_weight page = page_weighs page taken.some in
-    let weight : page_weight page ≡ page_weight old.state.page.items = ap page_weight taken.is in
-    let none : page_weight new.state.page.items ≡ 0 = ap page_weight taken.empty in
+    let weight : page_weight page ≡ page_weight old.state.page = ap page_weight taken.is in
+    let none : page_weight new.state.page ≡ 0 = ap page_weight taken.empty in
     let one_more : old.state.ended + 1 ≤ max_document_pages = subst (λ (n : ℕ). n ≤ max_document_pages) (ap (λ (p : List Formula). length (with_page (replicate old.state.ended []) p)) (sym taken.is) ∙ pages_some old.state.ended page taken.some) can.pages in
     record {
       modest = subst (λ (p : List Formula). All HasModestLists p) (sym taken.is) can.modest;
@@ -71,7 +71,7 @@ go_same old new can whole shorter same = record {
     count = omega (arith, whole, ap (λ (s : StateFields). s.count) same, can.count, shorter);
     total = omega (arith, ap (λ (s : StateFields). s.total) same, can.total);
     pages = subst (λ (s : StateFields). length (state_pages (state_of s)) ≤ max_document_pages) (sym same) can.pages;
-    modest = subst (λ (s : StateFields). All HasModestLists s.page.items) (sym same) can.modest;
+    modest = subst (λ (s : StateFields). All HasModestLists s.page) (sym same) can.modest;
   };
 }
 
@@ -121,7 +121,7 @@ go_taken first old new None over whole shorter takes = over_then first old new o
 -- nothing is read
 pub go_start : (r : PageReader) → state_of r.state ≡ start_state plain_codes plain_table → r.whole ≡ length r.rest.now → r.whole ≤ max_source → CanGoOn r
 go_start r start whole few =
-    let page : r.state.page.items ≡ [] = ap (λ (s : DocumentState). s.page) start in
+    let page : r.state.page ≡ [] = ap (λ (s : DocumentState). s.page) start in
     record {
       whole = few;
       left = omega (arith, whole, ap page_weight page);

@@ -25,3 +25,5 @@ mod DocumentFaults
 mod Deciding
 -- the turns of a document are always enough
 pub mod Falling
+-- formulas of an arena, seen when more lists are in it
+mod PagesLater

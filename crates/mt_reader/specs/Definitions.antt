@@ -1,4 +1,4 @@
--- Definitions that stand outside formulas (The TeXbook, chapter 20).
+-- Definitions outside of formulas (The TeXbook, chapter 20).
 use Rattle.std.specs.Prelude.{ℕ, ◌+◌, ◌-◌, ◌==◌, nat_lt, Bool, true, false, ◌&&◌, List, [], ◌∷◌, length, Option, Some, None, if◌then◌else◌}
 use Rattle.mt_token.specs.declared.token.Token.{Token}
 use Rattle.mt_token.specs.declared.token.TokenKind.{TokenKind}
@@ -21,7 +21,7 @@ after_parameters count [] = Fault BadDefinition 0
 after_parameters count (t ∷ rest) =
     if is_open t then Got count (t ∷ rest) else Fault BadDefinition (length rest + 1)
 
--- # where fewer than nine parameters stand before
+-- # where fewer than nine parameters are before it
 abbrev pub is_parameter : ℕ → Token → Bool
 is_parameter count t = is_hash t && nat_lt count 9
 

@@ -11,6 +11,9 @@ use Rattle.mt_macro.specs.declared.expansion.ExpandError.{ExpandError}
 use Rattle.mt_macro.specs.declared.expansion.ExpandError.TheVariants.{OutOfMemory as NoMemoryToExpand}
 use Rattle.mt_formula.specs.declared.read_error.ReadError.{ReadError}
 use Rattle.mt_formula.specs.declared.read_error.ReadError.TheVariants.{OutOfMemory as NoMemoryToRead}
+use Rattle.mt_formula.specs.Answers.{IsFault}
+use Rattle.mt_formula.specs.Formulas.{Reading, Reads}
+use Rattle.mt_formula.specs.Rules.{FormulaParts}
 use Rattle.mt_reader.specs.declared.outside_role.OutsideRole.{OutsideRole}
 use Rattle.mt_reader.specs.declared.outside_role.OutsideRole.TheVariants.{EndsPage}
 use Rattle.mt_reader.specs.declared.document_turn.AfterTurn.{AfterTurn}
@@ -18,19 +21,19 @@ use Rattle.mt_reader.specs.declared.document_turn.AfterTurn.TheVariants.{Left, E
 use Rattle.mt_reader.specs.declared.document_error.DocError.{DocError}
 use Rattle.mt_reader.specs.declared.document_error.DocError.TheVariants.{Expand, Read as NotReadError, OutOfMemory}
 use Rattle.mt_reader.specs.declared.document_state.DocumentState.{DocumentState as StateFields}
-use Rattle.mt_reader.specs.Documents.{DocumentState, DocumentAnswer, DocumentTurn, Goes, Ends, Stops, StopsOutside, Outside, is_empty_page}
+use Rattle.mt_reader.specs.Documents.{DocumentState, DocumentAnswer, DocumentTurn, Goes, Ends, Stops, StopsOutside, Outside, is_empty_page, with_formula}
 use Rattle.mt_reader.specs.Refusals.{IsRefusal}
 use Rattle.mt_reader.specs.Lent.{Assigns}
 use Rattle.mt_reader.specs.Weights.{dollars, page_weight}
 use Rattle.mt_reader.specs.Limits.{max_total_tokens}
 
--- what has been read; of the pages that are ended only their number is kept, and each stands as one without formulas
+-- what has been read; of the pages that are ended only their number is kept, and each counts as one without formulas
 abbrev pub state_of : StateFields → DocumentState
 state_of s = record {
   tables = s.codes;
   macros = s.macros;
   pages = replicate s.ended [];
-  page = s.page.items;
+  page = s.page;
   count = s.count;
   total = s.total;
 }
@@ -41,9 +44,9 @@ ends_page role = false
 
 -- a page that is ended
 pub record IsTaken (page : List Formula) (old new : StateFields) : Type 0 where
-  pub is : page ≡ old.page.items
+  pub is : page ≡ old.page
   pub some : is_empty_page page ≡ false
-  pub empty : new.page.items ≡ []
+  pub empty : new.page ≡ []
   pub ended : new.ended ≡ old.ended + 1
   pub codes : new.codes ≡ old.codes
   pub macros : new.macros ≡ old.macros
@@ -53,7 +56,13 @@ pub record IsTaken (page : List Formula) (old new : StateFields) : Type 0 where
 -- the page that was handed out, or that there was none
 abbrev pub TakesPage : Option (List Formula) → StateFields → StateFields → Type 0
 TakesPage (Some page) old new = IsTaken page old new
-TakesPage None old new = (old.page.items ≡ []) × (new ≡ old)
+TakesPage None old new = (old.page ≡ []) × (new ≡ old)
+
+-- one more formula is read, after which all have so many tokens, or a token of it is at fault
+abbrev pub AddsTo : {U : Type 0} → Result U ReadError → DocumentState → DocumentState → Bool → ℕ → Reading → Type 0
+AddsTo (Ok u) old new display total read =
+    (parts : FormulaParts) × (read ≡ Reads parts.0 parts.1) × (new ≡ with_formula old display total parts.0 parts.1)
+AddsTo (Err error) old new display total read = IsFault error read
 
 abbrev pub changes_macros : DocumentState → Table → DocumentState
 changes_macros s macros = record s { macros = macros }
@@ -79,7 +88,7 @@ MeetsTurn (Ok (Left rest)) new whole turn = turn ≡ Goes (state_of new) rest.no
 MeetsTurn (Ok Ended) new whole turn = turn ≡ Ends (state_of new)
 MeetsTurn (Err e) new whole turn = IsRefusal e (turn_refusal whole turn)
 
--- why formula n is not expanded; want of memory is no cause of its own
+-- why formula n is not expanded; that memory ran out is no cause of its own
 abbrev pub expand_error : ℕ → ExpandError → DocError
 expand_error n NoMemoryToExpand = OutOfMemory
 expand_error n cause = Expand n cause
@@ -90,7 +99,7 @@ read_error n cause = NotReadError n cause
 
 -- the formulas of the page, each display counted twice
 abbrev pub state_weight : StateFields → ℕ
-state_weight s = page_weight s.page.items
+state_weight s = page_weight s.page
 
 -- one more formula at most, which has at least two tokens, four in a display
 pub record IsSpent (old new : StateFields) (tokens rest : List Token) : Type 0 where

@@ -16,7 +16,7 @@ pub mod Causes
 pub mod Refusals
 -- how many formulas a document has
 pub mod Weights
--- where the numbers of its formulas stand
+-- where the numbers of its formulas are
 pub mod Tags
 -- tokens that are lent
 pub mod Lent
@@ -26,3 +26,7 @@ pub mod DocumentTurns
 pub mod PageReading
 -- what counts no turns is read or at fault
 pub mod Answered
+-- formulas whose lists are in an arena
+pub mod ArenaPages
+-- what the fields of `ArenaPage` are seen as: only the type cites it
+pub mod inner

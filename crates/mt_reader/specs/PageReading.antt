@@ -39,7 +39,7 @@ pub record CanGoOn (r : PageReader) : Type 0 where
   pub count : r.state.count + length r.rest.now ≤ r.whole
   pub total : r.state.total ≤ max_total_tokens
   pub pages : length (state_pages (state_of r.state)) ≤ max_document_pages
-  pub modest : All HasModestLists r.state.page.items
+  pub modest : All HasModestLists r.state.page
 
 -- a page: it is modest and not too long, and there is less left to be read than before
 pub record IsBounded (old new : PageReader) (page : List Formula) : Type 0 where

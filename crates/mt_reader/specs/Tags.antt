@@ -1,4 +1,4 @@
--- The numbers at the side of a document's formulas stand beside lists, and in displays (`HaveTagsPlaced`).
+-- The numbers at the side of a document's formulas are beside lists, and in displays (`HaveTagsPlaced`).
 use Rattle.std.specs.Prelude.{List, All}
 use Rattle.mt_rules.specs.declared.document.Formula.{Formula}
 use Rattle.mt_formula.specs.Tags.{IsTagPlaced}

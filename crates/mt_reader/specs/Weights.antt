@@ -5,7 +5,7 @@ use Rattle.mt_macro.specs.Limits.{max_tokens}
 use Rattle.mt_rules.specs.declared.document.Formula.{Formula}
 use Rattle.mt_formula.specs.Counts.{body_rows, formula_items, IsModestFormula}
 
--- so many dollars stand at each side of it
+-- so many dollars are at each side of it
 abbrev pub dollars : Bool → ℕ
 dollars display = if display then 2 else 1
 

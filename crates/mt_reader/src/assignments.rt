@@ -13,7 +13,7 @@ use mt_token::{Token, character_code};
 /// The greatest character.
 const MAX_CHARACTER: u32 = 127;
 
-// The tokens after `=` and Spaces, where one stands.
+// The tokens after `=` and Spaces, where there is one.
 fn after_equals<'a>(tokens: &'a [Token]) -> &'a [Token]
     ensures is { result.now ≡ after_equals tokens.now }
     ensures falls { length result.now ≤ length tokens.now }
@@ -24,7 +24,7 @@ fn after_equals<'a>(tokens: &'a [Token]) -> &'a [Token]
     }
 }
 
-// A code of delimiters, which stands where so many tokens are left; a negative number means that there is none.
+// A code of delimiters, which begins where so many tokens are left; a negative number means that there is none.
 fn code_or_none<'a>(
     first: usize,
     n: i64,

@@ -1,4 +1,4 @@
-//! Definitions that stand outside of formulas (The TeXbook, chapter 20).
+//! Definitions outside of formulas (The TeXbook, chapter 20).
 ghost use Rattle.std.specs.Prelude.{◌≡◌, ◌≤◌, ◌<◌, ◌+◌, ◌==◌, length, IfOk};
 ghost use Rattle.mt_token.specs.Character.{character_code};
 ghost use Rattle.mt_macro.specs.Parameters.{first_bad_parameter};
@@ -44,7 +44,7 @@ fn bad_definition(left: usize) -> OutsideFault
     }
 }
 
-// `#` where fewer than nine parameters stand before.
+// `#` where fewer than nine parameters are before it.
 fn is_parameter(count: u8, token: &Token) -> bool
     ensures { result ≡ is_parameter count token.now }
 {
@@ -97,7 +97,7 @@ fn parameters<'a>(tokens: &'a [Token]) -> Result<Scanned<'a, u8>, OutsideFault>
     Err(bad_definition(0))
 }
 
-// The body, by what stands between its braces, where so many tokens are left after its `{`.
+// The body, by what is between its braces, where so many tokens are left after its `{`.
 fn checked_body<'a>(
     name: &'a Name,
     params: u8,

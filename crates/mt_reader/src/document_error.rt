@@ -15,7 +15,7 @@ use thiserror::Error;
 /// A formula's number `n` counts from 1. Outside of formulas it is one more than the number of formulas before.
 #[derive(Clone, Copy, Debug, PartialEq, Eq, Error)]
 pub enum DocError {
-    /// A byte that cannot stand in a source, or too many bytes. It comes before all others.
+    /// A byte that no source may have there, or too many bytes. It comes before all others.
     #[error("{0}")]
     Source(TokenError),
     /// A token outside of formulas.
@@ -33,7 +33,7 @@ pub enum DocError {
     Expand {
         /// The number of the formula.
         n: u32,
-        /// Why it is not expanded; never for want of memory.
+        /// Why it is not expanded; never that memory ran out.
         cause: ExpandError,
     },
     /// A formula that is not read.
@@ -41,7 +41,7 @@ pub enum DocError {
     Read {
         /// The number of the formula.
         n: u32,
-        /// Why it is not read, with the index in its expanded tokens; never for want of memory.
+        /// Why it is not read, with the index in its expanded tokens; never that memory ran out.
         cause: ReadError,
     },
     /// With this formula the expanded tokens of all formulas are more than 1,000,000.

@@ -5,24 +5,23 @@ ghost use Rattle.mt_plain.specs.CodeTables.{plain_codes};
 ghost use Rattle.mt_plain.specs.PlainMacros.{plain_table};
 ghost use Rattle.mt_macro.specs.Definition.{define, Answers};
 ghost use Rattle.mt_macro.specs.Expansion.{Expanded, Expands, expansion};
-ghost use Rattle.mt_formula.specs.Answers.{ReadsAs};
 ghost use Rattle.mt_formula.specs.Formulas.{reading};
 ghost use Rattle.mt_reader.specs.Assignments.{math_code_assignment, delcode_assignment};
-ghost use Rattle.mt_reader.specs.Documents.{start_state, is_page_limit, with_formula};
-ghost use Rattle.mt_reader.specs.DocumentTurns.{state_of, SetsTables, TakesPage, changes_macros};
+ghost use Rattle.mt_reader.specs.Documents.{start_state, is_page_limit};
+ghost use Rattle.mt_reader.specs.DocumentTurns.{AddsTo, state_of, SetsTables, TakesPage, changes_macros};
 ghost use Rattle.mt_reader.specs.Limits.{max_total_tokens};
 ghost use Rattle.mt_macro.specs.Limits.{max_tokens};
 
+use crate::arena_page::ArenaPage;
 use crate::assignments::{assign_delcode, assign_math_code};
 use crate::definitions::MacroDefinition;
-use mt_formula::{ReadError, read_formula};
+use mt_formula::ReadError;
 use mt_macro::{ExpandError, MacroError, Macros, expand, expands_to_itself};
 use mt_plain::{CodeError, Codes, plain_macros};
-use mt_rules::{Body, Formula, Page, Tag};
-use mt_scaled::{Items, Units};
+use mt_scaled::Units;
 use mt_scan::Fault;
 use mt_token::{Token, TokenList};
-use std::alloc::{AllocError, Global};
+use std::alloc::Global;
 use std::mem;
 
 /// The greatest number of pages.
@@ -35,7 +34,7 @@ pub struct DocumentState {
     codes: Codes,
     macros: Macros,
     ended: u32,
-    page: Vec<Formula>,
+    page: ArenaPage,
     count: u32,
     total: u64,
 }
@@ -51,7 +50,7 @@ impl DocumentState {
             codes,
             macros,
             ended: 0,
-            page: Vec::new(alloc),
+            page: ArenaPage::new(alloc),
             count: 0,
             total: 0,
         })
@@ -130,48 +129,36 @@ impl DocumentState {
         self.total + list.len() as u64
     }
 
-    /// What a formula is, by its tokens without macros.
-    pub fn read(
-        &self,
-        alloc: Global,
+    /// Reads a formula by its tokens without macros and puts it on the page. All formulas have so many tokens then.
+    ///
+    /// # Errors
+    ///
+    /// Those of reading it. The document is of no more use after an error.
+    pub fn add_formula(
+        &mut self,
         units: Units,
         display: bool,
         list: &[Token],
-    ) -> Result<(Body, Option<Tag>), ReadError>
+        total: u64,
+    ) -> Result<(), ReadError>
+        requires count { self.old.count < 2 ^ 32 - 1 }
         requires length { length list.now ≤ 2 ^ 31 }
         requires em { Within (2 ^ 31) units.em }
         requires ex { Within (2 ^ 31) units.ex }
-        ensures { ReadsAs result (reading self.now.codes units display list.now) }
-    {
-        read_formula(alloc, &self.codes, units, display, list)
-    }
-
-    /// Puts a formula on the page, after which all formulas have so many tokens after expansion.
-    pub fn push(
-        &mut self,
-        display: bool,
-        body: Body,
-        tag: Option<Tag>,
-        total: u64,
-    ) -> Result<(), AllocError>
-        requires { self.old.count < 2 ^ 32 - 1 }
-        ensures is { OnOk result (state_of self.new ≡ with_formula (state_of self.old) display total body tag) }
+        ensures is { AddsTo result (state_of self.old) (state_of self.new) display total
+            (reading self.old.codes units display list.now) }
         ensures ended { OnOk result (self.new.ended ≡ self.old.ended) }
+        ensures err { OnErr result (self.new.count ≡ self.old.count) }
     {
-        let formula = Formula {
-            number: self.count + 1,
-            display,
-            body,
-            tag,
-        };
-        self.page.push(formula)?;
-        self.count += 1;
+        let number = self.next_number();
+        self.page.read(&self.codes, units, number, display, list)?;
+        self.count = number;
         self.total = total;
         Ok(())
     }
 
     /// Ends the page and hands it out; without formulas it is none.
-    pub fn take_page(&mut self, alloc: Global) -> Option<Page>
+    pub fn take_page(&mut self, alloc: Global) -> Option<ArenaPage>
         requires { self.old.ended < 2 ^ 32 - 1 }
         ensures { TakesPage result self.old self.new }
     {
@@ -179,7 +166,6 @@ impl DocumentState {
             return None;
         }
         self.ended += 1;
-        let page = mem::replace(&mut self.page, Vec::new(alloc));
-        Some(Items::from_vec(page))
+        Some(mem::replace(&mut self.page, ArenaPage::new(alloc)))
     }
 }

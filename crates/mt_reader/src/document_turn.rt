@@ -155,7 +155,6 @@ fn read_error(n: u32, cause: ReadError) -> DocError
 
 // Reads a formula without macros, with which all formulas have so many tokens.
 fn read_expanded<'a>(
-    alloc: Global,
     units: Units,
     state: &mut DocumentState,
     display: bool,
@@ -172,18 +171,15 @@ fn read_expanded<'a>(
         rest.now (reading state.old.codes units display list.now)) }
     ensures reads { ReadsOne result state.old state.new display rest.now }
 {
-    match state.read(alloc, units, display, list) {
-        Ok((body, tag)) => match state.push(display, body, tag, total) {
-            Ok(()) => Ok(AfterTurn::Left(rest)),
-            Err(_) => Err(DocError::OutOfMemory),
-        },
-        Err(cause) => Err(read_error(state.next_number(), cause)),
+    let n = state.next_number();
+    match state.add_formula(units, display, list, total) {
+        Ok(()) => Ok(AfterTurn::Left(rest)),
+        Err(cause) => Err(read_error(n, cause)),
     }
 }
 
 // Counts the tokens of a formula without macros, and reads it.
 fn count_expanded<'a>(
-    alloc: Global,
     units: Units,
     state: &mut DocumentState,
     display: bool,
@@ -206,7 +202,7 @@ fn count_expanded<'a>(
             count: total,
         });
     }
-    read_expanded(alloc, units, state, display, list, total, rest)
+    read_expanded(units, state, display, list, total, rest)
 }
 
 // Expands a formula where there is something to expand, counts its tokens and reads it.
@@ -226,10 +222,10 @@ fn formula_between<'a>(
     ensures reads { ReadsOne result state.old state.new display taken.entry.after.now }
 {
     if state.is_expanded(taken.argument) {
-        return count_expanded(alloc, units, state, display, taken.argument, taken.after);
+        return count_expanded(units, state, display, taken.argument, taken.after);
     }
     match state.expand(alloc, taken.argument) {
-        Ok(list) => count_expanded(alloc, units, state, display, list.as_slice(), taken.after),
+        Ok(list) => count_expanded(units, state, display, list.as_slice(), taken.after),
         Err(cause) => Err(expand_error(state.next_number(), cause)),
     }
 }

@@ -53,20 +53,20 @@ fn document_of(alloc: Global, units: Units, tokens: &[Token]) -> Result<Document
     let mut reader = PageReader::new(alloc, tokens)?;
     let mut pages = Vec::new(alloc);
     while let Some(page) = reader.next_page(alloc, units)? {
-        push_page(&mut pages, page)?;
+        push_page(&mut pages, page.to_page(alloc)?)?;
     }
     Ok(Document::from_vec(pages))
 }
 
 /// The document of a source: its formulas, page by page, read with plain TeX's codes and macros and with those that the
 /// source sets and defines before them (The TeXbook, chapters 20 and 24). A page without formulas is none. `units` are
-/// what `em` and `ex` stand for, in scaled points. The formulas are together at most 2^21, each display counted twice,
+/// what `em` and `ex` are, in scaled points. The formulas are together at most 2^21, each display counted twice,
 /// and each has at most 200,000 items at all levels. There are at most 5,000 pages.
 ///
 /// # Errors
 ///
 /// The first fault in the order of the source. A formula is expanded, then counted, then read. `OutOfMemory` where
-/// memory ran out, and no other error stands for that.
+/// memory ran out, and no other error means that.
 pub fn read_document(alloc: Global, units: Units, bytes: &[u8]) -> Result<Document, DocError>
     requires em { Within (2 ^ 31) units.em }
     requires ex { Within (2 ^ 31) units.ex }

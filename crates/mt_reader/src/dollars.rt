@@ -18,7 +18,7 @@ pub struct Taken<'a> {
     pub after: &'a [Token],
 }
 
-/// What stands in a group after its `{`, and what follows the group; `None` where it does not end.
+/// What is in a group after its `{`, and what follows the group; `None` where it does not end.
 pub fn between_braces<'a>(tokens: &'a [Token]) -> Option<Taken<'a>>
     ensures is { TakesAs result (group 0 tokens.now) }
     ensures falls { IfSome result (λ t. length t.argument.now + length t.after.now < length tokens.now) }

@@ -1,4 +1,4 @@
-//! Where a formula stands in the tokens of a source, and which macros are in force there. No formula is read.
+//! Where a formula is in the tokens of a source, and which macros are in force there. No formula is read.
 ghost use Rattle.std.specs.Prelude.{◌≡◌, ◌≤◌, ◌^◌, length, IfOk, IfSome};
 
 use crate::assignments::{assign_delcode, assign_math_code};
@@ -19,7 +19,7 @@ pub enum FormulaWanted {
     FirstOfPage(u32),
 }
 
-/// A formula as it stands in the tokens of a source.
+/// A formula as it is in the tokens of a source.
 #[derive(Drop)]
 pub struct SourceFormula<'a> {
     /// Whether it is a display.
@@ -198,7 +198,7 @@ fn behind<'a>(tokens: &'a [Token], count: usize) -> &'a [Token] {
 }
 
 /// The formula of a source that is wanted, by the source's tokens; `None` where there is none before the first fault
-/// outside of formulas. What stands in formulas is passed, whether it has faults or not.
+/// outside of formulas. What is in formulas is passed, whether it has faults or not.
 ///
 /// # Errors
 ///

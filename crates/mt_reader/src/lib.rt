@@ -1,6 +1,7 @@
 //! Documents: a source is read into pages of formulas (The TeXbook, chapters 17, 20 and 24).
 #![tactic(auto)]
 
+mod arena_page;
 mod assignments;
 mod definitions;
 mod document_error;
@@ -14,6 +15,7 @@ mod outside_cause;
 mod outside_role;
 mod page_reader;
 
+pub use arena_page::{ArenaPage, PageFormula};
 pub use document_error::DocError;
 pub use documents::{read_document, source_tokens};
 pub use formula_search::{FormulaWanted, SourceFormula, find_formula};

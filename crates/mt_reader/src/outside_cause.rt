@@ -8,7 +8,7 @@ use thiserror::Error;
 /// Why a token outside of formulas is refused. Its place is an index in the tokens of the source, counted from 0.
 #[derive(Clone, Copy, Debug, PartialEq, Eq, Error)]
 pub enum OutsideCause {
-    /// A token that cannot stand there.
+    /// A token that is not allowed there.
     #[error("it cannot stand there")]
     Misplaced,
     /// A formula without an end, or one in which a `}` closes no group; the place is that of its first `$`.

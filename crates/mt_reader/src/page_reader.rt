@@ -6,11 +6,11 @@ ghost use Rattle.mt_token.specs.declared.token.Token.{Token as TokenFields};
 ghost use Rattle.mt_rules.specs.declared.document.Formula.{Formula};
 ghost use Rattle.mt_reader.specs.PageReading.{CanGoOn, GoesOn, IsNextPage, IsReadOf, IsTurned};
 
+use crate::arena_page::ArenaPage;
 use crate::document_error::DocError;
 use crate::document_state::DocumentState;
 use crate::document_turn::{AfterTurn, document_turn};
 use crate::outside_role::outside_role;
-use mt_rules::Page;
 use mt_scaled::Units;
 use mt_token::Token;
 use std::alloc::{AllocError, Global};
@@ -48,7 +48,7 @@ impl<'a> PageReader<'a> {
         units: Units,
         token: &Token,
         after: &'a [Token],
-    ) -> Result<Option<Page>, DocError>
+    ) -> Result<Option<ArenaPage>, DocError>
         requires em { Within (2 ^ 31) units.em }
         requires ex { Within (2 ^ 31) units.ex }
         requires more { CanGoOn self.old }
@@ -76,14 +76,14 @@ impl<'a> PageReader<'a> {
         }
     }
 
-    /// The next page that has formulas; `None` where there are no more. `units` are what `em` and `ex` stand for, in
+    /// The next page that has formulas; `None` where there are no more. `units` are what `em` and `ex` are, in
     /// scaled points, the same ones for all pages.
     ///
     /// # Errors
     ///
-    /// The first fault in the order of the source, where it stands before the end of the next page. `OutOfMemory` where
+    /// The first fault in the order of the source, where it is before the end of the next page. `OutOfMemory` where
     /// memory ran out.
-    pub fn next_page(&mut self, alloc: Global, units: Units) -> Result<Option<Page>, DocError>
+    pub fn next_page(&mut self, alloc: Global, units: Units) -> Result<Option<ArenaPage>, DocError>
         requires em { Within (2 ^ 31) units.em }
         requires ex { Within (2 ^ 31) units.ex }
         requires more { CanGoOn self.old }

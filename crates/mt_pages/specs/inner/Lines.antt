@@ -2,6 +2,9 @@
 use Rattle.std.specs.Prelude.{◌≡◌, ℕ, ◌≤◌, ◌-◌, ◌^◌, List, [], ◌++◌, length, map, All, Result, Ok, Err}
 use Rattle.mt_scaled.specs.Number.{Within}
 use Rattle.mt_family.specs.SetValue.{SetValue}
+use Rattle.mt_arena.specs.declared.thing.Span.{Span}
+use Rattle.mt_arena.specs.Arena.{Held, sequence_in}
+use Rattle.mt_arena.specs.Keeping.{KeptList}
 use Rattle.mt_box.specs.Layout.{BoxValue, Layout, layout_of}
 use Rattle.mt_box.specs.Rows.{PieceValue}
 use Rattle.mt_convert.specs.Holding.{PlaceHolds, RowHolds}
@@ -11,12 +14,19 @@ use Rattle.mt_display.specs.Lines.{LineValue}
 use Rattle.mt_display.specs.declared.equations.EquationRow.{EquationRow}
 use Rattle.mt_display.specs.declared.line_stack.LineStack.{LineStack}
 use Rattle.mt_rules.specs.DisplayRows.{EquationLayout}
+use Rattle.mt_rules.specs.Modest.{IsModestList}
 use Rattle.mt_rules.specs.Setting.{Setting}
 use Rattle.mt_pages.specs.FormulaLines.{set_by}
 use Rattle.mt_pages.specs.Pages.{PageLinesValue}
 use Rattle.mt_pages.specs.declared.page_lines.PageLines.{PageLines}
 use Rattle.mt_status.specs.Origins.{IsPure}
 use Rattle.mt_status.specs.declared.status.Status.{Status}
+
+-- a list of an arena that can be set within bounds
+pub record IsModestSpan (es : List Held) (list : Span) : Type 0 where
+  pub within : list.end ≤ length es
+  pub modest : IsModestList (sequence_in es list)
+  pub lists : KeptList (sequence_in es list)
 
 -- ---- rows
 
@@ -123,7 +133,7 @@ SetsLines fonts most (Err status) lines s answer = IsPure answer (Err status)
 
 -- these lines are there, and the numbers of their formulas
 pub record IsPage (page : PageLinesValue) (lines : PageLines) : Type 0 where
-  pub stack : IsStack page.lines [] lines.workspace.lines
+  pub stack : IsStack page.lines [] lines.stack
   pub formulas : lines.formulas.items ≡ page.formulas
   pub count : length page.formulas ≡ length page.lines
 

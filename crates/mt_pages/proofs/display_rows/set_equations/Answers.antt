@@ -1,56 +1,62 @@
-use Rattle.std.proofs.Common.{refl, subst, sym, arith, ◌∙◌}
-use Rattle.mt_pages.proofs.Common.{err_from_is_err_and, no_more, AreModestEquations, equation_layout, equation_level, equation_boxes}
+use Rattle.std.proofs.Common.{◌∷◌, refl, subst, sym, ap, arith, ◌∙◌}
+use Rattle.mt_arena.specs.Arena.{grid_in}
+use Rattle.mt_rules.specs.Equations.{equations_of}
+use Rattle.mt_arena.specs.Formulas.{equation_in}
+use Rattle.mt_pages.proofs.Common.{err_from_is_err_and, AreModestEquations, equation_layout, equation_level, equation_boxes}
 use Rattle.mt_pages.specs.inner.Lines.{EquationHolds}
-use Rattle.mt_pages.proofs.DisplayLemmas.{rows_start, rows_next, rows_err, rows_done}
+use Rattle.mt_pages.proofs.DisplayLemmas.{equation_steps, rows_start, rows_next, rows_err, rows_done}
 use Rattle.mt_pages.proofs.display_rows.set_equations.Goals as goal
 
-pub loop-equation-init : goal.loop-equation-init
-loop-equation-init c =
-    let all = c.into_iter-equation-iterator.ensures.into_iter_gives.0 ∙ c.into_vec-equation-items.ensures in (
-      tt,
-      tt,
-      rows_start (equation_boxes c.args.fonts.now c.args.n) equation_layout equation_level (EquationHolds c.args.fonts.now) c.args.equations _ _ all c.in_ok-rows.ensures.items,
-      subst AreModestEquations (sym all) c.requires.modest,
-      refl,
-    )
+pub loop-cells-init : goal.loop-cells-init
+loop-cells-init c = record {
+  set = rows_start (equation_boxes c.args.fonts.now c.args.n) equation_layout equation_level (EquationHolds c.args.fonts.now) (equations_of (grid_in c.args.arena.now.closed c.args.rows)) _ _ refl c.new-boxes.ensures.items;
+  modest = c.requires.modest;
+  end = refl;
+  stay = refl;
+}
 
-pub set_equation-requires-clause-first : goal.set_equation-requires-clause-first
-set_equation-requires-clause-first c = (subst AreModestEquations c.in-Some.ensures.steps.0 c.loop-equation.invariant.3).0
+pub equation_spans-equation-requires : goal.equation_spans-equation-requires
+equation_spans-equation-requires c = c.in-Some.ensures.within
 
-pub set_equation-requires-clause-second : goal.set_equation-requires-clause-second
-set_equation-requires-clause-second c = (subst AreModestEquations c.in-Some.ensures.steps.0 c.loop-equation.invariant.3).1
+pub set_equation-requires : goal.set_equation-requires
+set_equation-requires c =
+    let m = subst AreModestEquations (equation_steps c.args.arena.now.closed _ _ _ c.equation_spans-equation.result c.in-Some.ensures.is c.equation_spans-equation.ensures.is) c.loop-cells.invariant.modest in
+    let w = c.equation_spans-equation.ensures.within in
+    let l = c.equation_spans-equation.ensures.lists in
+    record {
+      first = record { within = omega (arith, w); modest = m.0; lists = l.0 };
+      second = record { within = omega (arith, w); modest = m.1; lists = l.1 };
+      number = record { within = omega (arith, w); modest = m.2; lists = l.2 };
+    }
 
-pub set_equation-requires-clause-number : goal.set_equation-requires-clause-number
-set_equation-requires-clause-number c = (subst AreModestEquations c.in-Some.ensures.steps.0 c.loop-equation.invariant.3).2
-
-pub loop-equation-preserved : goal.loop-equation-preserved
-loop-equation-preserved c =
-    let steps = c.in-Some.ensures.steps.0 in
-    let row = c.in_ok-row.ensures in (
-      tt,
-      tt,
-      rows_next (equation_boxes c.args.fonts.now c.args.n) equation_layout equation_level (EquationHolds c.args.fonts.now) c.args.equations _ _ c.in-Some.equation _ _ c.in_ok-row.row
-          c.loop-equation.invariant.2 steps row.is row.fits.level row.fits.holds c.in_ok-push.ensures.items,
-      (subst AreModestEquations steps c.loop-equation.invariant.3).3,
-      row.stay ∙ c.loop-equation.invariant.4,
-    )
+pub loop-cells-preserved : goal.loop-cells-preserved
+loop-cells-preserved c =
+    let steps = equation_steps c.args.arena.now.closed _ _ _ c.equation_spans-equation.result c.in-Some.ensures.is c.equation_spans-equation.ensures.is in
+    let row = c.in_ok-row.ensures in
+    record {
+      set = rows_next (equation_boxes c.args.fonts.now c.args.n) equation_layout equation_level (EquationHolds c.args.fonts.now) (equations_of (grid_in c.args.arena.now.closed c.args.rows)) _ _
+          (equation_in c.args.arena.now.closed c.equation_spans-equation.result) _ _ c.in_ok-row.row c.loop-cells.invariant.set steps row.is row.fits.level row.fits.holds c.in_ok-push.ensures.items;
+      modest = (subst AreModestEquations steps c.loop-cells.invariant.modest).3;
+      end = c.in-Some.ensures.end ∙ c.loop-cells.invariant.end;
+      stay = row.stay ∙ c.loop-cells.invariant.stay;
+    }
 
 pub returns-in_err-row-clause-is : goal.returns-in_err-row-clause-is
 returns-in_err-row-clause-is c =
-    let p = err_from_is_err_and c.from_residual-in_err-row.result c.from_residual-in_err-row.ensures.1 in
-    rw (p.1, p.2) (rows_err (equation_boxes c.args.fonts.now c.args.n) equation_layout equation_level (EquationHolds c.args.fonts.now) c.args.equations _ _ c.in-Some.equation _ _
-    c.loop-equation.invariant.2 c.in-Some.ensures.steps.0 c.in_err-row.ensures.is)
+    let steps = equation_steps c.args.arena.now.closed _ _ _ c.equation_spans-equation.result c.in-Some.ensures.is c.equation_spans-equation.ensures.is in
+    let p = err_from_is_err_and c.from_residual.result c.from_residual.ensures.1 in
+    rw (p.1, p.2) (rows_err (equation_boxes c.args.fonts.now c.args.n) equation_layout equation_level (EquationHolds c.args.fonts.now) (equations_of (grid_in c.args.arena.now.closed c.args.rows)) _ _ _ _ _
+    c.loop-cells.invariant.set steps c.in_err-row.ensures.is)
 
 pub returns-clause-is : goal.returns-clause-is
 returns-clause-is c =
     rw c.from_vec.ensures
-    (rows_done (equation_boxes c.args.fonts.now c.args.n) equation_layout equation_level (EquationHolds c.args.fonts.now) c.args.equations _ _ c.loop-equation.invariant.2
-    (no_more _ _ c.loop-equation.equation-iterator.rest.ok.0 c.in-None.ensures.steps.0))
+    (rows_done (equation_boxes c.args.fonts.now c.args.n) equation_layout equation_level (EquationHolds c.args.fonts.now) _ _ _ c.loop-cells.invariant.set (ap equations_of c.in_default.ensures.is))
 
 pub returns-clause-fit : goal.returns-clause-fit
 returns-clause-fit c =
     rw c.from_vec.ensures (record {
-      few = omega (arith, c.loop-equation.invariant.2.count, c.requires.few);
-      level = c.loop-equation.invariant.2.level_low;
-      holds = c.loop-equation.invariant.2.holds;
+      few = omega (arith, c.loop-cells.invariant.set.count, c.requires.few);
+      level = c.loop-cells.invariant.set.level_low;
+      holds = c.loop-cells.invariant.set.holds;
     })
