@@ -172,6 +172,50 @@ fn wraps_an_argument_at_each_step(rt: HostRuntime) -> Result<(), Fail> {
     Ok(())
 }
 
+// A text of so many groups in each other.
+fn nested_groups(alloc: Global, count: usize) -> Result<Vec<u8>, Fail> {
+    let mut text = Vec::new(alloc);
+    for _ in 0..count {
+        text.push(b'{')?;
+    }
+    for _ in 0..count {
+        text.push(b'}')?;
+    }
+    Ok(text)
+}
+
+#[test]
+fn unwraps_an_argument_at_each_step(rt: HostRuntime) -> Result<(), Fail> {
+    let alloc = rt.alloc();
+    let macros = macros_with(&rt, alloc, &[(b"u", 1, b"\\u#1")])?;
+    // Each step takes two braces away; the last one leaves no argument.
+    for count in [3, 700] {
+        let mut text = Vec::from_slice(alloc, b"a\\u")?;
+        text.extend_from_slice(&nested_groups(alloc, count)?)?;
+        assert_eq!(rt;
+            expand_text(alloc, &macros, &text)?.err(),
+            Some(ExpandError::MissingArgument(1))
+        );
+    }
+    Ok(())
+}
+
+#[test]
+fn takes_many_short_arguments(rt: HostRuntime) -> Result<(), Fail> {
+    let alloc = rt.alloc();
+    // A step takes 17 parts of arguments, more than 200,000 in all.
+    let body = b"\\p{#9a}{#9a}{#9a}{#9a}{#9a}{#9a}{#9a}{#9a}{b}";
+    let macros = macros_with(&rt, alloc, &[(b"p", 9, body)])?;
+    assert_eq!(rt;
+        expand_text(alloc, &macros, b"\\p 123456789z")?.err(),
+        Some(ExpandError::Budget {
+            steps: 20_000,
+            length: 37
+        })
+    );
+    Ok(())
+}
+
 #[test]
 fn refuses_definitions(rt: HostRuntime) -> Result<(), Fail> {
     let alloc = rt.alloc();

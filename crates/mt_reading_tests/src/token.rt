@@ -1,4 +1,7 @@
-use mt_token::{MAX_SOURCE, Token, TokenError, TokenKind, TokenList, tokens};
+use mt_token::{
+    Lexer, Lexicon, MAX_SOURCE, OwnTokens, Token, TokenError, TokenKind, TokenList, name_hash,
+    tokens,
+};
 use std::test::Fail;
 
 // A token in short: its name or its character, nothing for a space, and its span.
@@ -87,5 +90,41 @@ fn bounds_the_source(rt: HostRuntime) -> Result<(), Fail> {
     assert_eq!(rt; tokens(alloc, &source)?.len(), 0);
     source.push(b'%')?;
     assert_eq!(rt; tokens(alloc, &source).err(), Some(TokenError::TooLong));
+    Ok(())
+}
+
+#[test]
+fn repeats_a_fault(rt: HostRuntime) -> Result<(), Fail> {
+    let mut lexer = Lexer::new(b"a %\n~b");
+    assert!(rt; matches!(lexer.step(), Ok(Some(_))));
+    assert!(rt; matches!(lexer.step(), Ok(Some(_))));
+    assert!(rt; matches!(lexer.step(), Err(TokenError::BadByte(4))));
+    assert!(rt; matches!(lexer.step(), Err(TokenError::BadByte(4))));
+    Ok(())
+}
+
+#[test]
+fn reads_tokens_as_themselves(rt: HostRuntime) -> Result<(), Fail> {
+    let alloc = rt.alloc();
+    let list = tokens(alloc, b"\\alpha x ")?;
+    let mut codes = Vec::new(alloc);
+    let mut spaces = Vec::new(alloc);
+    for token in list.as_slice() {
+        codes.push(OwnTokens.code(token))?;
+        spaces.push(OwnTokens.is_space(token))?;
+    }
+    assert!(rt; codes.as_slice() == [0, b'x', 0].as_slice());
+    assert!(rt; spaces.as_slice() == [false, false, true].as_slice());
+    Ok(())
+}
+
+#[test]
+fn hashes_names(rt: HostRuntime) -> Result<(), Fail> {
+    // "in" is 105 and 110.
+    assert_eq!(rt; name_hash(b"in"), 29 * 105 + 3 * 110 + 101 * 110 + 67 * 2);
+    assert_eq!(rt; name_hash(b"a"), 29 * 97 + 101 * 97 + 67);
+    assert_eq!(rt; name_hash(b""), 0);
+    // No name counts more than 31 bytes.
+    assert_eq!(rt; name_hash(&[b'a'; 31]), name_hash(&[b'a'; 40]));
     Ok(())
 }
