@@ -1,7 +1,0 @@
-//! Braces and parameters in lists of items that stand for tokens: the calls of the same names at
-//! the top of the crate for whatever a [`mt_token::Lexicon`] knows.
-
-pub use crate::braces::{
-    closes_none, closing_brace, first_unmatched, is_close, is_open, level_after,
-};
-pub use crate::parameters::first_bad_parameter;
