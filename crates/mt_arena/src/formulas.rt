@@ -98,7 +98,7 @@ fn tag_of(alloc: Global, arena: &Arena, tag: Option<SpanTag>) -> Result<Option<T
     }
 }
 
-/// The body and the number of a formula, as values of their own. Want of memory is the only error.
+/// The body and the number of a formula, as values of their own. That memory ran out is the only error.
 pub fn formula_of(
     alloc: Global,
     arena: &Arena,

@@ -12,7 +12,7 @@ use std::alloc::AllocError;
 /// Puts a list, with all lists inside it, into an arena, behind the lists that are there, and answers its span. Open
 /// lists stay as they are.
 ///
-/// An arena has amounts of 32 bits. Want of memory is also answered where an amount in the list is less than -2^31 or
+/// An arena has amounts of 32 bits. It is answered that memory ran out also where an amount in the list is less than -2^31 or
 /// is 2^31 or more, or where a place in the arena is 2^32 or more. On an error the arena may have some of the lists and
 /// more open ones, and is to be cleared.
 #[cycle(put)]

@@ -13,7 +13,7 @@ use mt_rules::{
 };
 use std::alloc::{AllocError, Global};
 
-/// The list of a span, with all lists inside it, as a value of its own. Want of memory is its only error.
+/// The list of a span, with all lists inside it, as a value of its own. That memory ran out is its only error.
 #[cycle(make)]
 pub fn list_of(alloc: Global, arena: &Arena, span: Span) -> Result<MathList, AllocError>
     requires within { span.end ≤ length arena.now.closed }
@@ -161,7 +161,7 @@ fn root_of(alloc: Global, arena: &Arena, thing: &Thing) -> Result<Field, AllocEr
     Ok(Field::Root(Box::new(alloc, root)?))
 }
 
-/// The rows of a span, with all lists inside them. Want of memory is the only error.
+/// The rows of a span, with all lists inside them. That memory ran out is the only error.
 #[cycle(make)]
 pub fn rows_of(alloc: Global, arena: &Arena, span: Span) -> Result<RowList, AllocError>
     requires within { span.end ≤ length arena.now.closed }

@@ -23,7 +23,7 @@ use Rattle.mt_formula.specs.reading.Noads.{last_in}
 use Rattle.mt_formula.specs.reading.Stops.{HasFault}
 use Rattle.mt_formula.specs.reading.Givens.{given_in}
 
--- runs of items, by as many turns as each may want
+-- runs of items, by as many turns as each may need
 abbrev pub whole_run : CodeTables → Units → ItemRunReader
 whole_run tables units = run_of (whole_readers tables units)
 

@@ -47,7 +47,7 @@ use Rattle.mt_formula.specs.turns.Arguments.{Fits, group_fits, primes_within}
 use Rattle.mt_scan.specs.turns.Answering.{answered_if, whole_number_answered, number_to_answered, opening_answered, delimiter_answered}
 use Rattle.mt_formula.specs.turns.Answering.{fraction_head_answered, field_start_answered, action_here_answered}
 
--- a part that leaves at most so many tokens, or a fault: not that turns were wanting
+-- a part that leaves at most so many tokens, or a fault: not that there were too few turns
 abbrev pub Settles : {C A : Type 0} → ℕ → ReadOr C A → Type 0
 Settles n (Got part rest) = length rest ≤ n
 Settles n (Fault cause left) = ⊤

@@ -13,7 +13,7 @@ use mt_scan::{Bar, Fault, Scanned, dimension, null_delim, scan_delimiter};
 use mt_token::Token;
 use std::alloc::AllocError;
 
-/// What stands before the denominator of a fraction.
+/// What is before the denominator of a fraction.
 #[derive(Clone, Copy, Debug, PartialEq, Eq)]
 pub struct FractionHead {
     /// The thickness of the rule, `None` for that of the font.

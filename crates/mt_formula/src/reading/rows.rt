@@ -14,7 +14,7 @@ use mt_plain::Codes;
 use mt_scan::{Fault, Role, Scanned, after_spaces, role_of};
 use mt_token::Token;
 
-// The tokens after a `$` that must stand here and opens a group.
+// The tokens after a `$` that must be here and opens a group.
 fn open_dollar<'a>(codes: &Codes, level: usize, tokens: &'a [Token]) -> Result<&'a [Token], Fault>
     ensures is { Opens result (opening codes.now is_math_shift level tokens.now) }
     ensures falls { IfOk result (λ inside. length inside.now < length tokens.now) }
@@ -46,7 +46,7 @@ pub fn open_row_list<'a>(
     open_dollar(codes, level + 1, after)
 }
 
-/// The tokens after a `}` that must stand here.
+/// The tokens after a `}` that must be here.
 pub fn close_brace<'a>(codes: &Codes, tokens: &'a [Token]) -> Result<&'a [Token], Fault>
     ensures is { Opens result (brace_closes codes.now tokens.now) }
     ensures falls { IfOk result (λ rest. length rest.now < length tokens.now) }

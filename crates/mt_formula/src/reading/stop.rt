@@ -16,7 +16,7 @@ pub enum Stop {
 }
 
 impl Stop {
-    /// The fault of which so many tokens are left.
+    /// A fault of this cause, where so many tokens are left.
     pub fn at(cause: ReadCause, left: usize) -> Stop
         ensures { result ≡ AtFault (record { cause = cause; left = left }) }
     {

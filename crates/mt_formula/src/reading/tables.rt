@@ -11,7 +11,7 @@ use mt_plain::Codes;
 use mt_scan::{Fault, Preamble, ReadCause, Role, Scanned, after_spaces, role_of};
 use mt_token::Token;
 
-/// Whether the table ends here, at `}`, or another row begins. Spaces that may stand before are to be
+/// Whether the table ends here, at `}`, or another row begins. Spaces that may be before are to be
 /// dropped first: a Space here is part of a row.
 pub fn row_or_end<'a>(codes: &Codes, tokens: &'a [Token]) -> Scanned<'a, TableStep>
     ensures is { row_or_end codes.now tokens.now ≡ Got result.value result.rest.now }
@@ -62,7 +62,7 @@ fn unbalanced(left: usize) -> Fault
 }
 
 /// How a table goes on after a cell of this column. The fault is `Unbalanced` where none of `&`,
-/// `\cr` and `}` stands there, `ExtraCell` where the table has no column after this one.
+/// `\cr` and `}` is there, `ExtraCell` where the table has no column after this one.
 pub fn after_cell<'a>(
     codes: &Codes,
     preamble: Preamble,
@@ -86,7 +86,7 @@ pub fn after_cell<'a>(
     }
 }
 
-/// How many groups are open where the `{` of a table stands.
+/// How many groups are open at the `{` of a table.
 pub fn brace_level(form: TableForm, level: usize) -> usize
     requires { level ≤ max_groups }
     ensures { result ≡ brace_level form level }

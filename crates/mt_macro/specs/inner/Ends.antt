@@ -1,4 +1,4 @@
--- Where groups end, and the tokens of pieces.
+-- Where groups end, and the tokens of lists.
 use Rattle.std.specs.Prelude.{◌≡◌, ℕ, ◌<◌, ◌==◌, ◌&&◌, List, [], ◌∷◌, ◌++◌, length, Option, Some}
 use Rattle.std.specs.Prelude.{None, if◌then◌else◌}
 use Rattle.mt_token.specs.declared.token.Token.{Token}
@@ -21,7 +21,7 @@ AreEnds [] ends = Unit {0}
 AreEnds (t ∷ ts) [] = Unit {0}
 AreEnds (t ∷ ts) (e ∷ es) = IsEnd e (t ∷ ts) × AreEnds ts es
 
--- the tokens of pieces
+-- the tokens of lists
 abbrev pub joined : List (List Token) → List Token
 joined [] = []
 joined (p ∷ ps) = p ++ joined ps
