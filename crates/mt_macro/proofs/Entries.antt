@@ -1,6 +1,6 @@
 -- Entries in the names' order.
 use Rattle.std.proofs.Common.{◌≡◌, ℕ, zero, suc, ◌+◌, ◌<◌, ◌≤◌, List, [], ◌∷◌, ◌++◌, length, take, drop, get_or, set, refl, sym, ap, subst, ◌∙◌, arith, cond}
-use Rattle.std.specs.Prelude.{Option, Some, None, All}
+use Rattle.std.specs.Prelude.{Option, Some, None, All, slice_get}
 use Rattle.std.specs.Str.{bytes_eq}
 use Rattle.std.specs.List.{AllByRecursion}
 use Rattle.std.specs.Map.{keys_of, values_of}
@@ -18,7 +18,7 @@ use Rattle.mt_macro.specs.declared.table.Entry.{Entry}
 use Rattle.mt_macro.specs.Table.{Table, macro_of, with_macro}
 use Rattle.mt_macro.specs.inner.Entries.{table_of, body_at, HasAt, IsFoundAt, AreAfter, IsMissingAt}
 use Rattle.mt_macro.specs.inner.Kept.{HasShortBody}
-use Rattle.mt_macro.specs.inner.Naming.{IsMacro}
+use Rattle.mt_macro.specs.Naming.{IsMacro}
 
 abbrev pub compare : List ℕ → List ℕ → Ordering
 compare a b = slice_cmp nat_cmp a b
@@ -231,3 +231,14 @@ pub sorted_with : (t : Table) (name : List ℕ) (m : Macro) → IsStrictlySorted
 unfolding IsStrictlySortedBy
 sorted_with [] name m s = (tt, tt)
 sorted_with (e ∷ t) name m s = sorted_at e t name m (compare name e.0) refl s (sorted_with t name m s.1)
+
+-- the entry at an index
+pub entry_is : (es : List Entry) (i : ℕ) (e : Entry) → i < length es → e ≡ get_or es i e → Some (e.name, e.meaning) ≡ slice_get (table_of es) i
+entry_is [] i e h k = absurd (omega (arith, h))
+entry_is (x ∷ xs) zero e h k = ap (λ (y : Entry). Some (y.name, y.meaning)) k
+entry_is (x ∷ xs) (suc i) e h k = entry_is xs i e (omega (arith, h)) k
+
+pub no_entry : (es : List Entry) (i : ℕ) → length es ≤ i → None ≡ slice_get (table_of es) i
+no_entry [] i h = refl
+no_entry (x ∷ xs) zero h = absurd (omega (arith, h))
+no_entry (x ∷ xs) (suc i) h = no_entry xs i (omega (arith, h))

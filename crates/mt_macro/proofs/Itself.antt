@@ -10,7 +10,7 @@ use Rattle.mt_macro.specs.declared.table.Macro.{Macro}
 use Rattle.mt_macro.specs.Limits.{max_tokens, max_steps}
 use Rattle.mt_macro.specs.Braces.{first_unmatched}
 use Rattle.mt_macro.specs.Table.{Table, macro_at}
-use Rattle.mt_macro.specs.inner.Naming.{names_macro}
+use Rattle.mt_macro.specs.Naming.{names_macro}
 use Rattle.mt_macro.specs.Arguments.{Arguments, arguments}
 use Rattle.mt_macro.specs.Expansion.{MacroStep, Done, Missing, Next, past, replacement, macro_step, macro_step_at}
 use Rattle.mt_macro.specs.Expansion.{Expansion, Expanded, OverBudget, ListTooLong}

@@ -33,7 +33,7 @@ own_found : (o : Option Macro)
 own_found None = refl
 own_found (Some m) = refl
 
-count_cases : (makes_own was : Bool) (new old : ℕ)
+pub count_cases : (makes_own was : Bool) (new old : ℕ)
     → new + (if was then 1 else 0) ≡ old + (if makes_own || was then 1 else 0)
     → (if makes_own && not was then old + 1 else old) ≡ new
 count_cases true true new old e = omega (arith, e)
@@ -48,7 +48,7 @@ lookup_is name (e ∷ es) =
     ∙ ap (cond (bytes_eq name e.0) (Some e.1)) (lookup_is name es)
 
 -- the user's own names, after a definition
-own_inserted : (name : List ℕ) (v : Macro) (es : Table) → IsStrictlySortedBy (slice_cmp nat_cmp) (keys_of es)
+pub own_inserted : (name : List ℕ) (v : Macro) (es : Table) → IsStrictlySortedBy (slice_cmp nat_cmp) (keys_of es)
     → own_count (with_macro es name v) + (if is_own (macro_of es name) then 1 else 0)
     ≡ own_count es + (if v.own then 1 else 0)
 own_inserted name v es sorted =

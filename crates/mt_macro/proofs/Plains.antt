@@ -7,7 +7,7 @@ use Rattle.mt_macro.specs.declared.table.Macro.{Macro}
 use Rattle.mt_macro.specs.declared.run.Run.{Run}
 use Rattle.mt_macro.specs.declared.stack.Rest.{Rest}
 use Rattle.mt_macro.specs.Table.{Table, macro_at}
-use Rattle.mt_macro.specs.inner.Naming.{names_macro}
+use Rattle.mt_macro.specs.Naming.{names_macro}
 use Rattle.mt_macro.specs.inner.Passing.{Plain, PushesPlain, PassesPlain}
 use Rattle.mt_macro.specs.inner.Lengths.{IsBasic}
 use Rattle.mt_macro.specs.inner.Runs.{Sources, part, meanings, left, left_of, place_tokens, AreRuns, AreLeft, GivesRun}

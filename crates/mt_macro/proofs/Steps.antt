@@ -11,7 +11,7 @@ use Rattle.mt_macro.specs.Table.{Table, macro_at}
 use Rattle.mt_macro.specs.Arguments.{Arguments, arguments}
 use Rattle.mt_macro.specs.Expansion.{Expansion, Expanded, OverBudget, replacement, NoArgument as MissesArgument, run}
 use Rattle.mt_macro.specs.inner.Ends.{joined}
-use Rattle.mt_macro.specs.inner.Naming.{IsMacro}
+use Rattle.mt_macro.specs.Naming.{IsMacro}
 use Rattle.mt_macro.specs.inner.Runs.{Sources, all_tokens, meanings, left_of, AreLeft, GivesToken, GainsAll, TakesRuns}
 use Rattle.mt_macro.specs.inner.Passing.{PassesPlain}
 use Rattle.mt_macro.specs.inner.Fillings.{Fills}

@@ -86,3 +86,8 @@ IsErrorOf OutOfMemory o = Unit {0}
 abbrev pub Expands : Result (List Token) ExpandError → Expansion → Type 0
 Expands (Ok list) o = o ≡ Expanded list
 Expands (Err e) o = IsErrorOf e o
+
+-- the same of a list that is put where it is wanted
+abbrev pub ExpandsTo : Result (Unit {0}) ExpandError → List Token → Expansion → Type 0
+ExpandsTo (Ok done) list o = o ≡ Expanded list
+ExpandsTo (Err e) list o = IsErrorOf e o

@@ -6,6 +6,10 @@ pub mod Braces
 pub mod Parameters
 -- macros by their names
 pub mod Table
+-- tokens and macros without places
+pub mod Placeless
+-- which tokens name macros
+pub mod Naming
 -- what a definition makes of a table
 pub mod Definition
 -- the arguments of a macro, and its body with them in it

@@ -14,8 +14,6 @@ pub mod Bodies
 pub mod Taking
 -- what became of a macro in a step
 pub mod Replacing
--- which tokens name macros
-pub mod Naming
 -- tokens that name no macro
 pub mod Passing
 -- marks of names

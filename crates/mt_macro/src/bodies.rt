@@ -3,7 +3,7 @@ ghost use Rattle.std.specs.Prelude.{◌≡◌, ◌<◌, ◌≤◌, ◌^◌, ℕ,
 ghost use Rattle.std.specs.List.{list_any};
 ghost use Rattle.mt_token.specs.declared.token.Token.{Token as TokenFields};
 ghost use Rattle.mt_macro.specs.Table.{Table, macro_at};
-ghost use Rattle.mt_macro.specs.inner.Naming.{IsMacro, names_macro};
+ghost use Rattle.mt_macro.specs.Naming.{IsMacro, names_macro};
 
 use mt_token::Lexicon;
 use std::alloc::{AllocError, Global};

@@ -1,13 +1,15 @@
 //! Definitions of macros.
-ghost use Rattle.std.specs.Prelude.{◌≡◌, ◌≤◌, ◌^◌, true, length, OnOk, OnErr};
+ghost use Rattle.std.specs.Prelude.{◌≡◌, ◌≤◌, ◌^◌, true, length, map, OnOk, OnErr};
 ghost use Rattle.mt_macro.specs.declared.definition.MacroError.TheVariants.{OutOfMemory};
 ghost use Rattle.mt_macro.specs.Table.{macro_of, is_own};
 ghost use Rattle.mt_macro.specs.Definition.{body_fault, define, preload, Answers, HasMacroAt};
 
-use crate::own::{first_bad_parameter, first_unmatched};
+use crate::braces::first_unmatched;
+use crate::own;
+use crate::parameters::first_bad_parameter;
 use crate::table::Macros;
 use mt_scaled::Name;
-use mt_token::Token;
+use mt_token::{Lexicon, Token};
 use std::alloc::AllocError;
 use thiserror::Error;
 
@@ -15,7 +17,7 @@ use thiserror::Error;
 const MAX_PARAMS: u8 = 9;
 
 /// The greatest number of names of the user's own.
-const MAX_OWN_NAMES: usize = 1_000;
+pub const MAX_OWN_NAMES: usize = 1_000;
 
 /// Why a macro was not taken.
 #[derive(Clone, Copy, Debug, PartialEq, Eq, Error)]
@@ -59,13 +61,15 @@ impl MacroError {
     }
 }
 
-fn body_fault(params: u8, body: &[Token]) -> Option<MacroError>
-    ensures { result ≡ body_fault params body.now }
+/// Why a body is no body of a macro with so many parameters; `None` where it is one. Never
+/// `OutOfMemory` or `TooMany`.
+pub fn body_fault<T, L: Lexicon<T>>(tables: &L, params: u8, body: &[T]) -> Option<MacroError>
+    ensures { result ≡ body_fault params (map (L.token tables.now) body.now) }
 {
-    if params > MAX_PARAMS || first_bad_parameter(params, body).is_some() {
+    if params > MAX_PARAMS || first_bad_parameter(tables, params, body).is_some() {
         return Some(MacroError::BadParameters);
     }
-    if first_unmatched(body).is_some() {
+    if first_unmatched(tables, body).is_some() {
         return Some(MacroError::Unbalanced);
     }
     None
@@ -86,7 +90,7 @@ impl Macros {
             (record { own = true; params = params; body = body.now })) }
         ensures err { OnErr result (self.new ≡ self.old) }
     {
-        if let Some(fault) = body_fault(params, body) {
+        if let Some(fault) = own::body_fault(params, body) {
             return Err(fault);
         }
         if !self.is_own(name.as_slice()) && self.own_names() >= MAX_OWN_NAMES {
@@ -110,7 +114,7 @@ impl Macros {
             (record { own = is_own (macro_of self.old name.now); params = params; body = body.now })) }
         ensures err { OnErr result (self.new ≡ self.old) }
     {
-        if let Some(fault) = body_fault(params, body) {
+        if let Some(fault) = own::body_fault(params, body) {
             return Err(fault);
         }
         self.put(name, false, params, body)?;

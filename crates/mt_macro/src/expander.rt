@@ -2,9 +2,9 @@
 ghost use Rattle.std.specs.Prelude.{◌≡◌, ◌<◌, ◌≤◌, ◌+◌, ◌^◌, ◌++◌, ◌∷◌, [], IfOk, OnOk, Err, None, length, map};
 ghost use Rattle.mt_macro.specs.Limits.{max_steps, max_tokens};
 ghost use Rattle.mt_macro.specs.Braces.{first_unmatched};
-ghost use Rattle.mt_macro.specs.Expansion.{run, expansion};
+ghost use Rattle.mt_macro.specs.Expansion.{run, expansion, ExpandsTo};
 ghost use Rattle.mt_macro.specs.inner.Ends.{AreEnds};
-ghost use Rattle.mt_macro.specs.inner.Replacing.{Replaces, ExpandsTo};
+ghost use Rattle.mt_macro.specs.inner.Replacing.{Replaces};
 ghost use Rattle.mt_macro.specs.inner.Runs.{sources, meanings, left_of, all_tokens, AreRuns, AreLeft};
 ghost use Rattle.mt_macro.specs.declared.expansion.ExpandError.TheVariants.{OutOfMemory};
 
@@ -66,6 +66,10 @@ impl Expander {
 
     /// The list in which no macro is left, put into `out` in place of what it has. Each step
     /// replaces the leftmost macro, with its arguments, by its body (The TeXbook, chapter 20).
+    ///
+    /// # Errors
+    ///
+    /// Those of [`crate::expand`]. What is in `out` after an error is not said.
     pub fn expand<T: Drop, B: Bodies<T>>(
         &mut self,
         tables: &B,

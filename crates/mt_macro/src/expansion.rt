@@ -1,13 +1,13 @@
 //! Expansion: macros are replaced, one step after another, until none is left.
-ghost use Rattle.std.specs.Prelude.{◌≡◌, ◌≤◌, ◌↔◌, IsTrue, length, Err, None};
+ghost use Rattle.std.specs.Prelude.{◌≡◌, ◌≤◌, ◌↔◌, IsTrue, length, map, Err, None};
 ghost use Rattle.mt_macro.specs.Limits.{max_tokens};
 ghost use Rattle.mt_macro.specs.Braces.{first_unmatched};
 ghost use Rattle.mt_macro.specs.Expansion.{expansion, Expanded, Expands};
 ghost use Rattle.mt_macro.specs.declared.expansion.ExpandError.TheVariants.{OutOfMemory};
 
-use crate::bodies::has_macro;
+use crate::bodies::{Bodies, has_macro};
+use crate::braces::first_unmatched;
 use crate::expander::{Expander, MAX_TOKENS};
-use crate::own::first_unmatched;
 use crate::table::Macros;
 use mt_token::{Token, TokenList};
 use std::alloc::{AllocError, Global};
@@ -96,11 +96,12 @@ pub fn expand(alloc: Global, macros: &Macros, list: &[Token]) -> Result<TokenLis
 
 /// Whether a list expands to itself: it has at most 50,000 tokens, no brace without partner, and no
 /// macro. Then it need not be expanded.
-pub fn expands_to_itself(macros: &Macros, list: &[Token]) -> bool
-    ensures { IsTrue result ↔ (expansion macros.now list.now ≡ Expanded list.now) }
+pub fn expands_to_itself<T, B: Bodies<T>>(tables: &B, list: &[T]) -> bool
+    ensures { IsTrue result ↔ (expansion (B.macros tables.now) (map (B.token tables.now) list.now)
+        ≡ Expanded (map (B.token tables.now) list.now)) }
 {
     if list.len() > MAX_TOKENS {
         return false;
     }
-    !has_macro(macros, list) && first_unmatched(list).is_none()
+    !has_macro(tables, list) && first_unmatched(tables, list).is_none()
 }

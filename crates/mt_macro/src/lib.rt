@@ -21,7 +21,12 @@ mod run;
 mod stack;
 mod table;
 
-pub use definition::MacroError;
-pub use expansion::{ExpandError, expand, expands_to_itself};
-pub use own::{closes_none, closing_brace, first_bad_parameter, is_close, is_open, level_after};
-pub use table::Macros;
+pub use bodies::{Bodies, Found};
+pub use definition::{MAX_OWN_NAMES, MacroError};
+pub use expander::Expander;
+pub use expansion::{ExpandError, expand};
+pub use own::{
+    closes_none, closing_brace, expands_to_itself, first_bad_parameter, is_close, is_open,
+    level_after,
+};
+pub use table::{Entry, Macro, Macros};

@@ -1,10 +1,14 @@
-//! Braces and parameters in lists of tokens, each of which is read as itself.
+//! Braces, parameters and macros in lists of tokens, each of which is read as itself.
 ghost use Rattle.std.specs.Prelude.{◌≡◌, ◌<◌, ◌≤◌, ℕ, ◌+◌, ◌^◌, ◌==◌, ◌&&◌, length, take, drop};
-ghost use Rattle.std.specs.Prelude.{None, Some, IfSome, MatchOption};
-ghost use Rattle.mt_macro.specs.Braces.{is_open, is_close, level_after, group, first_unmatched};
+ghost use Rattle.std.specs.Prelude.{None, Some, MatchOption, IsTrue, ◌↔◌};
+ghost use Rattle.mt_macro.specs.Braces.{is_open, is_close, level_after, group};
+ghost use Rattle.mt_macro.specs.Definition.{body_fault};
+ghost use Rattle.mt_macro.specs.Expansion.{expansion, Expanded};
 ghost use Rattle.mt_macro.specs.Parameters.{first_bad_parameter};
 
-use crate::{braces, parameters};
+use crate::definition::MacroError;
+use crate::table::Macros;
+use crate::{braces, definition, expansion, parameters};
 use mt_token::{OwnTokens, Token};
 
 /// Whether a token opens a group.
@@ -37,14 +41,6 @@ pub fn closes_none(level: usize, token: &Token) -> bool
     braces::closes_none(&OwnTokens, level, token)
 }
 
-/// The index of the first brace without partner, counted from 0.
-pub(crate) fn first_unmatched(list: &[Token]) -> Option<usize>
-    ensures is { result ≡ first_unmatched 0 list.now }
-    ensures within { IfSome result (λ index. index < length list.now) }
-{
-    braces::first_unmatched(&OwnTokens, list)
-}
-
 /// The index of the `}` that closes a group, of which the `{` is before the tokens.
 pub fn closing_brace(tokens: &[Token]) -> Option<usize>
     ensures within { (i : ℕ) → result ≡ Some i → i < length tokens.now }
@@ -60,4 +56,19 @@ pub fn first_bad_parameter(params: u8, body: &[Token]) -> Option<usize>
     ensures { result ≡ first_bad_parameter params body.now }
 {
     parameters::first_bad_parameter(&OwnTokens, params, body)
+}
+
+/// Why a body is no body of a macro with so many parameters; `None` where it is one.
+pub(crate) fn body_fault(params: u8, body: &[Token]) -> Option<MacroError>
+    ensures { result ≡ body_fault params body.now }
+{
+    definition::body_fault(&OwnTokens, params, body)
+}
+
+/// Whether a list expands to itself: it has at most 50,000 tokens, no brace without partner, and no
+/// macro. Then it need not be expanded.
+pub fn expands_to_itself(macros: &Macros, list: &[Token]) -> bool
+    ensures { IsTrue result ↔ (expansion macros.now list.now ≡ Expanded list.now) }
+{
+    expansion::expands_to_itself(macros, list)
 }

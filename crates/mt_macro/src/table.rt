@@ -1,6 +1,7 @@
 //! The macros by their names.
 ghost use Rattle.std.specs.Prelude.{◌≡◌, ◌≤◌, ◌^◌, ◌<◌, ◌+◌, ◌||◌, ◌&&◌, not, [], true, false, None, length};
-ghost use Rattle.std.specs.Prelude.{if◌then◌else◌, MatchOption, IfOk, IfErr, OnOk, OnErr};
+ghost use Rattle.std.specs.Prelude.{if◌then◌else◌, MatchOption, IfSome, IfOk, IfErr, OnOk, OnErr, slice_get};
+ghost use Rattle.std.specs.Option.{option_copied, option_map};
 ghost use Rattle.std.specs.Map.{keys_of};
 ghost use Rattle.std.specs.List.Sorted.{IsStrictlySortedBy};
 ghost use Rattle.std.specs.Cmp.Lexicographic.{slice_cmp};
@@ -8,7 +9,7 @@ ghost use Rattle.std.specs.Ordering.{nat_cmp};
 ghost use Rattle.mt_macro.specs.Limits.{max_own_names};
 ghost use Rattle.mt_macro.specs.Table.{macro_of, is_own, own_count, with_macro};
 ghost use Rattle.mt_macro.specs.inner.Entries.{table_of, body_at, HasAt, IsPlace};
-ghost use Rattle.mt_macro.specs.inner.Naming.{IsMacro};
+ghost use Rattle.mt_macro.specs.Naming.{IsMacro};
 
 use crate::bodies::{Bodies, Found};
 use crate::name_marks::NameMarks;
@@ -43,9 +44,11 @@ pub struct Macros {
 
 /// A name and its macro.
 #[derive(Debug, Drop)]
-struct Entry {
-    name: Name,
-    meaning: Macro,
+pub struct Entry {
+    /// The name.
+    pub name: Name,
+    /// Its macro.
+    pub meaning: Macro,
 }
 
 impl Model for Macros {
@@ -70,6 +73,27 @@ impl Macros {
             entries: Vec::new(alloc),
             own_names: 0,
             marks: NameMarks::none(),
+        }
+    }
+
+    /// How many macros there are.
+    pub fn len(&self) -> usize
+        ensures { result ≡ length self.now }
+    {
+        self.entries.len()
+    }
+
+    /// The macro with an index in the order of the names, with its name; `None` where the macros are
+    /// no more than that.
+    pub fn entry(&self, index: usize) -> Option<&Entry>
+        ensures is { option_map (λ e. (e.name, e.meaning)) (option_copied result)
+            ≡ slice_get self.now index }
+        ensures sorted { IsStrictlySortedBy (slice_cmp nat_cmp) (keys_of self.now) }
+        ensures short { IfSome result (λ e. length e.now.meaning.body ≤ 2 ^ 32) }
+    {
+        match self.entries.as_slice().get(index) {
+            Some(entry) => Some(entry),
+            None => None,
         }
     }
 

@@ -1,10 +1,9 @@
 -- What became of a macro and its arguments in a step.
-use Rattle.std.specs.Prelude.{◌≡◌, ℕ, ◌+◌, ◌<◌, ◌≤◌, List, length, Result, Ok, Err}
+use Rattle.std.specs.Prelude.{◌≡◌, ℕ, ◌+◌, ◌<◌, ◌≤◌, List, length}
 use Rattle.mt_token.specs.declared.token.Token.{Token}
 use Rattle.mt_macro.specs.Limits.{max_tokens}
 use Rattle.mt_macro.specs.Arguments.{arguments}
-use Rattle.mt_macro.specs.Expansion.{MacroStep, Missing, Next, Expansion, Expanded, replacement, IsErrorOf}
-use Rattle.mt_macro.specs.declared.expansion.ExpandError.{ExpandError}
+use Rattle.mt_macro.specs.Expansion.{MacroStep, Missing, Next, replacement}
 use Rattle.mt_macro.specs.declared.table.Macro.{Macro}
 use Rattle.mt_macro.specs.declared.run.Run.{Run}
 use Rattle.mt_macro.specs.declared.stack.Rest.{Rest}
@@ -40,8 +39,3 @@ AreLeftAfter Done src parts rest = AreLeft src parts rest
 pub record Replaces (passed : ℕ) (r : Replacement) (params : ℕ) (body before : List Token) (src : Sources) (parts : List Run) (rest : Rest) : Type 0 where
   pub is : (m : Macro) → m.params ≡ params → m.body ≡ body → ReplacesBy passed r (replacement m (arguments m.params before)) (left_of src parts rest)
   pub below : AreLeftAfter r src parts rest
-
--- the list, or the error, is this outcome, or memory ran out
-abbrev pub ExpandsTo : Result (Unit {0}) ExpandError → List Token → Expansion → Type 0
-ExpandsTo (Ok done) list o = o ≡ Expanded list
-ExpandsTo (Err e) list o = IsErrorOf e o

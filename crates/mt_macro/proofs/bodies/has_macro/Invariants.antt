@@ -1,6 +1,6 @@
 use Rattle.std.proofs.Common.{◌≡◌, length, map}
 use Rattle.std.specs.List.{list_any}
-use Rattle.mt_macro.specs.inner.Naming.{names_macro}
+use Rattle.mt_macro.specs.Naming.{names_macro}
 use Rattle.mt_macro.proofs.bodies.has_macro.Given as goal
 
 abbrev pub invariant-loop-rest : goal.invariant-loop-rest

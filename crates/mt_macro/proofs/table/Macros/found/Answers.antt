@@ -1,7 +1,7 @@
 use Rattle.std.proofs.Common.{sym, subst, arith}
 use Rattle.mt_macro.specs.Table.{Table, macro_of}
 use Rattle.mt_macro.specs.inner.Entries.{HasAt, body_at}
-use Rattle.mt_macro.specs.inner.Naming.{IsMacro}
+use Rattle.mt_macro.specs.Naming.{IsMacro}
 use Rattle.mt_macro.proofs.Entries.{has_within, has_macro}
 use Rattle.mt_macro.proofs.table.Macros.found.Goals as goal
 
