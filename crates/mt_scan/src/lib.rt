@@ -19,7 +19,9 @@ mod units;
 pub use delimiters::MAX_DELIMITER;
 pub use fault::{Fault, ReadCause};
 pub use numbers::MAX_MATH_CHAR;
-pub use role::{Amount, Bar, FieldKind, Preamble, Role, Side, Simple, role_of};
+pub use role::{
+    Amount, Bar, FieldKind, Preamble, Role, Side, Simple, character_role, name_role, role_of,
+};
 pub use roles::Roles;
 pub use scanned::Scanned;
 pub use symbols::{class_of, code_symbol, current_family, delim_of, null_delim};

@@ -288,7 +288,8 @@ fn code_role(c: u8, code: u16) -> Role
     }
 }
 
-fn character_role(codes: &Codes, c: u8) -> Role
+/// What a character is in a formula, by its ASCII code, with these codes.
+pub fn character_role(codes: &Codes, c: u8) -> Role
     requires { c < 128 }
     ensures { result ≡ character_role codes.now c }
 {
@@ -304,9 +305,10 @@ fn character_role(codes: &Codes, c: u8) -> Role
     }
 }
 
-// A name by its meaning. A function of its own keeps `role_of` small enough to be inlined.
+/// What a name is in a formula, by its meaning.
+// A function of its own keeps `role_of` small enough to be inlined.
 #[inline(never)]
-fn name_role(codes: &Codes, name: &[u8]) -> Role
+pub fn name_role(codes: &Codes, name: &[u8]) -> Role
     ensures { result ≡ meaning_role (control name.now) }
 {
     meaning_role(codes.control(name))
