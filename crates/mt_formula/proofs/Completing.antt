@@ -67,16 +67,16 @@ module _ (tables : CodeTables) (units : Units) (ending : Ending) (level : ℕ) (
         after_run ∙ e ∙ ap (λ x. then_read x (denominator tables units (whole_run tables units) ending level ran)) f
         ∙ ap (λ i. denominator tables units (whole_run tables units) ending level (record { items = i; family = run.family }) head after) (sym mid_items)
 
-    pub open_divides : (result : Result (Scanned (Option Noad) Token) Stop) (new : ArenaValue) (head : FractionHead) (after : List Token) → fraction_head tables units delims bar (drop 1 rest) ≡ Got head after
-        → ReadsOpen result mid new (denominator tables units (whole_run tables units) ending level (record { items = append (as_sequence mid.top) (last_atom_items (last_in mid.closed run.last)); family = run.family }) head after)
-        → ReadsOpen result old new listed
-    open_divides (Ok part) new head after f h = record {
+    pub open_divides : {T : Type 0} (token : T → Token) (result : Result (Scanned (Option Noad) T) Stop) (new : ArenaValue) (head : FractionHead) (after : List Token) → fraction_head tables units delims bar (drop 1 rest) ≡ Got head after
+        → ReadsOpen token result mid new (denominator tables units (whole_run tables units) ending level (record { items = append (as_sequence mid.top) (last_atom_items (last_in mid.closed run.last)); family = run.family }) head after)
+        → ReadsOpen token result old new listed
+    open_divides token (Ok part) new head after f h = record {
       front = extends_more old.closed mid.closed new.closed r.adds.front h.front;
       below = h.below ∙ r.adds.below;
       inside = h.inside;
       is = divides head after f ∙ h.is;
     }
-    open_divides (Err stop) new head after f h = fault_same stop listed _ (divides head after f) h
+    open_divides token (Err stop) new head after f h = fault_same stop listed _ (divides head after f) h
 
 -- the lists of a fraction, of which the numerator was closed first
 module _ (es fs : List Held) (num den : Span) (front : Extends es fs) (k : KeptSpan es num) (l : KeptSpan fs den) where

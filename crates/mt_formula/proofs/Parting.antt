@@ -1,5 +1,5 @@
 -- The parts of a list that have lists in them: what is read for each, and what it is made of.
-use Rattle.std.proofs.Common.{◌≡◌, ℕ, add-one, ◌+◌, Bool, true, false, List, [], ◌∷◌, ◌++◌, drop, Option, Some, None, refl, sym, ap, ◌∙◌, subst, arith}
+use Rattle.std.proofs.Common.{◌≡◌, ℕ, add-one, ◌+◌, Bool, true, false, List, [], ◌∷◌, ◌++◌, length, drop, Option, Some, None, refl, sym, ap, ◌∙◌, subst, arith}
 use Rattle.std.specs.Prelude.{⊤, if◌then◌else◌}
 use Rattle.mt_token.specs.declared.token.Token.{Token}
 use Rattle.mt_scaled.specs.declared.unit.Units.{Units}
@@ -7,7 +7,9 @@ use Rattle.mt_plain.specs.CodeTables.{CodeTables}
 use Rattle.mt_rules.specs.declared.symbol.Delim.{Delim}
 use Rattle.mt_rules.specs.declared.class.Class.TheVariants.{Inner}
 use Rattle.mt_rules.specs.declared.kind.Kind.TheVariants.{Plain}
-use Rattle.mt_rules.specs.Sequence.{Sequence, TableGrid, End, More, LeftElement, ListPart}
+use Rattle.mt_rules.specs.Sequence.{Sequence, Part, TableGrid, End, More, LeftElement, ListPart}
+use Rattle.mt_scan.specs.declared.role.Role.{Role}
+use Rattle.mt_scan.specs.declared.role.Role.TheVariants.{OpenBrace, CloseBrace}
 use Rattle.mt_scan.specs.Role.{is_math_shift, is_open_brace, is_superscript, role_of}
 use Rattle.mt_scan.specs.Parts.{Read, Got, after_blanks, after_spaces, opening, then_read}
 use Rattle.mt_arena.specs.declared.thing.Noad.{Noad}
@@ -15,14 +17,14 @@ use Rattle.mt_arena.specs.declared.thing.Span.{Span}
 use Rattle.mt_arena.specs.declared.thing.Thing.TheVariants.{Choice}
 use Rattle.mt_arena.specs.Arena.{ArenaValue, Extends, Held, as_sequence, first_open, other_open, sequence_in}
 use Rattle.mt_arena.proofs.Putting.{extends_append, extends_more}
-use Rattle.mt_formula.specs.declared.reading.ends.Ending.TheVariants.{AtDollar, AtEnd}
+use Rattle.mt_formula.specs.declared.reading.ends.Ending.TheVariants.{AtDollar, AtEnd, AtOf}
 use Rattle.mt_formula.specs.declared.reading.stop.Stop.{Stop}
-use Rattle.mt_formula.specs.declared.actions.action.Action.TheVariants.{Rows as RowsAction, LeftRight}
-use Rattle.mt_formula.specs.Atoms.{append, element_of_atom, last_atom_items, plain_atom, prime_atom, prime_items}
+use Rattle.mt_formula.specs.declared.actions.action.Action.TheVariants.{Rows as RowsAction, LeftRight, Root}
+use Rattle.mt_formula.specs.Atoms.{append, element_of_atom, last_atom_items, plain_atom, prime_atom, prime_items, root_atom}
 use Rattle.mt_formula.specs.Groups.{segments}
-use Rattle.mt_formula.specs.Items.{Given, GivesAtom, given, table_given}
-use Rattle.mt_formula.specs.Lists.{list, list_after, then_give}
-use Rattle.mt_formula.specs.Primes.{after_primes, argument_after, prime_script, prime_script_of, primes}
+use Rattle.mt_formula.specs.Items.{Given, GivesAtom, atom_given, field, given, table_given}
+use Rattle.mt_formula.specs.Lists.{ItemRunReader, list, list_after, then_give}
+use Rattle.mt_formula.specs.Primes.{after_primes, argument_after, argument_at, argument_read, prime_script, prime_script_of, primes}
 use Rattle.mt_formula.specs.Rows.{brace_closes, first_rows, row, rows}
 use Rattle.mt_formula.specs.Tables.{brace_level, preamble_of, table, table_rows}
 use Rattle.mt_formula.specs.Whole.{whole_rows}
@@ -82,6 +84,14 @@ primes_closed b count p all e l h =
 pub grows_more : (a b c : ArenaValue) → Grows a b → Grows b c → Grows a c
 grows_more a b c g h = record { front = extends_more a.closed b.closed c.closed g.front h.front; top = h.top ∙ g.top; below = h.below ∙ g.below }
 
+-- an argument that is one token
+pub one_token : (tables : CodeTables) (units : Units) (again : ItemRunReader) (count level : ℕ) (family : Option ℕ) (t : Token) (rest : List Token) (role : Role)
+    → (role ≡ OpenBrace → ⊥) → (role ≡ CloseBrace → ⊥)
+    → argument_at tables units again count level family t rest role ≡ argument_read tables units again count level family (record { tokens = t ∷ []; behind = length rest; after = rest })
+one_token tables units again count level family t rest OpenBrace n m = absurd (n refl)
+one_token tables units again count level family t rest CloseBrace n m = absurd (m refl)
+one_token tables units again count level family t rest _ n m = refl
+
 module _ (tables : CodeTables) (units : Units) where
   -- primes and what is read after them, as a list
   pub primes_in : (b m new : ArenaValue) (count level : ℕ) (family : Option ℕ) (p : Noad) (last : Option Noad) (span : Span) (tokens rest : List Token)
@@ -99,6 +109,20 @@ module _ (tables : CodeTables) (units : Units) where
       → HasFault stop (given tables units (whole_run tables units) level family RowsAction inside)
   rows_given level family inside stop h =
       fault_then stop (rows tables units (whole_run tables units) level inside) _ (fault_same stop (rows tables units (whole_run tables units) level inside) _ (first_rows_by_rules tables units level inside) h)
+
+  -- a root
+  abbrev root_after : ℕ → Option ℕ → Sequence → List Token → Read Given
+  root_after level family degree word = then_give (field tables units (whole_run tables units) level family (drop 1 word)) (λ (body : Part). atom_given (root_atom degree body))
+
+  pub degree_fails : (level : ℕ) (family : Option ℕ) (inside : List Token) (stop : Stop) → HasFault stop (list tables units (whole_run tables units) AtOf (level + 1) family inside)
+      → HasFault stop (given tables units (whole_run tables units) level family Root inside)
+  degree_fails level family inside stop h = fault_then stop (list tables units (whole_run tables units) AtOf (level + 1) family inside) (root_after level family) h
+
+  pub body_fails : (level : ℕ) (family : Option ℕ) (inside word : List Token) (degree : Sequence) (stop : Stop) → list tables units (whole_run tables units) AtOf (level + 1) family inside ≡ Got degree word
+      → HasFault stop (field tables units (whole_run tables units) level family (drop 1 word)) → HasFault stop (given tables units (whole_run tables units) level family Root inside)
+  body_fails level family inside word degree stop e h =
+      fault_same stop (given tables units (whole_run tables units) level family Root inside) (root_after level family degree word) (ap (λ r. then_read r (root_after level family)) e)
+      (fault_then stop (field tables units (whole_run tables units) level family (drop 1 word)) (λ (body : Part) (rest : List Token). Got (atom_given (root_atom degree body)) rest) h)
 
   -- what is between boundaries
   abbrev bounded_atom : Sequence → Given

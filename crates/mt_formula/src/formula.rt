@@ -1,11 +1,11 @@
-//! Formulas.
-ghost use Rattle.std.specs.Prelude.{◌≡◌, ◌≤◌, ◌^◌, ◌+◌, ◌*◌, None, length, IfOk, OnOk};
+//! Formulas of items of any kind.
+ghost use Rattle.std.specs.Prelude.{◌≡◌, ◌≤◌, ◌^◌, ◌+◌, ◌*◌, None, length, IfOk, OnOk, map};
 ghost use Rattle.mt_scaled.specs.Number.{Within};
 ghost use Rattle.mt_macro.specs.Limits.{max_tokens};
 ghost use Rattle.mt_arena.specs.Arena.{Extends, sequence_in};
 ghost use Rattle.mt_arena.specs.Keeping.{KeptList};
 ghost use Rattle.mt_scan.specs.Parts.{Read, after_blanks, IsAnswered};
-ghost use Rattle.mt_formula.specs.Answers.{IsFault, ReadsAs};
+ghost use Rattle.mt_formula.specs.Answers.{IsFault};
 ghost use Rattle.mt_formula.specs.Counts.{body_rows, formula_items, IsModestFormula};
 ghost use Rattle.mt_formula.specs.Formulas.{ReadFault, reading_of};
 ghost use Rattle.mt_formula.specs.Formulas.{reading};
@@ -15,7 +15,7 @@ ghost use Rattle.mt_formula.specs.Rules.{display_here, formula, list_formula};
 ghost use Rattle.mt_formula.specs.Tags.{IsTagPlaced};
 ghost use Rattle.mt_arena.specs.Formulas.{FormulaLists, formula_end, formula_in};
 ghost use Rattle.mt_formula.specs.reading.Formulas.{ReadsFormulaInto, ReadsWhole};
-ghost use Rattle.mt_formula.specs.reading.Reads.{ReadsInto, whole_run};
+ghost use Rattle.mt_formula.specs.reading.Reads.{ReadsInto, whole};
 ghost use Rattle.mt_formula.specs.reading.Stops.{HasFault};
 
 use crate::read_error::ReadError;
@@ -25,13 +25,10 @@ use crate::reading::ends::Ending;
 use crate::reading::list::read_list;
 use crate::reading::stop::Stop;
 use crate::reading::whole_list::span_of;
-use mt_arena::{Arena, Span, SpanBody, SpanFormula, SpanTag, formula_of};
-use mt_plain::Codes;
-use mt_rules::{Body, Tag};
+use mt_arena::{Arena, Span, SpanBody, SpanFormula, SpanTag};
 use mt_scaled::Units;
-use mt_scan::{ReadCause, Role, Scanned, after_blanks, role_of};
-use mt_token::Token;
-use std::alloc::Global;
+use mt_scan::items::after_blanks;
+use mt_scan::{ReadCause, Role, Roles, Scanned};
 
 // Where the body of a formula ends.
 fn body_ending(display: bool) -> Ending
@@ -54,13 +51,15 @@ fn is_at_left(role: Role) -> bool
 }
 
 // A list that ends so, with no group round it.
-fn read_outer<'a>(
+fn read_outer<'a, T, R: Roles<T>>(
     arena: &mut Arena,
-    grammar: Grammar<'_>,
+    grammar: Grammar<'_, R>,
     ending: Ending,
-    tokens: &'a [Token],
-) -> Result<Scanned<'a, Span>, Stop>
-    ensures is { ReadsInto sequence_in result arena.old arena.new (list grammar.entry.codes.now grammar.entry.units (whole_run grammar.entry.codes.now grammar.entry.units) ending 0 None tokens.now) }
+    tokens: &'a [T],
+) -> Result<Scanned<'a, Span, T>, Stop>
+    ensures is { ReadsInto (R.token grammar.entry.roles.now) sequence_in result arena.old arena.new
+        (whole list (R.codes grammar.entry.roles.now) grammar.entry.units ending 0 None
+        (map (R.token grammar.entry.roles.now) tokens.now)) }
     ensures within { IfOk result (λ part. part.value.end ≤ length arena.new.closed) }
     ensures lists { IfOk result (λ part. KeptList (sequence_in arena.new.closed part.value)) }
 {
@@ -72,13 +71,15 @@ fn read_outer<'a>(
 }
 
 // A list, and its number.
-fn list_parts(
+fn list_parts<T, R: Roles<T>>(
     arena: &mut Arena,
-    grammar: Grammar<'_>,
+    grammar: Grammar<'_, R>,
     display: bool,
-    tokens: &[Token],
+    tokens: &[T],
 ) -> Result<SpanFormula, Stop>
-    ensures is { ReadsWhole formula_in result arena.old arena.new (list_formula grammar.entry.codes.now grammar.entry.units (whole_run grammar.entry.codes.now grammar.entry.units) display tokens.now) }
+    ensures is { ReadsWhole formula_in result arena.old arena.new
+        (whole list_formula (R.codes grammar.entry.roles.now) grammar.entry.units display
+        (map (R.token grammar.entry.roles.now) tokens.now)) }
     ensures within { IfOk result (λ formula. formula_end formula ≤ length arena.new.closed) }
     ensures lists { IfOk result (FormulaLists arena.new.closed) }
 {
@@ -88,7 +89,7 @@ fn list_parts(
             let side = read_outer(arena, grammar, Ending::AtEnd, rest)?;
             let tag = SpanTag {
                 body: side.value,
-                left: is_at_left(role_of(grammar.codes, token)),
+                left: is_at_left(grammar.roles.role_of(token)),
             };
             Ok(SpanFormula {
                 body: SpanBody::List(body.value),
@@ -103,17 +104,20 @@ fn list_parts(
 }
 
 // The body of a display, and its number.
-fn display_parts(
+fn display_parts<T, R: Roles<T>>(
     arena: &mut Arena,
-    grammar: Grammar<'_>,
-    tokens: &[Token],
+    grammar: Grammar<'_, R>,
+    tokens: &[T],
 ) -> Result<SpanFormula, Stop>
-    ensures is { ReadsWhole formula_in result arena.old arena.new (display_here grammar.entry.codes.now grammar.entry.units (whole_run grammar.entry.codes.now grammar.entry.units) tokens.now (after_blanks grammar.entry.codes.now tokens.now)) }
+    ensures is { ReadsWhole formula_in result arena.old arena.new
+        (whole display_here (R.codes grammar.entry.roles.now) grammar.entry.units
+        (map (R.token grammar.entry.roles.now) tokens.now)
+        (after_blanks (R.codes grammar.entry.roles.now) (map (R.token grammar.entry.roles.now) tokens.now))) }
     ensures within { IfOk result (λ formula. formula_end formula ≤ length arena.new.closed) }
     ensures lists { IfOk result (FormulaLists arena.new.closed) }
 {
-    match after_blanks(grammar.codes, tokens) {
-        [token, rest @ ..] => match role_of(grammar.codes, token) {
+    match after_blanks(grammar.roles, tokens) {
+        [token, rest @ ..] => match grammar.roles.role_of(token) {
             Role::DisplayWord(preamble, left) => {
                 let body = read_display(arena, grammar, preamble, left, rest)?;
                 Ok(SpanFormula { body, tag: None })
@@ -125,13 +129,15 @@ fn display_parts(
 }
 
 // The body of a formula, and its number.
-fn formula_parts(
+fn formula_parts<T, R: Roles<T>>(
     arena: &mut Arena,
-    grammar: Grammar<'_>,
+    grammar: Grammar<'_, R>,
     display: bool,
-    tokens: &[Token],
+    tokens: &[T],
 ) -> Result<SpanFormula, Stop>
-    ensures is { ReadsWhole formula_in result arena.old arena.new (formula grammar.entry.codes.now grammar.entry.units (whole_run grammar.entry.codes.now grammar.entry.units) display tokens.now) }
+    ensures is { ReadsWhole formula_in result arena.old arena.new
+        (whole formula (R.codes grammar.entry.roles.now) grammar.entry.units display
+        (map (R.token grammar.entry.roles.now) tokens.now)) }
     ensures within { IfOk result (λ formula. formula_end formula ≤ length arena.new.closed) }
     ensures lists { IfOk result (FormulaLists arena.new.closed) }
 {
@@ -173,67 +179,42 @@ fn error_of(stop: Stop, count: usize) -> ReadError
     }
 }
 
-/// The body of a formula and its number, as of [`read_formula`], read into an arena: as spans of its closed lists. The
-/// lists that are closed before stay, and so do the open ones.
+/// The body of a formula and its number, as of [`crate::read_formula`], read into an arena: as spans of its closed
+/// lists. The lists that are closed before stay, and so do the open ones. The items are read as the tokens of the
+/// formula.
 ///
 /// # Errors
 ///
-/// Those of [`read_formula`]. What is in the arena after an error is not said.
-pub fn read_spans(
+/// Those of [`crate::read_formula`]. What is in the arena after an error is not said.
+pub fn read_spans<T, R: Roles<T>>(
     arena: &mut Arena,
-    codes: &Codes,
+    roles: &R,
     units: Units,
     display: bool,
-    list: &[Token],
+    list: &[T],
 ) -> Result<SpanFormula, ReadError>
     requires length { length list.now ≤ 2 ^ 31 }
     requires em { Within (2 ^ 31) units.em }
     requires ex { Within (2 ^ 31) units.ex }
-    ensures is { ReadsFormulaInto result arena.new (reading codes.now units display list.now) }
+    ensures is { ReadsFormulaInto result arena.new
+        (reading (R.codes roles.now) units display (map (R.token roles.now) list.now)) }
     ensures front { OnOk result (Extends arena.old.closed arena.new.closed) }
     ensures top { OnOk result (arena.new.top ≡ arena.old.top) }
     ensures below { OnOk result (arena.new.below ≡ arena.old.below) }
     ensures within { IfOk result (λ formula. formula_end formula ≤ length arena.new.closed) }
     ensures lists { IfOk result (FormulaLists arena.new.closed) }
-    ensures items { IfOk result (λ formula. formula_items (formula_in arena.new.closed formula) ≤ 4 * length list.now + 8) }
+    ensures items { IfOk result
+        (λ formula. formula_items (formula_in arena.new.closed formula) ≤ 4 * length list.now + 8) }
     ensures rows { IfOk result (λ formula. body_rows (formula_in arena.new.closed formula).0 ≤ length list.now) }
-    ensures modest { length list.now ≤ max_tokens → IfOk result (λ formula. IsModestFormula (formula_in arena.new.closed formula)) }
-    ensures tags { IfOk result (λ formula. IsTagPlaced display (formula_in arena.new.closed formula).0 (formula_in arena.new.closed formula).1) }
+    ensures modest { length list.now ≤ max_tokens → IfOk result
+        (λ formula. IsModestFormula (formula_in arena.new.closed formula)) }
+    ensures tags { IfOk result
+        (λ formula. IsTagPlaced display (formula_in arena.new.closed formula).0
+        (formula_in arena.new.closed formula).1) }
 {
-    let grammar = Grammar { codes, units };
+    let grammar = Grammar { roles, units };
     match formula_parts(arena, grammar, display, list) {
         Ok(formula) => Ok(formula),
         Err(stop) => Err(error_of(stop, list.len())),
     }
-}
-
-/// The body of a formula, and what is set at its side as its number (The TeXbook, chapters 17, 18, 19
-/// and 26). Only a display has such a number, given by `\eqno` or `\leqno`; a display of several lines
-/// has none, since its rows have their own.
-///
-/// The tokens are those of the formula alone, without macros; `codes` are in force in it, and
-/// `units` are what `em` and `ex` stand for, in scaled points.
-///
-/// # Errors
-///
-/// The first fault, by the index of its token. `OutOfMemory` where memory ran out.
-pub fn read_formula(
-    alloc: Global,
-    codes: &Codes,
-    units: Units,
-    display: bool,
-    list: &[Token],
-) -> Result<(Body, Option<Tag>), ReadError>
-    requires length { length list.now ≤ 2 ^ 31 }
-    requires em { Within (2 ^ 31) units.em }
-    requires ex { Within (2 ^ 31) units.ex }
-    ensures is { ReadsAs result (reading codes.now units display list.now) }
-    ensures items { IfOk result (λ formula. formula_items formula ≤ 4 * length list.now + 8) }
-    ensures rows { IfOk result (λ formula. body_rows formula.0 ≤ length list.now) }
-    ensures modest { length list.now ≤ max_tokens → IfOk result IsModestFormula }
-    ensures tags { IfOk result (λ formula. IsTagPlaced display formula.0 formula.1) }
-{
-    let mut arena = Arena::new(alloc);
-    let formula = read_spans(&mut arena, codes, units, display, list)?;
-    Ok(formula_of(alloc, &arena, formula)?)
 }

@@ -1,5 +1,5 @@
 -- What the reading of a part into an arena answers.
-use Rattle.std.specs.Prelude.{◌≡◌, [], ◌∷◌, ◌++◌, ℕ, true, List, Option, Result, Ok, Err}
+use Rattle.std.specs.Prelude.{◌≡◌, map, [], ◌∷◌, ◌++◌, ℕ, true, List, Option, Result, Ok, Err}
 use Rattle.std.specs.Borrow.{Bor}
 use Rattle.mt_token.specs.declared.token.Token.{Token}
 use Rattle.mt_scaled.specs.declared.unit.Units.{Units}
@@ -27,6 +27,10 @@ use Rattle.mt_formula.specs.reading.Givens.{given_in}
 abbrev pub whole_run : CodeTables → Units → ItemRunReader
 whole_run tables units = run_of (whole_readers tables units)
 
+-- what is read of a part, where its runs of items are read so
+abbrev pub whole : {A : Type 0} → (CodeTables → Units → ItemRunReader → A) → CodeTables → Units → A
+whole read tables units = read tables units (whole_run tables units)
+
 -- more closed lists are there, and the open ones are the same
 pub record Grows (old new : ArenaValue) : Type 0 where
   pub front : Extends old.closed new.closed
@@ -51,10 +55,10 @@ pub record Closes (old new : ArenaValue) : Type 0 where
   pub top : new.top ≡ first_open old.below
   pub below : new.below ≡ other_open old.below
 
--- a part is read, with this meaning among the closed lists
-abbrev pub ReadsInto : {V A : Type 0} → (List Held → V → A) → Result (Scanned V Token) Stop → ArenaValue → ArenaValue → Read A → Type 0
-ReadsInto mean (Ok part) old new read = Grows old new × (read ≡ Got (mean new.closed part.value) part.rest.now)
-ReadsInto mean (Err stop) old new read = HasFault stop read
+-- a part is read, with this meaning among the closed lists; the items after it are read as tokens, here and below
+abbrev pub ReadsInto : {T V A : Type 0} → (T → Token) → (List Held → V → A) → Result (Scanned V T) Stop → ArenaValue → ArenaValue → Read A → Type 0
+ReadsInto token mean (Ok part) old new read = Grows old new × (read ≡ Got (mean new.closed part.value) (map token part.rest.now))
+ReadsInto token mean (Err stop) old new read = HasFault stop read
 
 -- a run of items that is read to its end, behind the items that the innermost open list has
 pub record RunsTo (old new : ArenaValue) (read : Read ItemRun) (run : RunEnd) (rest : List Token) : Type 0 where
@@ -62,9 +66,9 @@ pub record RunsTo (old new : ArenaValue) (read : Read ItemRun) (run : RunEnd) (r
   pub adds : Adds old new more
   pub is : read ≡ Got (record { items = append (as_sequence more) (last_atom_items (last_in new.closed run.last)); family = run.family }) rest
 
-abbrev pub ReadsRun : Result (Scanned RunEnd Token) Stop → ArenaValue → ArenaValue → Read ItemRun → Type 0
-ReadsRun (Ok part) old new read = RunsTo old new read part.value part.rest.now
-ReadsRun (Err stop) old new read = HasFault stop read
+abbrev pub ReadsRun : {T : Type 0} → (T → Token) → Result (Scanned RunEnd T) Stop → ArenaValue → ArenaValue → Read ItemRun → Type 0
+ReadsRun token (Ok part) old new read = RunsTo old new read part.value (map token part.rest.now)
+ReadsRun token (Err stop) old new read = HasFault stop read
 
 -- what is given is put behind the items that the innermost open list has
 pub record Puts (old new : ArenaValue) (run : RunEnd) (given : CodeGiven) (next : RunEnd) : Type 0 where
@@ -81,9 +85,9 @@ pub record Completes (old new : ArenaValue) (read : Read Sequence) (last : Optio
   pub inside : are_inside new.top ≡ true
   pub is : read ≡ Got (append (as_sequence new.top) (last_atom_items (last_in new.closed last))) rest
 
-abbrev pub ReadsOpen : Result (Scanned (Option Noad) Token) Stop → ArenaValue → ArenaValue → Read Sequence → Type 0
-ReadsOpen (Ok part) old new read = Completes old new read part.value part.rest.now
-ReadsOpen (Err stop) old new read = HasFault stop read
+abbrev pub ReadsOpen : {T : Type 0} → (T → Token) → Result (Scanned (Option Noad) T) Stop → ArenaValue → ArenaValue → Read Sequence → Type 0
+ReadsOpen token (Ok part) old new read = Completes old new read part.value (map token part.rest.now)
+ReadsOpen token (Err stop) old new read = HasFault stop read
 
 -- a list between boundaries is read, and its items are behind those that the innermost open list has
 pub record AddsList (old new : ArenaValue) (read : Read Sequence) (rest : List Token) : Type 0 where
@@ -91,9 +95,9 @@ pub record AddsList (old new : ArenaValue) (read : Read Sequence) (rest : List T
   pub adds : Adds old new more
   pub is : read ≡ Got (as_sequence more) rest
 
-abbrev pub ReadsSegment : Result (Bor (List Token)) Stop → ArenaValue → ArenaValue → Read Sequence → Type 0
-ReadsSegment (Ok rest) old new read = AddsList old new read rest.now
-ReadsSegment (Err stop) old new read = HasFault stop read
+abbrev pub ReadsSegment : {T : Type 0} → (T → Token) → Result (Bor (List T)) Stop → ArenaValue → ArenaValue → Read Sequence → Type 0
+ReadsSegment token (Ok rest) old new read = AddsList old new read (map token rest.now)
+ReadsSegment token (Err stop) old new read = HasFault stop read
 
 -- a row is read, and is behind the rows that the innermost open list has
 pub record AddsRow (old new : ArenaValue) (list : Sequence) : Type 0 where
@@ -101,9 +105,9 @@ pub record AddsRow (old new : ArenaValue) (list : Sequence) : Type 0 where
   pub top : new.top ≡ old.top ++ RowHeld list ∷ []
   pub below : new.below ≡ old.below
 
-abbrev pub ReadsRow : Result (Bor (List Token)) Stop → ArenaValue → ArenaValue → Read Sequence → Type 0
-ReadsRow (Ok rest) old new read = (list : Sequence) × AddsRow old new list × (read ≡ Got list rest.now)
-ReadsRow (Err stop) old new read = HasFault stop read
+abbrev pub ReadsRow : {T : Type 0} → (T → Token) → Result (Bor (List T)) Stop → ArenaValue → ArenaValue → Read Sequence → Type 0
+ReadsRow token (Ok rest) old new read = (list : Sequence) × AddsRow old new list × (read ≡ Got list (map token rest.now))
+ReadsRow token (Err stop) old new read = HasFault stop read
 
 -- a list is read to the end of its tokens
 abbrev pub ReadsPrimes : Result Span Stop → ArenaValue → ArenaValue → Read Sequence → Type 0

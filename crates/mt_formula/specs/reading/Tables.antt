@@ -1,5 +1,5 @@
 -- Tables of which some cells and rows are read (`after_cells`, `after_rows`).
-use Rattle.std.specs.Prelude.{◌≡◌, ◌∷◌, ◌++◌, ℕ, Bool, true, false, List, [], None, Result, Ok, Err}
+use Rattle.std.specs.Prelude.{◌≡◌, map, ◌∷◌, ◌++◌, ℕ, Bool, true, false, List, [], None, Result, Ok, Err}
 use Rattle.mt_token.specs.declared.token.Token.{Token}
 use Rattle.mt_scaled.specs.declared.unit.Units.{Units}
 use Rattle.mt_plain.specs.CodeTables.{CodeTables}
@@ -55,10 +55,10 @@ module _ (tables : CodeTables) (units : Units) (again : ItemRunReader) (level : 
       then_read (list_after tables units again End (cell_start column) AtCell level None tokens) (cell_end tables more preamble column)
 
   -- a cell is read, and is behind the cells that the innermost open list has
-  abbrev pub ReadsCell : Result (Scanned TableStep Token) Stop → ArenaValue → ArenaValue → Column → List Token → Type 0
-  ReadsCell (Ok step) old new column tokens =
-      (list : Sequence) × AddsRow old new list × ((more : CellsReader) → cell_on more column tokens ≡ cell_and_more more preamble list step.value step.rest.now)
-  ReadsCell (Err stop) old new column tokens = (more : CellsReader) → HasFault stop (cell_on more column tokens)
+  abbrev pub ReadsCell : {T : Type 0} → (T → Token) → Result (Scanned TableStep T) Stop → ArenaValue → ArenaValue → Column → List Token → Type 0
+  ReadsCell token (Ok step) old new column tokens =
+      (list : Sequence) × AddsRow old new list × ((more : CellsReader) → cell_on more column tokens ≡ cell_and_more more preamble list step.value (map token step.rest.now))
+  ReadsCell token (Err stop) old new column tokens = (more : CellsReader) → HasFault stop (cell_on more column tokens)
 
 -- the cells of a row are read, and are behind the rows that the innermost open list has
 pub record AddsCells (old new : ArenaValue) (cells : Rows) : Type 0 where
@@ -66,7 +66,7 @@ pub record AddsCells (old new : ArenaValue) (cells : Rows) : Type 0 where
   pub top : new.top ≡ old.top ++ CellsHeld cells ∷ []
   pub below : new.below ≡ old.below
 
-abbrev pub ReadsCells : CellsReader → Preamble → Result (Scanned TableStep Token) Stop → ArenaValue → ArenaValue → List Token → Type 0
-ReadsCells more preamble (Ok step) old new tokens =
-    (cells : Rows) × AddsCells old new cells × (more (first_column preamble) tokens ≡ after_cells more preamble cells step.value step.rest.now)
-ReadsCells more preamble (Err stop) old new tokens = HasFault stop (more (first_column preamble) tokens)
+abbrev pub ReadsCells : {T : Type 0} → (T → Token) → CellsReader → Preamble → Result (Scanned TableStep T) Stop → ArenaValue → ArenaValue → List Token → Type 0
+ReadsCells token more preamble (Ok step) old new tokens =
+    (cells : Rows) × AddsCells old new cells × (more (first_column preamble) tokens ≡ after_cells more preamble cells step.value (map token step.rest.now))
+ReadsCells token more preamble (Err stop) old new tokens = HasFault stop (more (first_column preamble) tokens)

@@ -1,18 +1,17 @@
 //! What a token does in a list, and how a field begins.
-ghost use Rattle.std.specs.Prelude.{◌≡◌, ◌≤◌, ◌<◌, length, IfOk};
-ghost use Rattle.mt_scan.specs.Meets.{Meets};
+ghost use Rattle.std.specs.Prelude.{◌≡◌, ◌≤◌, ◌<◌, length, IfOk, map};
+ghost use Rattle.mt_scan.specs.Meets.{MeetsBy};
 ghost use Rattle.mt_formula.specs.Fields.{field_start_here, field_start};
 ghost use Rattle.mt_formula.specs.Items.{coded_action, nucleus_action, script_action};
 
 use crate::actions::groups::{check_level, missing_field};
 use crate::actions::table_form::TableForm;
-use mt_plain::Codes;
 use mt_rules::{Class, Delim, Limits, Symbol};
+use mt_scan::items::{after_blanks, number_to};
 use mt_scan::{
-    Fault, FieldKind, MAX_DELIMITER, MAX_MATH_CHAR, Role, Scanned, Side, Simple, after_blanks,
-    class_of, code_symbol, number_to, role_of,
+    Fault, FieldKind, MAX_DELIMITER, MAX_MATH_CHAR, Role, Roles, Scanned, Side, Simple, class_of,
+    code_symbol,
 };
-use mt_token::Token;
 
 /// How a field begins.
 #[derive(Clone, Copy, Debug, PartialEq, Eq)]
@@ -60,30 +59,31 @@ pub enum Action {
     Stop,
 }
 
-fn field_start_here<'a>(
-    codes: &Codes,
+fn field_start_here<'a, T, R: Roles<T>>(
+    roles: &R,
     level: usize,
     family: Option<u8>,
-    tokens: &'a [Token],
-) -> Result<Scanned<'a, FieldStart>, Fault>
-    ensures is { Meets result (field_start_here codes.now level family tokens.now) }
+    tokens: &'a [T],
+) -> Result<Scanned<'a, FieldStart, T>, Fault>
+    ensures is { MeetsBy (R.token roles.now) result
+        (field_start_here (R.codes roles.now) level family (map (R.token roles.now) tokens.now)) }
     ensures falls { IfOk result (λ start. length start.rest.now < length tokens.now) }
 {
     match tokens {
-        [token, after @ ..] => match role_of(codes, token) {
+        [token, after @ ..] => match roles.role_of(token) {
             Role::MathCode(code) => Ok(Scanned {
                 value: FieldStart::Symbol(code_symbol(family, u32::from(code))),
                 rest: after,
             }),
             Role::CharWord => {
-                let code = number_to(MAX_MATH_CHAR, after)?;
+                let code = number_to(roles, MAX_MATH_CHAR, after)?;
                 Ok(Scanned {
                     value: FieldStart::Symbol(code_symbol(family, code.value)),
                     rest: code.rest,
                 })
             }
             Role::DelimiterWord => {
-                let code = number_to(MAX_DELIMITER, after)?;
+                let code = number_to(roles, MAX_DELIMITER, after)?;
                 Ok(Scanned {
                     value: FieldStart::Symbol(code_symbol(family, code.value / 4096)),
                     rest: code.rest,
@@ -103,16 +103,17 @@ fn field_start_here<'a>(
 }
 
 /// How a field begins, after Spaces and `\relax`.
-pub fn field_start<'a>(
-    codes: &Codes,
+pub fn field_start<'a, T, R: Roles<T>>(
+    roles: &R,
     level: usize,
     family: Option<u8>,
-    tokens: &'a [Token],
-) -> Result<Scanned<'a, FieldStart>, Fault>
-    ensures is { Meets result (field_start codes.now level family tokens.now) }
+    tokens: &'a [T],
+) -> Result<Scanned<'a, FieldStart, T>, Fault>
+    ensures is { MeetsBy (R.token roles.now) result
+        (field_start (R.codes roles.now) level family (map (R.token roles.now) tokens.now)) }
     ensures falls { IfOk result (λ start. length start.rest.now < length tokens.now) }
 {
-    field_start_here(codes, level, family, after_blanks(codes, tokens))
+    field_start_here(roles, level, family, after_blanks(roles, tokens))
 }
 
 /// The atom of a math code, with the current family.
@@ -123,17 +124,18 @@ pub fn coded_action(family: Option<u8>, code: u32) -> Action
 }
 
 /// A field as the nucleus of an atom of this kind.
-pub fn nucleus_action<'a>(
-    codes: &Codes,
+pub fn nucleus_action<'a, T, R: Roles<T>>(
+    roles: &R,
     level: usize,
     family: Option<u8>,
     kind: FieldKind,
-    tokens: &'a [Token],
-) -> Result<Scanned<'a, Action>, Fault>
-    ensures is { Meets result (nucleus_action codes.now level family kind tokens.now) }
+    tokens: &'a [T],
+) -> Result<Scanned<'a, Action, T>, Fault>
+    ensures is { MeetsBy (R.token roles.now) result
+        (nucleus_action (R.codes roles.now) level family kind (map (R.token roles.now) tokens.now)) }
     ensures falls { IfOk result (λ action. length action.rest.now ≤ length tokens.now) }
 {
-    let start = field_start(codes, level, family, tokens)?;
+    let start = field_start(roles, level, family, tokens)?;
     match start.value {
         FieldStart::Symbol(symbol) => Ok(Scanned {
             value: Action::Atom(kind, symbol),
@@ -147,17 +149,18 @@ pub fn nucleus_action<'a>(
 }
 
 /// A field as a script.
-pub fn script_action<'a>(
-    codes: &Codes,
+pub fn script_action<'a, T, R: Roles<T>>(
+    roles: &R,
     level: usize,
     family: Option<u8>,
     side: Side,
-    tokens: &'a [Token],
-) -> Result<Scanned<'a, Action>, Fault>
-    ensures is { Meets result (script_action codes.now level family side tokens.now) }
+    tokens: &'a [T],
+) -> Result<Scanned<'a, Action, T>, Fault>
+    ensures is { MeetsBy (R.token roles.now) result
+        (script_action (R.codes roles.now) level family side (map (R.token roles.now) tokens.now)) }
     ensures falls { IfOk result (λ action. length action.rest.now ≤ length tokens.now) }
 {
-    let start = field_start(codes, level, family, tokens)?;
+    let start = field_start(roles, level, family, tokens)?;
     match start.value {
         FieldStart::Symbol(symbol) => Ok(Scanned {
             value: Action::Script(side, symbol),

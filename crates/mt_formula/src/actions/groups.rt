@@ -1,14 +1,12 @@
 //! Groups that open.
-ghost use Rattle.std.specs.Prelude.{◌≡◌, ◌<◌, length, IfOk};
+ghost use Rattle.std.specs.Prelude.{◌≡◌, ◌<◌, length, IfOk, map};
 ghost use Rattle.mt_scan.specs.Parts.{opening};
 ghost use Rattle.mt_scan.specs.Role.{is_open_brace};
 ghost use Rattle.mt_scan.specs.declared.fault.ReadCause.TheVariants.{MissingField};
 ghost use Rattle.mt_formula.specs.reading.Actions.{AllowsGroup, Opens};
 ghost use Rattle.mt_scan.specs.Limits.{max_groups};
 
-use mt_plain::Codes;
-use mt_scan::{Fault, ReadCause, Role, role_of};
-use mt_token::Token;
+use mt_scan::{Fault, ReadCause, Role, Roles};
 
 /// The greatest number of groups that are open at a time.
 const MAX_GROUPS: usize = 150;
@@ -38,17 +36,18 @@ pub fn check_level(level: usize, left: usize) -> Result<(), Fault>
 }
 
 /// The tokens after a `{` that must stand here and opens a group.
-pub fn open_brace<'a>(
-    codes: &Codes,
+pub fn open_brace<'a, T, R: Roles<T>>(
+    roles: &R,
     level: usize,
-    tokens: &'a [Token],
-) -> Result<&'a [Token], Fault>
-    ensures is { Opens result (opening codes.now is_open_brace level tokens.now) }
+    tokens: &'a [T],
+) -> Result<&'a [T], Fault>
+    ensures is { Opens (R.token roles.now) result
+        (opening (R.codes roles.now) is_open_brace level (map (R.token roles.now) tokens.now)) }
     ensures falls { IfOk result (λ inside. length inside.now < length tokens.now) }
     ensures level { IfOk result (λ inside. level < max_groups) }
 {
     match tokens {
-        [token, inside @ ..] => match role_of(codes, token) {
+        [token, inside @ ..] => match roles.role_of(token) {
             Role::OpenBrace => {
                 check_level(level, tokens.len())?;
                 Ok(inside)

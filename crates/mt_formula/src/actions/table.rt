@@ -1,6 +1,6 @@
 //! The table of what each token does in a list (The TeXbook, chapter 26).
-ghost use Rattle.std.specs.Prelude.{◌≡◌, ◌<◌, ◌≤◌, ◌+◌, true, ◌∷◌, List, length, IfOk, IfSome};
-ghost use Rattle.mt_scan.specs.Meets.{Meets};
+ghost use Rattle.std.specs.Prelude.{◌≡◌, ◌<◌, ◌≤◌, ◌+◌, ◌^◌, true, ◌∷◌, List, length, IfOk, IfSome, map};
+ghost use Rattle.mt_scan.specs.Meets.{MeetsBy};
 ghost use Rattle.mt_scan.specs.Parts.{Got};
 ghost use Rattle.mt_scan.specs.Role.{role_of};
 ghost use Rattle.mt_scan.specs.declared.role.Side.TheVariants.{Up};
@@ -21,10 +21,8 @@ use crate::actions::words::{
 use crate::reading::context::{Grammar, Group};
 use crate::reading::noads::{is_free, is_op};
 use mt_arena::Noad;
-use mt_plain::Codes;
 use mt_rules::Limits;
-use mt_scan::{Fault, ReadCause, Role, Scanned, Side, role_of};
-use mt_token::Token;
+use mt_scan::{Fault, ReadCause, Role, Roles, Scanned, Side};
 
 fn fault(cause: ReadCause, left: usize) -> Fault
     ensures { result ≡ record { cause = cause; left = left } }
@@ -33,28 +31,36 @@ fn fault(cause: ReadCause, left: usize) -> Fault
 }
 
 // At `^` or `_`.
-fn script_word<'a>(
-    codes: &Codes,
+fn script_word<'a, T, R: Roles<T>>(
+    roles: &R,
     group: Group,
     last: &Option<Noad>,
     side: Side,
-    after: &'a [Token],
-) -> Result<Scanned<'a, Action>, Fault>
-    ensures is { (es : List Held) → Meets result (free_action (is_free side (last_in es last.now)) (length after.now + 1)
-        (script_action codes.now group.level group.family side after.now)) }
+    after: &'a [T],
+) -> Result<Scanned<'a, Action, T>, Fault>
+    requires { length after.now + 1 < 2 ^ 64 }
+    ensures is { (es : List Held) → MeetsBy (R.token roles.now) result
+        (free_action (is_free side (last_in es last.now)) (length after.now + 1)
+        (script_action (R.codes roles.now) group.level group.family side (map (R.token roles.now) after.now))) }
     ensures falls { IfOk result (λ action. length action.rest.now ≤ length after.now) }
 {
     if is_free(side, last) {
-        script_action(codes, group.level, group.family, side, after)
+        script_action(roles, group.level, group.family, side, after)
     } else {
         Err(fault(ReadCause::DoubleScript, after.len() + 1))
     }
 }
 
 // At a prime.
-fn prime_word<'a>(last: &Option<Noad>, after: &'a [Token]) -> Result<Scanned<'a, Action>, Fault>
-    ensures is { (es : List Held) → Meets result (free_action (is_free Up (last_in es last.now)) (length after.now + 1)
-        (Got Prime after.now)) }
+fn prime_word<'a, T, R: Roles<T>>(
+    roles: &R,
+    last: &Option<Noad>,
+    after: &'a [T],
+) -> Result<Scanned<'a, Action, T>, Fault>
+    requires { length after.now + 1 < 2 ^ 64 }
+    ensures is { (es : List Held) → MeetsBy (R.token roles.now) result
+        (free_action (is_free Up (last_in es last.now)) (length after.now + 1)
+        (Got Prime (map (R.token roles.now) after.now))) }
     ensures falls { IfOk result (λ action. length action.rest.now ≤ length after.now) }
 {
     if is_free(Side::Up, last) {
@@ -68,12 +74,15 @@ fn prime_word<'a>(last: &Option<Noad>, after: &'a [Token]) -> Result<Scanned<'a,
 }
 
 // At a word that places the scripts of an operator.
-fn limits_word<'a>(
+fn limits_word<'a, T, R: Roles<T>>(
+    roles: &R,
     last: &Option<Noad>,
     limits: Limits,
-    after: &'a [Token],
-) -> Result<Scanned<'a, Action>, Fault>
-    ensures is { (es : List Held) → Meets result (limits_action (is_op (last_in es last.now)) limits after.now) }
+    after: &'a [T],
+) -> Result<Scanned<'a, Action, T>, Fault>
+    requires { length after.now + 1 < 2 ^ 64 }
+    ensures is { (es : List Held) → MeetsBy (R.token roles.now) result
+        (limits_action (is_op (last_in es last.now)) limits (map (R.token roles.now) after.now)) }
     ensures falls { IfOk result (λ action. length action.rest.now ≤ length after.now) }
 {
     if is_op(last) {
@@ -87,22 +96,25 @@ fn limits_word<'a>(
 }
 
 // What a token of this role does; `None` where it is no item.
-fn role_action<'a>(
-    grammar: Grammar<'_>,
+fn role_action<'a, T, R: Roles<T>>(
+    grammar: Grammar<'_, R>,
     group: Group,
     last: &Option<Noad>,
     role: Role,
-    token: &Token,
-    after: &'a [Token],
-) -> Result<Option<Scanned<'a, Action>>, Fault>
-    requires role { role_of grammar.codes.now token.now ≡ role }
-    ensures is { (es : List Held) → MeetsUnlessStop result
-        (action grammar.entry.codes.now grammar.entry.units group.level group.family (last_in es last.now) token.now after.now role)
-        (token.now ∷ after.now) }
+    token: &T,
+    after: &'a [T],
+) -> Result<Option<Scanned<'a, Action, T>>, Fault>
+    requires role { role_of (R.codes grammar.roles.now) (R.token grammar.roles.now token.now) ≡ role }
+    requires after { length after.now + 1 < 2 ^ 64 }
+    ensures is { (es : List Held) → MeetsUnlessStop (R.token grammar.entry.roles.now) result
+        (action (R.codes grammar.entry.roles.now) grammar.entry.units group.level group.family
+        (last_in es last.now) (R.token grammar.entry.roles.now token.now)
+        (map (R.token grammar.entry.roles.now) after.now) role)
+        (R.token grammar.entry.roles.now token.now ∷ map (R.token grammar.entry.roles.now) after.now) }
     ensures falls { IfOk result (λ read. IfSome read
         (λ action. length action.rest.now + spent action.value ≤ length after.now + 1)) }
 {
-    let codes = grammar.codes;
+    let roles = grammar.roles;
     let level = group.level;
     let family = group.family;
     let read = match role {
@@ -118,27 +130,27 @@ fn role_action<'a>(
             value: Action::Item(item),
             rest: after,
         }),
-        Role::CharWord => char_word(family, after),
-        Role::DelimiterWord => delimiter_word(family, after),
-        Role::Nucleus(kind) => nucleus_action(codes, level, family, kind, after),
-        Role::RadicalWord => radical_word(codes, level, family, after),
-        Role::AccentWord => accent_word(codes, level, family, after),
-        Role::RootWord => root_word(codes, level, token, after),
-        Role::BigWord(class, size) => big_word(codes, class, size, after),
-        Role::FamilyWord => family_word(after),
-        Role::AmountWord(amount) => amount_action(grammar.units, amount, after),
-        Role::OpenBrace => open_group(codes, level, token, after),
-        Role::LeftWord => left_word(codes, level, token, after),
-        Role::VcenterWord => vcenter_word(codes, level, after),
-        Role::ChoiceWord => choice_word(codes, level, after),
+        Role::CharWord => char_word(roles, family, after),
+        Role::DelimiterWord => delimiter_word(roles, family, after),
+        Role::Nucleus(kind) => nucleus_action(roles, level, family, kind, after),
+        Role::RadicalWord => radical_word(roles, level, family, after),
+        Role::AccentWord => accent_word(roles, level, family, after),
+        Role::RootWord => root_word(roles, level, token, after),
+        Role::BigWord(class, size) => big_word(roles, class, size, after),
+        Role::FamilyWord => family_word(roles, after),
+        Role::AmountWord(amount) => amount_action(roles, grammar.units, amount, after),
+        Role::OpenBrace => open_group(roles, level, token, after),
+        Role::LeftWord => left_word(roles, level, token, after),
+        Role::VcenterWord => vcenter_word(roles, level, after),
+        Role::ChoiceWord => choice_word(roles, level, after),
         Role::TableWord(preamble) => Ok(Scanned {
             value: Action::Table(TableForm::Spaced(preamble)),
             rest: after,
         }),
-        Role::PmatrixWord => pmatrix_word(codes, level, token, after),
-        Role::Script(side) => script_word(codes, group, last, side, after),
-        Role::Prime => prime_word(last, after),
-        Role::LimitsWord(limits) => limits_word(last, limits, after),
+        Role::PmatrixWord => pmatrix_word(roles, level, token, after),
+        Role::Script(side) => script_word(roles, group, last, side, after),
+        Role::Prime => prime_word(roles, last, after),
+        Role::LimitsWord(limits) => limits_word(roles, last, limits, after),
         Role::HboxWord | Role::Unknown => Err(fault(ReadCause::UnknownName, after.len() + 1)),
         Role::CloseBrace
         | Role::Dollar
@@ -159,15 +171,17 @@ fn role_action<'a>(
     }
 }
 
-/// What the token in front does in a list where this atom is at hand, and the tokens after those that were read for it. It is `Stop`, and no token is read, where no item begins or none is left.
-pub fn action_here<'a>(
-    grammar: Grammar<'_>,
+/// What the token in front does in a list where this atom is at hand, and the tokens after those that were read for it.
+/// It is `Stop`, and no token is read, where no item begins or none is left.
+pub fn action_here<'a, T, R: Roles<T>>(
+    grammar: Grammar<'_, R>,
     group: Group,
     last: &Option<Noad>,
-    tokens: &'a [Token],
-) -> Result<Scanned<'a, Action>, Fault>
-    ensures is { (es : List Held) → Meets result
-        (action_here grammar.entry.codes.now grammar.entry.units group.level group.family (last_in es last.now) tokens.now) }
+    tokens: &'a [T],
+) -> Result<Scanned<'a, Action, T>, Fault>
+    ensures is { (es : List Held) → MeetsBy (R.token grammar.entry.roles.now) result
+        (action_here (R.codes grammar.entry.roles.now) grammar.entry.units group.level group.family
+        (last_in es last.now) (map (R.token grammar.entry.roles.now) tokens.now)) }
     ensures level { IfOk result (λ part. opens_list part.value ≡ true → group.level < max_groups) }
     ensures falls { IfOk result (λ part. length part.rest.now + spent part.value ≤ length tokens.now) }
 {
@@ -177,7 +191,7 @@ pub fn action_here<'a>(
             rest: tokens,
         });
     };
-    let role = role_of(grammar.codes, token);
+    let role = grammar.roles.role_of(token);
     match role_action(grammar, group, last, role, token, after)? {
         Some(part) => Ok(part),
         None => Ok(Scanned {

@@ -1,20 +1,34 @@
 //! What is in force where a list is read.
-ghost use Rattle.std.specs.Prelude.{◌≡◌, ◌≤◌, ◌<◌, ◌+◌, ◌^◌, None};
+ghost use Rattle.std.specs.Prelude.{◌≡◌, ◌≤◌, ◌<◌, ◌+◌, ◌^◌, ⊤, None};
 ghost use Rattle.mt_scaled.specs.Number.{Within};
 ghost use Rattle.mt_scan.specs.Limits.{max_groups};
 
-use mt_plain::Codes;
 use mt_scaled::Units;
+use std::alloc::AllocError;
 
-/// What is the same for a whole formula: what its tokens mean, and what `em` and `ex` are.
-#[derive(Clone, Copy)]
-pub struct Grammar<'a> {
-    /// What tokens mean.
-    pub codes: &'a Codes,
+/// What is the same for a whole formula: what its items mean, and what `em` and `ex` are.
+pub struct Grammar<'a, R> {
+    /// What knows which tokens items are read as, and what these mean.
+    pub roles: &'a R,
     /// What `em` and `ex` are, in scaled points.
     pub units: Units,
     ghost em: { Within (2 ^ 31) units.em },
     ghost ex: { Within (2 ^ 31) units.ex },
+}
+
+impl<'a, R> Copy for Grammar<'a, R> {}
+
+impl<'a, R> Clone for Grammar<'a, R> {
+    ghost is_clone = { λ x y. (y.roles.now ≡ x.roles.now) × (y.units ≡ x.units) };
+
+    ghost is_infallible = { λ _. ⊤ };
+
+    fn clone(&self) -> Result<Self, AllocError> {
+        Ok(Grammar {
+            roles: self.roles,
+            units: self.units,
+        })
+    }
 }
 
 /// The groups round an item, and the family that is current there.

@@ -1,14 +1,12 @@
 //! Where lists end, and what becomes of a list where no item is.
-ghost use Rattle.std.specs.Prelude.{◌≡◌, ◌≤◌, ℕ, drop, length};
+ghost use Rattle.std.specs.Prelude.{◌≡◌, ◌≤◌, ℕ, drop, length, map};
 ghost use Rattle.mt_rules.specs.Sequence.{Sequence};
 ghost use Rattle.mt_scaled.specs.declared.unit.Units.{Units};
 ghost use Rattle.mt_formula.specs.Groups.{ends_at_middle};
 ghost use Rattle.mt_formula.specs.Lists.{ItemRun, ItemRunReader, ends_at, ends_with_tokens, list_end, misplaced_cause};
 ghost use Rattle.mt_formula.specs.reading.Ends.{EndsAtEnd, EndsAtRole, EndsHere, StopsHere};
 
-use mt_plain::Codes;
-use mt_scan::{Bar, Fault, ReadCause, Role, role_of};
-use mt_token::Token;
+use mt_scan::{Bar, Fault, ReadCause, Role, Roles};
 
 /// Where a list ends.
 #[derive(Clone, Copy, Debug, PartialEq, Eq)]
@@ -100,22 +98,24 @@ fn ends_at_end(ending: Ending) -> Result<(), Fault>
 }
 
 /// That a list ends at these tokens.
-pub fn list_ends(codes: &Codes, ending: Ending, tokens: &[Token]) -> Result<(), Fault>
-    ensures { (units : Units) (list : Sequence) → EndsHere result list (list_end codes.now units ending list tokens.now) tokens.now }
+pub fn list_ends<T, R: Roles<T>>(roles: &R, ending: Ending, tokens: &[T]) -> Result<(), Fault>
+    ensures { (units : Units) (list : Sequence) → EndsHere result list
+        (list_end (R.codes roles.now) units ending list (map (R.token roles.now) tokens.now))
+        (map (R.token roles.now) tokens.now) }
 {
     match tokens {
-        [token, ..] => ends_at_role(ending, role_of(codes, token), tokens.len()),
+        [token, ..] => ends_at_role(ending, roles.role_of(token), tokens.len()),
         [] => ends_at_end(ending),
     }
 }
 
 /// What becomes of a list at these tokens, which begin with no item.
-pub fn list_stop(codes: &Codes, ending: Ending, tokens: &[Token]) -> Result<ListStop, Fault>
+pub fn list_stop<T, R: Roles<T>>(roles: &R, ending: Ending, tokens: &[T]) -> Result<ListStop, Fault>
     ensures { (units : Units) (again : ItemRunReader) (level : ℕ) (run : ItemRun)
-        → StopsHere codes.now units again ending level run tokens.now result }
+        → StopsHere (R.codes roles.now) units again ending level run (map (R.token roles.now) tokens.now) result }
 {
     match tokens {
-        [token, ..] => match role_of(codes, token) {
+        [token, ..] => match roles.role_of(token) {
             Role::FractionWord(delims, bar) => Ok(ListStop::Divides(delims, bar)),
             role => {
                 ends_at_role(ending, role, tokens.len())?;
@@ -130,18 +130,18 @@ pub fn list_stop(codes: &Codes, ending: Ending, tokens: &[Token]) -> Result<List
 }
 
 /// Whether a list ends here at `\middle`.
-pub fn is_at_middle(codes: &Codes, tokens: &[Token]) -> bool
-    ensures { result ≡ ends_at_middle codes.now tokens.now }
+pub fn is_at_middle<T, R: Roles<T>>(roles: &R, tokens: &[T]) -> bool
+    ensures { result ≡ ends_at_middle (R.codes roles.now) (map (R.token roles.now) tokens.now) }
 {
     match tokens {
-        [token, ..] => matches!(role_of(codes, token), Role::MiddleWord),
+        [token, ..] => matches!(roles.role_of(token), Role::MiddleWord),
         [] => false,
     }
 }
 
 /// The tokens after the one in front.
-pub fn after_first<'a>(tokens: &'a [Token]) -> &'a [Token]
-    ensures is { result.now ≡ drop 1 tokens.now }
+pub fn after_first<'a, T, R: Roles<T>>(roles: &R, tokens: &'a [T]) -> &'a [T]
+    ensures is { map (R.token roles.now) result.now ≡ drop 1 (map (R.token roles.now) tokens.now) }
     ensures falls { length result.now ≤ length tokens.now }
 {
     match tokens {

@@ -129,6 +129,8 @@ fn put_table(arena: &mut Arena, run: RunEnd, look: Look, rows: Span) -> Result<R
 }
 
 /// Puts what an action gives to the run of items in which it is read.
+// It is inlined although the program has the grammar of two kinds of items: it is called at each token.
+#[inline(always)]
 pub fn put_given(arena: &mut Arena, run: RunEnd, given: Given) -> Result<RunEnd, AllocError>
     requires last { KeptLast arena.old.closed run.last }
     requires given { KeptGiven arena.old.closed given }
@@ -262,6 +264,8 @@ fn simple_thing(item: Simple) -> Result<Thing, AllocError>
 }
 
 /// What an action gives that reads no list.
+// Inlined as `put_given` is.
+#[inline(always)]
 pub fn plain_given(action: Action) -> Result<Given, AllocError>
     requires { is_plain_action action ≡ true }
     ensures is { IfOk result (λ all. (es : List Held) (tables : CodeTables) (units : Units) (again : ItemRunReader)

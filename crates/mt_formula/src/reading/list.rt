@@ -1,6 +1,6 @@
 //! Lists of the items of a formula, by the rules of the grammar (The TeXbook, chapters 17, 18, 19 and 26). Lists are in
 //! lists, so reading is recursive: each list has at least one token less than the one round it.
-ghost use Rattle.std.specs.Prelude.{◌≡◌, ◌≢◌, ◌∷◌, ◌≤◌, ◌<◌, ◌+◌, IfOk, OnOk, None, Some, length, drop, true};
+ghost use Rattle.std.specs.Prelude.{◌≡◌, ◌≢◌, ◌∷◌, ◌≤◌, ◌<◌, ◌+◌, IfOk, OnOk, None, Some, length, drop, true, map};
 ghost use Rattle.mt_rules.specs.Sequence.{More, LeftElement};
 ghost use Rattle.mt_arena.specs.Arena.{as_sequence, cell_part, first_open, grid_in, other_open, rows_in, sequence_in};
 ghost use Rattle.mt_arena.specs.declared.thing.Cell.TheVariants.{List as OfList};
@@ -23,7 +23,8 @@ ghost use Rattle.mt_formula.specs.reading.Arguments.{argument_in, argument_left}
 ghost use Rattle.mt_formula.specs.reading.Givens.{KeptGiven, given_in};
 ghost use Rattle.mt_formula.specs.reading.Inside.{are_inside};
 ghost use Rattle.mt_formula.specs.reading.Noads.{KeptField, KeptLast, last_in};
-ghost use Rattle.mt_formula.specs.reading.Reads.{ReadsInto, ReadsOpen, ReadsPrimes, ReadsRow, ReadsRun, ReadsSegment, whole_run};
+ghost use Rattle.mt_formula.specs.reading.Reads.{ReadsInto, ReadsOpen, ReadsPrimes, ReadsRow, ReadsRun, ReadsSegment};
+ghost use Rattle.mt_formula.specs.reading.Reads.{whole, whole_run};
 ghost use Rattle.mt_formula.specs.reading.Tables.{ReadsCell, ReadsCells, ends_row};
 ghost use Rattle.mt_formula.specs.reading.WholeLists.{KeptSpan, KeptWhole, list_in};
 
@@ -50,22 +51,22 @@ use crate::reading::whole_list::{
 };
 use mt_arena::{Arena, Cell, ChoiceSpans, Noad, Span, Thing};
 use mt_rules::{Class, Delim, Kind};
-use mt_scan::{
-    FieldKind, Preamble, ReadCause, Scanned, Side, after_blanks, after_spaces, scan_delimiter,
-};
-use mt_token::Token;
+use mt_scan::items::{after_blanks, after_spaces, scan_delimiter};
+use mt_scan::{FieldKind, Preamble, ReadCause, Roles, Scanned, Side};
 
 // A run of items after this atom at hand, up to a token that is no item.
 #[cycle(reading)]
-fn read_run<'a>(
+fn read_run<'a, T, R: Roles<T>>(
     arena: &mut Arena,
-    grammar: Grammar<'_>,
+    grammar: Grammar<'_, R>,
     group: Group,
     last: Option<Noad>,
-    tokens: &'a [Token],
-) -> Result<Scanned<'a, RunEnd>, Stop>
+    tokens: &'a [T],
+) -> Result<Scanned<'a, RunEnd, T>, Stop>
     requires { KeptLast arena.old.closed last }
-    ensures is { ReadsRun result arena.old arena.new (whole_run grammar.entry.codes.now grammar.entry.units group.level group.family (last_in arena.old.closed last) tokens.now) }
+    ensures is { ReadsRun (R.token grammar.entry.roles.now) result arena.old arena.new
+        (whole_run (R.codes grammar.entry.roles.now) grammar.entry.units group.level group.family
+        (last_in arena.old.closed last) (map (R.token grammar.entry.roles.now) tokens.now)) }
     ensures last { IfOk result (λ run. KeptLast arena.new.closed run.value.last) }
     ensures falls { IfOk result (λ part. length part.rest.now ≤ length tokens.now) }
 {
@@ -91,16 +92,18 @@ fn read_run<'a>(
 
 // What an action gives, with all that is read for it.
 #[cycle(reading)]
-fn read_given<'a>(
+fn read_given<'a, T, R: Roles<T>>(
     arena: &mut Arena,
-    grammar: Grammar<'_>,
+    grammar: Grammar<'_, R>,
     group: Group,
     action: Action,
-    tokens: &'a [Token],
-) -> Result<Scanned<'a, Given>, Stop>
+    tokens: &'a [T],
+) -> Result<Scanned<'a, Given, T>, Stop>
     requires not_stop { action ≢ acts.Stop }
     requires level { opens_list action ≡ true → group.level < max_groups }
-    ensures is { ReadsInto given_in result arena.old arena.new (given grammar.entry.codes.now grammar.entry.units (whole_run grammar.entry.codes.now grammar.entry.units) group.level group.family action tokens.now) }
+    ensures is { ReadsInto (R.token grammar.entry.roles.now) given_in result arena.old arena.new
+        (whole given (R.codes grammar.entry.roles.now) grammar.entry.units group.level group.family action
+        (map (R.token grammar.entry.roles.now) tokens.now)) }
     ensures kept { IfOk result (λ part. KeptGiven arena.new.closed part.value) }
     ensures falls { IfOk result (λ part. length part.rest.now ≤ length tokens.now) }
 {
@@ -146,15 +149,17 @@ fn read_given<'a>(
 
 // A group as the nucleus of an atom of this kind.
 #[cycle(reading)]
-fn read_nucleus<'a>(
+fn read_nucleus<'a, T, R: Roles<T>>(
     arena: &mut Arena,
-    grammar: Grammar<'_>,
+    grammar: Grammar<'_, R>,
     group: Group,
     kind: FieldKind,
-    tokens: &'a [Token],
-) -> Result<Scanned<'a, Given>, Stop>
+    tokens: &'a [T],
+) -> Result<Scanned<'a, Given, T>, Stop>
     requires { group.level < max_groups }
-    ensures is { ReadsInto given_in result arena.old arena.new (given grammar.entry.codes.now grammar.entry.units (whole_run grammar.entry.codes.now grammar.entry.units) group.level group.family (acts.Group kind) tokens.now) }
+    ensures is { ReadsInto (R.token grammar.entry.roles.now) given_in result arena.old arena.new
+        (whole given (R.codes grammar.entry.roles.now) grammar.entry.units group.level group.family (acts.Group kind)
+        (map (R.token grammar.entry.roles.now) tokens.now)) }
     ensures kept { IfOk result (λ part. KeptGiven arena.new.closed part.value) }
     ensures falls { IfOk result (λ part. length part.rest.now ≤ length tokens.now) }
 {
@@ -167,34 +172,38 @@ fn read_nucleus<'a>(
 
 // The list of a group after its `{`, and the tokens after its `}`.
 #[cycle(reading)]
-fn read_group<'a>(
+fn read_group<'a, T, R: Roles<T>>(
     arena: &mut Arena,
-    grammar: Grammar<'_>,
+    grammar: Grammar<'_, R>,
     group: Group,
-    tokens: &'a [Token],
-) -> Result<Scanned<'a, WholeList>, Stop>
+    tokens: &'a [T],
+) -> Result<Scanned<'a, WholeList, T>, Stop>
     requires { group.level < max_groups }
-    ensures is { ReadsInto list_in result arena.old arena.new (group_list grammar.entry.codes.now grammar.entry.units (whole_run grammar.entry.codes.now grammar.entry.units) group.level group.family tokens.now) }
+    ensures is { ReadsInto (R.token grammar.entry.roles.now) list_in result arena.old arena.new
+        (whole group_list (R.codes grammar.entry.roles.now) grammar.entry.units group.level group.family
+        (map (R.token grammar.entry.roles.now) tokens.now)) }
     ensures kept { IfOk result (λ part. KeptWhole arena.new.closed part.value) }
     ensures falls { IfOk result (λ part. length part.rest.now ≤ length tokens.now) }
 {
     let list = read_list(arena, grammar, group.inside(), Ending::AtBrace, tokens)?;
     Ok(Scanned {
         value: list.value,
-        rest: after_first(list.rest),
+        rest: after_first(grammar.roles, list.rest),
     })
 }
 
 /// A list that ends so; the token that ends it is left.
 #[cycle(reading)]
-pub fn read_list<'a>(
+pub fn read_list<'a, T, R: Roles<T>>(
     arena: &mut Arena,
-    grammar: Grammar<'_>,
+    grammar: Grammar<'_, R>,
     group: Group,
     ending: Ending,
-    tokens: &'a [Token],
-) -> Result<Scanned<'a, WholeList>, Stop>
-    ensures is { ReadsInto list_in result arena.old arena.new (list grammar.entry.codes.now grammar.entry.units (whole_run grammar.entry.codes.now grammar.entry.units) ending group.level group.family tokens.now) }
+    tokens: &'a [T],
+) -> Result<Scanned<'a, WholeList, T>, Stop>
+    ensures is { ReadsInto (R.token grammar.entry.roles.now) list_in result arena.old arena.new
+        (whole list (R.codes grammar.entry.roles.now) grammar.entry.units ending group.level group.family
+        (map (R.token grammar.entry.roles.now) tokens.now)) }
     ensures kept { IfOk result (λ part. KeptWhole arena.new.closed part.value) }
     ensures falls { IfOk result (λ part. length part.rest.now ≤ length tokens.now) }
 {
@@ -209,60 +218,71 @@ pub fn read_list<'a>(
 // A list that ends so, of which some items are in the innermost open list of the arena and this is the atom at hand.
 // The atom that is then at hand is its last item, where there is one.
 #[cycle(reading)]
-fn read_open<'a>(
+fn read_open<'a, T, R: Roles<T>>(
     arena: &mut Arena,
-    grammar: Grammar<'_>,
+    grammar: Grammar<'_, R>,
     group: Group,
     ending: Ending,
     last: Option<Noad>,
-    tokens: &'a [Token],
-) -> Result<Scanned<'a, Option<Noad>>, Stop>
+    tokens: &'a [T],
+) -> Result<Scanned<'a, Option<Noad>, T>, Stop>
     requires last { KeptLast arena.old.closed last }
     requires inner { arena.old.below ≡ first_open arena.old.below ∷ other_open arena.old.below }
     requires inside { are_inside arena.old.top ≡ true }
-    ensures is { ReadsOpen result arena.old arena.new (list_after grammar.entry.codes.now grammar.entry.units (whole_run grammar.entry.codes.now grammar.entry.units) (as_sequence arena.old.top) (last_in arena.old.closed last) ending group.level group.family tokens.now) }
+    ensures is { ReadsOpen (R.token grammar.entry.roles.now) result arena.old arena.new
+        (whole list_after (R.codes grammar.entry.roles.now) grammar.entry.units (as_sequence arena.old.top)
+        (last_in arena.old.closed last) ending group.level group.family
+        (map (R.token grammar.entry.roles.now) tokens.now)) }
     ensures last { IfOk result (λ part. KeptLast arena.new.closed part.value) }
     ensures falls { IfOk result (λ part. length part.rest.now ≤ length tokens.now) }
 {
     let run = read_run(arena, grammar, group, last, tokens)?;
-    match list_stop(grammar.codes, ending, run.rest)? {
+    match list_stop(grammar.roles, ending, run.rest)? {
         ListStop::Ends => Ok(Scanned {
             value: run.value.last,
             rest: run.rest,
         }),
         ListStop::Divides(delims, bar) => {
-            let after = after_first(run.rest);
-            let head = fraction_head(grammar.codes, grammar.units, delims, bar, after)?;
+            let after = after_first(grammar.roles, run.rest);
+            let head = fraction_head(grammar.roles, grammar.units, delims, bar, after)?;
             let here = group.with_family(run.value.family);
-            read_denominator(arena, grammar, here, ending, run.value.last, head)
+            let last = run.value.last;
+            read_denominator(arena, grammar, here, ending, last, head.value, head.rest)
         }
     }
 }
 
 // The list after what a fraction word begins: the items that are open, with this atom at hand, are the numerator.
 #[cycle(reading)]
-fn read_denominator<'a>(
+fn read_denominator<'a, T, R: Roles<T>>(
     arena: &mut Arena,
-    grammar: Grammar<'_>,
+    grammar: Grammar<'_, R>,
     group: Group,
     ending: Ending,
     last: Option<Noad>,
-    head: Scanned<'a, FractionHead>,
-) -> Result<Scanned<'a, Option<Noad>>, Stop>
+    head: FractionHead,
+    tokens: &'a [T],
+) -> Result<Scanned<'a, Option<Noad>, T>, Stop>
     requires last { KeptLast arena.old.closed last }
     requires inner { arena.old.below ≡ first_open arena.old.below ∷ other_open arena.old.below }
     requires inside { are_inside arena.old.top ≡ true }
-    ensures is { ReadsOpen result arena.old arena.new (denominator grammar.entry.codes.now grammar.entry.units (whole_run grammar.entry.codes.now grammar.entry.units) ending group.level (record { items = append (as_sequence arena.old.top) (last_atom_items (last_in arena.old.closed last)); family = group.family }) head.entry.value head.entry.rest.now) }
+    ensures is { ReadsOpen (R.token grammar.entry.roles.now) result arena.old arena.new
+        (whole denominator (R.codes grammar.entry.roles.now) grammar.entry.units ending group.level
+        (record {
+          items = append (as_sequence arena.old.top)
+              (last_atom_items (last_in arena.old.closed last));
+          family = group.family;
+        }) head (map (R.token grammar.entry.roles.now) tokens.now)) }
     ensures last { IfOk result (λ part. KeptLast arena.new.closed part.value) }
-    ensures falls { IfOk result (λ part. length part.rest.now ≤ length head.entry.rest.now) }
+    ensures falls { IfOk result (λ part. length part.rest.now ≤ length tokens.now) }
 {
     let num = close_list(arena, last)?;
     arena.begin()?;
-    let run = read_run(arena, grammar, group, None, head.rest)?;
-    list_ends(grammar.codes, ending, run.rest)?;
+    let run = read_run(arena, grammar, group, None, tokens)?;
+    list_ends(grammar.roles, ending, run.rest)?;
     let den = close_list(arena, run.value.last)?;
     arena.begin()?;
-    arena.push(fraction_thing(head.value, num, den)?)?;
+    arena.push(fraction_thing(head, num, den)?)?;
     Ok(Scanned {
         value: None,
         rest: run.rest,
@@ -271,17 +291,19 @@ fn read_denominator<'a>(
 
 // A field: a symbol, or what a group is as a nucleus.
 #[cycle(reading)]
-fn read_field<'a>(
+fn read_field<'a, T, R: Roles<T>>(
     arena: &mut Arena,
-    grammar: Grammar<'_>,
+    grammar: Grammar<'_, R>,
     group: Group,
-    tokens: &'a [Token],
-) -> Result<Scanned<'a, Cell>, Stop>
-    ensures is { ReadsInto cell_part result arena.old arena.new (field grammar.entry.codes.now grammar.entry.units (whole_run grammar.entry.codes.now grammar.entry.units) group.level group.family tokens.now) }
+    tokens: &'a [T],
+) -> Result<Scanned<'a, Cell, T>, Stop>
+    ensures is { ReadsInto (R.token grammar.entry.roles.now) cell_part result arena.old arena.new
+        (whole field (R.codes grammar.entry.roles.now) grammar.entry.units group.level group.family
+        (map (R.token grammar.entry.roles.now) tokens.now)) }
     ensures kept { IfOk result (λ part. KeptField arena.new.closed part.value) }
     ensures falls { IfOk result (λ part. length part.rest.now ≤ length tokens.now) }
 {
-    let start = field_start(grammar.codes, group.level, group.family, tokens)?;
+    let start = field_start(grammar.roles, group.level, group.family, tokens)?;
     match start.value {
         FieldStart::Symbol(symbol) => Ok(Scanned {
             value: Cell::Sym(symbol),
@@ -299,20 +321,22 @@ fn read_field<'a>(
 
 // A root after its word: its degree, which ends at `\of`, and a field.
 #[cycle(reading)]
-fn read_root<'a>(
+fn read_root<'a, T, R: Roles<T>>(
     arena: &mut Arena,
-    grammar: Grammar<'_>,
+    grammar: Grammar<'_, R>,
     group: Group,
-    tokens: &'a [Token],
-) -> Result<Scanned<'a, Given>, Stop>
+    tokens: &'a [T],
+) -> Result<Scanned<'a, Given, T>, Stop>
     requires { group.level < max_groups }
-    ensures is { ReadsInto given_in result arena.old arena.new (given grammar.entry.codes.now grammar.entry.units (whole_run grammar.entry.codes.now grammar.entry.units) group.level group.family acts.Root tokens.now) }
+    ensures is { ReadsInto (R.token grammar.entry.roles.now) given_in result arena.old arena.new
+        (whole given (R.codes grammar.entry.roles.now) grammar.entry.units group.level group.family acts.Root
+        (map (R.token grammar.entry.roles.now) tokens.now)) }
     ensures kept { IfOk result (λ part. KeptGiven arena.new.closed part.value) }
     ensures falls { IfOk result (λ part. length part.rest.now ≤ length tokens.now) }
 {
     let list = read_list(arena, grammar, group.inside(), Ending::AtOf, tokens)?;
     let degree = span_of(arena, list.value)?;
-    let body = read_field(arena, grammar, group, after_first(list.rest))?;
+    let body = read_field(arena, grammar, group, after_first(grammar.roles, list.rest))?;
     Ok(Scanned {
         value: root_given(arena, degree, body.value)?,
         rest: body.rest,
@@ -321,14 +345,16 @@ fn read_root<'a>(
 
 // A list of a choice after its `{`, and the tokens after its `}`.
 #[cycle(reading)]
-fn read_branch<'a>(
+fn read_branch<'a, T, R: Roles<T>>(
     arena: &mut Arena,
-    grammar: Grammar<'_>,
+    grammar: Grammar<'_, R>,
     group: Group,
-    tokens: &'a [Token],
-) -> Result<Scanned<'a, Span>, Stop>
+    tokens: &'a [T],
+) -> Result<Scanned<'a, Span, T>, Stop>
     requires { group.level < max_groups }
-    ensures is { ReadsInto sequence_in result arena.old arena.new (group_list grammar.entry.codes.now grammar.entry.units (whole_run grammar.entry.codes.now grammar.entry.units) group.level group.family tokens.now) }
+    ensures is { ReadsInto (R.token grammar.entry.roles.now) sequence_in result arena.old arena.new
+        (whole group_list (R.codes grammar.entry.roles.now) grammar.entry.units group.level group.family
+        (map (R.token grammar.entry.roles.now) tokens.now)) }
     ensures kept { IfOk result (λ part. KeptSpan arena.new.closed part.value) }
     ensures falls { IfOk result (λ part. length part.rest.now ≤ length tokens.now) }
 {
@@ -341,30 +367,38 @@ fn read_branch<'a>(
 
 // Another list of a choice, before which Spaces may be.
 #[cycle(reading)]
-fn read_next_branch<'a>(
+fn read_next_branch<'a, T, R: Roles<T>>(
     arena: &mut Arena,
-    grammar: Grammar<'_>,
+    grammar: Grammar<'_, R>,
     group: Group,
-    tokens: &'a [Token],
-) -> Result<Scanned<'a, Span>, Stop>
-    ensures is { ReadsInto sequence_in result arena.old arena.new (choice_list grammar.entry.codes.now grammar.entry.units (whole_run grammar.entry.codes.now grammar.entry.units) group.level group.family tokens.now) }
+    tokens: &'a [T],
+) -> Result<Scanned<'a, Span, T>, Stop>
+    ensures is { ReadsInto (R.token grammar.entry.roles.now) sequence_in result arena.old arena.new
+        (whole choice_list (R.codes grammar.entry.roles.now) grammar.entry.units group.level group.family
+        (map (R.token grammar.entry.roles.now) tokens.now)) }
     ensures kept { IfOk result (λ part. KeptSpan arena.new.closed part.value) }
     ensures falls { IfOk result (λ part. length part.rest.now ≤ length tokens.now) }
 {
-    let inside = open_brace(grammar.codes, group.level, after_spaces(tokens))?;
+    let inside = open_brace(
+        grammar.roles,
+        group.level,
+        after_spaces(grammar.roles, tokens),
+    )?;
     read_branch(arena, grammar, group, inside)
 }
 
 // The four lists of a choice, of which the first one begins here.
 #[cycle(reading)]
-fn read_choice<'a>(
+fn read_choice<'a, T, R: Roles<T>>(
     arena: &mut Arena,
-    grammar: Grammar<'_>,
+    grammar: Grammar<'_, R>,
     group: Group,
-    tokens: &'a [Token],
-) -> Result<Scanned<'a, Given>, Stop>
+    tokens: &'a [T],
+) -> Result<Scanned<'a, Given, T>, Stop>
     requires { group.level < max_groups }
-    ensures is { ReadsInto given_in result arena.old arena.new (given grammar.entry.codes.now grammar.entry.units (whole_run grammar.entry.codes.now grammar.entry.units) group.level group.family acts.Choice tokens.now) }
+    ensures is { ReadsInto (R.token grammar.entry.roles.now) given_in result arena.old arena.new
+        (whole given (R.codes grammar.entry.roles.now) grammar.entry.units group.level group.family acts.Choice
+        (map (R.token grammar.entry.roles.now) tokens.now)) }
     ensures kept { IfOk result (λ part. KeptGiven arena.new.closed part.value) }
     ensures falls { IfOk result (λ part. length part.rest.now ≤ length tokens.now) }
 {
@@ -385,14 +419,16 @@ fn read_choice<'a>(
 
 // The lists between boundaries after the left one, and the boundaries and middles with them.
 #[cycle(reading)]
-fn read_left_right<'a>(
+fn read_left_right<'a, T, R: Roles<T>>(
     arena: &mut Arena,
-    grammar: Grammar<'_>,
+    grammar: Grammar<'_, R>,
     group: Group,
     left: Delim,
-    tokens: &'a [Token],
-) -> Result<Scanned<'a, Span>, Stop>
-    ensures is { ReadsInto sequence_in result arena.old arena.new (then_give (segments grammar.entry.codes.now grammar.entry.units (whole_run grammar.entry.codes.now grammar.entry.units) group.level group.family tokens.now) (λ inner. More (LeftElement left) inner)) }
+    tokens: &'a [T],
+) -> Result<Scanned<'a, Span, T>, Stop>
+    ensures is { ReadsInto (R.token grammar.entry.roles.now) sequence_in result arena.old arena.new
+        (then_give (whole segments (R.codes grammar.entry.roles.now) grammar.entry.units group.level group.family
+        (map (R.token grammar.entry.roles.now) tokens.now)) (λ inner. More (LeftElement left) inner)) }
     ensures kept { IfOk result (λ part. KeptField arena.new.closed (OfList part.value)) }
     ensures falls { IfOk result (λ part. length part.rest.now ≤ length tokens.now) }
 {
@@ -401,9 +437,9 @@ fn read_left_right<'a>(
     let mut rest = tokens;
     loop {
         let end = read_segment(arena, grammar, group, rest)?;
-        let delim = scan_delimiter(grammar.codes, after_first(end))?;
+        let delim = scan_delimiter(grammar.roles, after_first(grammar.roles, end))?;
         rest = delim.rest;
-        if is_at_middle(grammar.codes, end) {
+        if is_at_middle(grammar.roles, end) {
             arena.push(Thing::Middle(delim.value))?;
         } else {
             arena.push(Thing::Right(delim.value))?;
@@ -417,13 +453,15 @@ fn read_left_right<'a>(
 
 // A list between boundaries, put behind the items of the innermost open list; the token that ends it is left.
 #[cycle(reading)]
-fn read_segment<'a>(
+fn read_segment<'a, T, R: Roles<T>>(
     arena: &mut Arena,
-    grammar: Grammar<'_>,
+    grammar: Grammar<'_, R>,
     group: Group,
-    tokens: &'a [Token],
-) -> Result<&'a [Token], Stop>
-    ensures is { ReadsSegment result arena.old arena.new (list grammar.entry.codes.now grammar.entry.units (whole_run grammar.entry.codes.now grammar.entry.units) ends.AtRight group.level group.family tokens.now) }
+    tokens: &'a [T],
+) -> Result<&'a [T], Stop>
+    ensures is { ReadsSegment (R.token grammar.entry.roles.now) result arena.old arena.new
+        (whole list (R.codes grammar.entry.roles.now) grammar.entry.units ends.AtRight group.level group.family
+        (map (R.token grammar.entry.roles.now) tokens.now)) }
     ensures falls { IfOk result (λ rest. length rest.now ≤ length tokens.now) }
 {
     arena.begin()?;
@@ -435,23 +473,28 @@ fn read_segment<'a>(
 
 // The rows of a vcenter atom after its `{`, and the tokens after its `}`. So many groups are open in them.
 #[cycle(reading)]
-fn read_rows<'a>(
+fn read_rows<'a, T, R: Roles<T>>(
     arena: &mut Arena,
-    grammar: Grammar<'_>,
+    grammar: Grammar<'_, R>,
     level: usize,
-    tokens: &'a [Token],
-) -> Result<Scanned<'a, Span>, Stop>
+    tokens: &'a [T],
+) -> Result<Scanned<'a, Span, T>, Stop>
     requires { level ≤ max_groups + 1 }
-    ensures is { ReadsInto rows_in result arena.old arena.new (first_rows grammar.entry.codes.now grammar.entry.units (whole_run grammar.entry.codes.now grammar.entry.units) (whole_rows grammar.entry.codes.now grammar.entry.units (whole_run grammar.entry.codes.now grammar.entry.units) level) tokens.now) }
+    ensures is { ReadsInto (R.token grammar.entry.roles.now) rows_in result arena.old arena.new
+        (first_rows (R.codes grammar.entry.roles.now) grammar.entry.units
+        (whole_run (R.codes grammar.entry.roles.now) grammar.entry.units)
+        (whole_rows (R.codes grammar.entry.roles.now) grammar.entry.units
+        (whole_run (R.codes grammar.entry.roles.now) grammar.entry.units) level)
+        (map (R.token grammar.entry.roles.now) tokens.now)) }
     ensures within { IfOk result (λ part. part.value.end ≤ length arena.new.closed) }
     ensures lists { IfOk result (λ part. RowsLists (rows_in arena.new.closed part.value)) }
     ensures falls { IfOk result (λ part. length part.rest.now ≤ length tokens.now) }
 {
     arena.begin()?;
-    let mut row = first_row_begins(grammar.codes, tokens)?;
+    let mut row = first_row_begins(grammar.roles, tokens)?;
     while row.value {
         let rest = read_row(arena, grammar, level, row.rest)?;
-        row = later_row_begins(grammar.codes, rest)?;
+        row = later_row_begins(grammar.roles, rest)?;
     }
     Ok(Scanned {
         value: arena.close()?,
@@ -461,20 +504,22 @@ fn read_rows<'a>(
 
 // A row of a vcenter atom after its `\hbox`, put behind those before it.
 #[cycle(reading)]
-fn read_row<'a>(
+fn read_row<'a, T, R: Roles<T>>(
     arena: &mut Arena,
-    grammar: Grammar<'_>,
+    grammar: Grammar<'_, R>,
     level: usize,
-    tokens: &'a [Token],
-) -> Result<&'a [Token], Stop>
+    tokens: &'a [T],
+) -> Result<&'a [T], Stop>
     requires { level ≤ max_groups + 1 }
-    ensures is { ReadsRow result arena.old arena.new (row grammar.entry.codes.now grammar.entry.units (whole_run grammar.entry.codes.now grammar.entry.units) level tokens.now) }
+    ensures is { ReadsRow (R.token grammar.entry.roles.now) result arena.old arena.new
+        (whole row (R.codes grammar.entry.roles.now) grammar.entry.units level
+        (map (R.token grammar.entry.roles.now) tokens.now)) }
     ensures falls { IfOk result (λ rest. length rest.now < length tokens.now) }
 {
-    let inside = open_row_list(grammar.codes, level, tokens)?;
+    let inside = open_row_list(grammar.roles, level, tokens)?;
     let group = Group::without_family(level + 2);
     let list = read_list(arena, grammar, group, Ending::AtDollar, inside)?;
-    let rest = close_brace(grammar.codes, after_first(list.rest))?;
+    let rest = close_brace(grammar.roles, after_first(grammar.roles, list.rest))?;
     let span = span_of(arena, list.value)?;
     arena.push(Thing::Row(span))?;
     Ok(rest)
@@ -482,14 +527,16 @@ fn read_row<'a>(
 
 // A table after its word.
 #[cycle(reading)]
-fn read_table_word<'a>(
+fn read_table_word<'a, T, R: Roles<T>>(
     arena: &mut Arena,
-    grammar: Grammar<'_>,
+    grammar: Grammar<'_, R>,
     group: Group,
     form: TableForm,
-    tokens: &'a [Token],
-) -> Result<Scanned<'a, Given>, Stop>
-    ensures is { ReadsInto given_in result arena.old arena.new (given grammar.entry.codes.now grammar.entry.units (whole_run grammar.entry.codes.now grammar.entry.units) group.level group.family (acts.Table form) tokens.now) }
+    tokens: &'a [T],
+) -> Result<Scanned<'a, Given, T>, Stop>
+    ensures is { ReadsInto (R.token grammar.entry.roles.now) given_in result arena.old arena.new
+        (whole given (R.codes grammar.entry.roles.now) grammar.entry.units group.level group.family (acts.Table form)
+        (map (R.token grammar.entry.roles.now) tokens.now)) }
     ensures kept { IfOk result (λ part. KeptGiven arena.new.closed part.value) }
     ensures falls { IfOk result (λ part. length part.rest.now ≤ length tokens.now) }
 {
@@ -503,39 +550,45 @@ fn read_table_word<'a>(
 
 /// The rows of a table between braces, where so many groups are open at the `{`.
 #[cycle(reading)]
-pub fn read_table<'a>(
+pub fn read_table<'a, T, R: Roles<T>>(
     arena: &mut Arena,
-    grammar: Grammar<'_>,
+    grammar: Grammar<'_, R>,
     preamble: Preamble,
     level: usize,
-    tokens: &'a [Token],
-) -> Result<Scanned<'a, Span>, Stop>
-    ensures is { ReadsInto grid_in result arena.old arena.new (then_read (opening grammar.entry.codes.now is_open_brace level (after_blanks grammar.entry.codes.now tokens.now)) (λ here inside. table_rows grammar.entry.codes.now grammar.entry.units (whole_run grammar.entry.codes.now grammar.entry.units) (level + 1) preamble inside)) }
+    tokens: &'a [T],
+) -> Result<Scanned<'a, Span, T>, Stop>
+    ensures is { ReadsInto (R.token grammar.entry.roles.now) grid_in result arena.old arena.new
+        (then_read (opening (R.codes grammar.entry.roles.now) is_open_brace level
+        (after_blanks (R.codes grammar.entry.roles.now) (map (R.token grammar.entry.roles.now) tokens.now)))
+        (λ here inside. table_rows (R.codes grammar.entry.roles.now) grammar.entry.units
+        (whole_run (R.codes grammar.entry.roles.now) grammar.entry.units) (level + 1) preamble inside)) }
     ensures within { IfOk result (λ part. part.value.end ≤ length arena.new.closed) }
     ensures lists { IfOk result (λ part. GridLists (grid_in arena.new.closed part.value)) }
     ensures falls { IfOk result (λ part. length part.rest.now ≤ length tokens.now) }
 {
-    let inside = open_brace(grammar.codes, level, after_blanks(grammar.codes, tokens))?;
+    let inside = open_brace(grammar.roles, level, after_blanks(grammar.roles, tokens))?;
     read_table_rows(arena, grammar, preamble, level + 1, inside)
 }
 
 // The rows of a table after its `{`, and the tokens after its `}`. So many groups are open in each cell.
 #[cycle(reading)]
-fn read_table_rows<'a>(
+fn read_table_rows<'a, T, R: Roles<T>>(
     arena: &mut Arena,
-    grammar: Grammar<'_>,
+    grammar: Grammar<'_, R>,
     preamble: Preamble,
     level: usize,
-    tokens: &'a [Token],
-) -> Result<Scanned<'a, Span>, Stop>
+    tokens: &'a [T],
+) -> Result<Scanned<'a, Span, T>, Stop>
     requires { level ≤ max_groups }
-    ensures is { ReadsInto grid_in result arena.old arena.new (table_rows grammar.entry.codes.now grammar.entry.units (whole_run grammar.entry.codes.now grammar.entry.units) level preamble tokens.now) }
+    ensures is { ReadsInto (R.token grammar.entry.roles.now) grid_in result arena.old arena.new
+        (whole table_rows (R.codes grammar.entry.roles.now) grammar.entry.units level preamble
+        (map (R.token grammar.entry.roles.now) tokens.now)) }
     ensures within { IfOk result (λ part. part.value.end ≤ length arena.new.closed) }
     ensures lists { IfOk result (λ part. GridLists (grid_in arena.new.closed part.value)) }
     ensures falls { IfOk result (λ part. length part.rest.now ≤ length tokens.now) }
 {
     arena.begin()?;
-    let mut step = row_or_end(grammar.codes, after_spaces(tokens));
+    let mut step = row_or_end(grammar.roles, after_spaces(grammar.roles, tokens));
     while let TableStep::NextRow = step.value {
         step = read_cells(arena, grammar, preamble, level, step.rest)?;
     }
@@ -547,15 +600,17 @@ fn read_table_rows<'a>(
 
 // The cells of a row of a table, put behind the rows before it, and how the table goes on then.
 #[cycle(reading)]
-fn read_cells<'a>(
+fn read_cells<'a, T, R: Roles<T>>(
     arena: &mut Arena,
-    grammar: Grammar<'_>,
+    grammar: Grammar<'_, R>,
     preamble: Preamble,
     level: usize,
-    tokens: &'a [Token],
-) -> Result<Scanned<'a, TableStep>, Stop>
+    tokens: &'a [T],
+) -> Result<Scanned<'a, TableStep, T>, Stop>
     requires { level ≤ max_groups }
-    ensures is { ReadsCells (whole_cells grammar.entry.codes.now grammar.entry.units (whole_run grammar.entry.codes.now grammar.entry.units) level preamble) preamble result arena.old arena.new tokens.now }
+    ensures is { ReadsCells (R.token grammar.entry.roles.now)
+        (whole whole_cells (R.codes grammar.entry.roles.now) grammar.entry.units level preamble) preamble result
+        arena.old arena.new (map (R.token grammar.entry.roles.now) tokens.now) }
     ensures ends { IfOk result (λ step. ends_row step.value ≡ true) }
     ensures falls { IfOk result (λ step. length step.rest.now < length tokens.now) }
 {
@@ -580,23 +635,26 @@ fn read_cells<'a>(
 
 // A cell of a table, put behind those before it, and how the table goes on then.
 #[cycle(reading)]
-fn read_cell<'a>(
+fn read_cell<'a, T, R: Roles<T>>(
     arena: &mut Arena,
-    grammar: Grammar<'_>,
+    grammar: Grammar<'_, R>,
     preamble: Preamble,
     column: Column,
     level: usize,
-    tokens: &'a [Token],
-) -> Result<Scanned<'a, TableStep>, Stop>
+    tokens: &'a [T],
+) -> Result<Scanned<'a, TableStep, T>, Stop>
     requires { level ≤ max_groups }
-    ensures is { ReadsCell grammar.entry.codes.now grammar.entry.units (whole_run grammar.entry.codes.now grammar.entry.units) level preamble result arena.old arena.new column tokens.now }
+    ensures is { ReadsCell (R.codes grammar.entry.roles.now) grammar.entry.units
+        (whole_run (R.codes grammar.entry.roles.now) grammar.entry.units) level preamble
+        (R.token grammar.entry.roles.now) result arena.old arena.new column
+        (map (R.token grammar.entry.roles.now) tokens.now) }
     ensures falls { IfOk result (λ step. length step.rest.now < length tokens.now) }
 {
     arena.begin()?;
     let group = Group::without_family(level);
     let start = cell_start(column);
     let open = read_open(arena, grammar, group, Ending::AtCell, start, tokens)?;
-    let step = after_cell(grammar.codes, preamble, column, open.rest)?;
+    let step = after_cell(grammar.roles, preamble, column, open.rest)?;
     let list = finish_list(arena, open.value)?;
     let span = cell_list(arena, column, list)?;
     arena.push(Thing::Row(span))?;
@@ -605,20 +663,22 @@ fn read_cell<'a>(
 
 // A prime and those after it, and perhaps `^` with its argument, as a list.
 #[cycle(reading)]
-fn read_primes<'a>(
+fn read_primes<'a, T, R: Roles<T>>(
     arena: &mut Arena,
-    grammar: Grammar<'_>,
+    grammar: Grammar<'_, R>,
     group: Group,
-    tokens: &'a [Token],
-) -> Result<Scanned<'a, Span>, Stop>
-    ensures is { ReadsInto sequence_in result arena.old arena.new (prime_script grammar.entry.codes.now grammar.entry.units (whole_run grammar.entry.codes.now grammar.entry.units) group.level group.family tokens.now) }
+    tokens: &'a [T],
+) -> Result<Scanned<'a, Span, T>, Stop>
+    ensures is { ReadsInto (R.token grammar.entry.roles.now) sequence_in result arena.old arena.new
+        (whole prime_script (R.codes grammar.entry.roles.now) grammar.entry.units group.level group.family
+        (map (R.token grammar.entry.roles.now) tokens.now)) }
     ensures kept { IfOk result (λ part. KeptSpan arena.new.closed part.value) }
     ensures falls { IfOk result (λ part. length part.rest.now ≤ length tokens.now) }
 {
-    let more = primes(grammar.codes, tokens);
-    match after_superscript(grammar.codes, more.rest) {
+    let more = primes(grammar.roles, tokens);
+    match after_superscript(grammar.roles, more.rest) {
         Some(after) => {
-            let argument = argument_here(grammar.codes, group, after)?;
+            let argument = argument_here(grammar.roles, group, after)?;
             read_argument(arena, grammar, more.value, argument)
         }
         None => {
@@ -633,17 +693,19 @@ fn read_primes<'a>(
 
 // So many primes and one more, and an argument after them, as a list; and the tokens after the argument.
 #[cycle(reading)]
-fn read_argument<'a>(
+fn read_argument<'a, T, R: Roles<T>>(
     arena: &mut Arena,
-    grammar: Grammar<'_>,
+    grammar: Grammar<'_, R>,
     count: usize,
-    argument: ScriptArgument<'a>,
-) -> Result<Scanned<'a, Span>, Stop>
-    ensures is { ReadsInto sequence_in result arena.old arena.new (argument_in grammar.entry.codes.now grammar.entry.units (whole_run grammar.entry.codes.now grammar.entry.units) count argument.entry) }
+    argument: ScriptArgument<'a, T>,
+) -> Result<Scanned<'a, Span, T>, Stop>
+    ensures is { ReadsInto (R.token grammar.entry.roles.now) sequence_in result arena.old arena.new
+        (whole (argument_in (R.token grammar.entry.roles.now)) (R.codes grammar.entry.roles.now) grammar.entry.units
+        count argument.entry) }
     ensures kept { IfOk result (λ part. KeptSpan arena.new.closed part.value) }
     ensures falls { IfOk result (λ part. length part.rest.now ≤ argument_left argument.entry) }
 {
-    let read = read_after_primes(arena, grammar, count, argument);
+    let read = read_after_primes(arena, grammar, count, argument.group, argument.inside);
     match argument.end {
         ArgumentEnd::Missing => {
             read?;
@@ -661,24 +723,20 @@ fn read_argument<'a>(
 
 // So many primes and one more, and the items of an argument after them, as a list.
 #[cycle(reading)]
-fn read_after_primes(
+fn read_after_primes<T, R: Roles<T>>(
     arena: &mut Arena,
-    grammar: Grammar<'_>,
+    grammar: Grammar<'_, R>,
     count: usize,
-    argument: ScriptArgument<'_>,
+    group: Group,
+    inside: &[T],
 ) -> Result<Span, Stop>
-    ensures is { ReadsPrimes result arena.old arena.new (after_primes grammar.entry.codes.now grammar.entry.units (whole_run grammar.entry.codes.now grammar.entry.units) count argument.entry.group.level argument.entry.group.family argument.entry.inside.now) }
+    ensures is { ReadsPrimes result arena.old arena.new
+        (whole after_primes (R.codes grammar.entry.roles.now) grammar.entry.units count group.level group.family
+        (map (R.token grammar.entry.roles.now) inside.now)) }
     ensures kept { IfOk result (KeptSpan arena.new.closed) }
 {
     begin_primes(arena, count)?;
     let last = Some(prime_noad());
-    let open = read_open(
-        arena,
-        grammar,
-        argument.group,
-        Ending::AtEnd,
-        last,
-        argument.inside,
-    )?;
+    let open = read_open(arena, grammar, group, Ending::AtEnd, last, inside)?;
     Ok(close_list(arena, open.value)?)
 }

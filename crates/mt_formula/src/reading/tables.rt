@@ -1,24 +1,24 @@
 //! How tables go on.
-ghost use Rattle.std.specs.Prelude.{◌≡◌, ◌≤◌, ◌<◌, length, IfOk};
+ghost use Rattle.std.specs.Prelude.{◌≡◌, ◌≤◌, ◌<◌, ◌+◌, ◌^◌, length, IfOk, map};
 ghost use Rattle.mt_scan.specs.declared.fault.ReadCause.TheVariants.{Unbalanced};
 ghost use Rattle.mt_scan.specs.Limits.{max_groups};
-ghost use Rattle.mt_scan.specs.Meets.{Meets};
+ghost use Rattle.mt_scan.specs.Meets.{MeetsBy};
 ghost use Rattle.mt_scan.specs.Parts.{Got};
 ghost use Rattle.mt_formula.specs.Tables.{after_cell, brace_level, next_cell, row_or_end};
 
 use crate::actions::table_form::{Column, TableForm, TableStep, next_column};
-use mt_plain::Codes;
-use mt_scan::{Fault, Preamble, ReadCause, Role, Scanned, after_spaces, role_of};
-use mt_token::Token;
+use mt_scan::items::after_spaces;
+use mt_scan::{Fault, Preamble, ReadCause, Role, Roles, Scanned};
 
 /// Whether the table ends here, at `}`, or another row begins. Spaces that may stand before are to be
 /// dropped first: a Space here is part of a row.
-pub fn row_or_end<'a>(codes: &Codes, tokens: &'a [Token]) -> Scanned<'a, TableStep>
-    ensures is { row_or_end codes.now tokens.now ≡ Got result.value result.rest.now }
+pub fn row_or_end<'a, T, R: Roles<T>>(roles: &R, tokens: &'a [T]) -> Scanned<'a, TableStep, T>
+    ensures is { row_or_end (R.codes roles.now) (map (R.token roles.now) tokens.now)
+        ≡ Got result.value (map (R.token roles.now) result.rest.now) }
     ensures falls { length result.rest.now ≤ length tokens.now }
 {
     match tokens {
-        [token, rest @ ..] => match role_of(codes, token) {
+        [token, rest @ ..] => match roles.role_of(token) {
             Role::CloseBrace => Scanned {
                 value: TableStep::Closes,
                 rest,
@@ -36,8 +36,13 @@ pub fn row_or_end<'a>(codes: &Codes, tokens: &'a [Token]) -> Scanned<'a, TableSt
 }
 
 // Behind a `&`, the cell of this column.
-fn next_cell<'a>(column: Option<Column>, rest: &'a [Token]) -> Result<Scanned<'a, TableStep>, Fault>
-    ensures is { Meets result (next_cell column rest.now) }
+fn next_cell<'a, T, R: Roles<T>>(
+    roles: &R,
+    column: Option<Column>,
+    rest: &'a [T],
+) -> Result<Scanned<'a, TableStep, T>, Fault>
+    requires { length rest.now + 1 < 2 ^ 64 }
+    ensures is { MeetsBy (R.token roles.now) result (next_cell column (map (R.token roles.now) rest.now)) }
     ensures falls { IfOk result (λ step. length step.rest.now ≤ length rest.now) }
 {
     match column {
@@ -63,19 +68,20 @@ fn unbalanced(left: usize) -> Fault
 
 /// How a table goes on after a cell of this column. The fault is `Unbalanced` where none of `&`,
 /// `\cr` and `}` stands there, `ExtraCell` where the table has no column after this one.
-pub fn after_cell<'a>(
-    codes: &Codes,
+pub fn after_cell<'a, T, R: Roles<T>>(
+    roles: &R,
     preamble: Preamble,
     column: Column,
-    tokens: &'a [Token],
-) -> Result<Scanned<'a, TableStep>, Fault>
-    ensures is { Meets result (after_cell codes.now preamble column tokens.now) }
+    tokens: &'a [T],
+) -> Result<Scanned<'a, TableStep, T>, Fault>
+    ensures is { MeetsBy (R.token roles.now) result
+        (after_cell (R.codes roles.now) preamble column (map (R.token roles.now) tokens.now)) }
     ensures falls { IfOk result (λ step. length step.rest.now < length tokens.now) }
 {
     match tokens {
-        [token, rest @ ..] => match role_of(codes, token) {
-            Role::Tab => next_cell(next_column(preamble, column), rest),
-            Role::CrWord => Ok(row_or_end(codes, after_spaces(rest))),
+        [token, rest @ ..] => match roles.role_of(token) {
+            Role::Tab => next_cell(roles, next_column(preamble, column), rest),
+            Role::CrWord => Ok(row_or_end(roles, after_spaces(roles, rest))),
             Role::CloseBrace => Ok(Scanned {
                 value: TableStep::Closes,
                 rest,

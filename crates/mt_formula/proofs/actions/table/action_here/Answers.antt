@@ -4,6 +4,8 @@ use Rattle.mt_formula.proofs.Acting.{action_opens}
 use Rattle.mt_formula.proofs.actions.table.action_here.Goals as goal
 
 pub returns-in-Some-clause-level : goal.returns-in-Some-clause-level
-returns-in-Some-clause-level c =
-    action_opens c.args.grammar.codes.now c.args.grammar.units c.args.group.level c.args.group.family (last_in [] c.args.last.now) c.token-item.result _ _ c.role_of-role.result c.in-Some.part.value c.role_of-role.ensures
+returns-in-Some-clause-level g c =
+    let codes = g.R.Roles.codes c.args.grammar.roles.now in
+    let token = g.R.Lexicon.token c.args.grammar.roles.now in
+    action_opens codes c.args.grammar.units c.args.group.level c.args.group.family (last_in [] c.args.last.now) (token c.token-item.result) _ _ c.role_of-role.result c.in-Some.part.value c.role_of-role.ensures
     ((rw (c.in-Some.is) at c.in_ok-part.ensures.is) [])
