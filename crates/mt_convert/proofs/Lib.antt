@@ -55,3 +55,5 @@ pub mod Behind
 pub mod RowsOn
 -- nuclei behind them
 pub mod NucleiOn
+-- lists without boundaries as runs of pieces
+pub mod Runs

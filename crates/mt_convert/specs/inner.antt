@@ -33,3 +33,5 @@ pub mod Answers
 pub mod AtomSteps
 -- how an atom is built
 pub mod Forms
+-- lists without boundaries as runs of pieces with gaps before them
+pub mod Runs

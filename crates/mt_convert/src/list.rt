@@ -77,7 +77,7 @@ pub(crate) fn set_span_on(
         return tested(pieces, first);
     }
     let halves = first_pass_on(pieces, context, list, style)?;
-    join_on(pieces, context.fonts, style, first, halves)
+    join_on(pieces, context.alloc, context.fonts, style, first, halves)
 }
 
 // The first pass over a math list in a style: the rows of its items are behind the pieces that are there.
@@ -317,7 +317,6 @@ fn clean_list(
 // The nucleus of an atom of any kind, where its scripts are beside it: its pieces, and the italic correction that they do
 // not have yet.
 #[cycle(setting)]
-#[inline(never)]
 fn set_nucleus(
     pieces: &mut Pieces,
     context: Context<'_>,
@@ -382,6 +381,7 @@ fn set_part(
 
 // The nucleus of an atom of the plain kind.
 #[cycle(setting)]
+#[inline]
 fn set_plain(
     pieces: &mut Pieces,
     context: Context<'_>,

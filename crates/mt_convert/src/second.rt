@@ -5,4 +5,5 @@ pub mod boundary;
 pub mod join;
 pub mod pass;
 pub mod pieces;
+pub mod runs;
 pub mod space;

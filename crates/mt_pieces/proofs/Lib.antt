@@ -46,3 +46,7 @@ pub mod RowPut
 pub mod PutBehind
 -- what a call that packs tells of setting
 pub mod Packed
+-- kerns and spaces put between pieces
+pub mod Gapped
+-- the box of a character and a kern
+pub mod GlyphBoxes

@@ -8,3 +8,5 @@ pub mod Attaching
 pub mod Celled
 -- places from which runs are copied
 pub mod Runs
+-- kerns and spaces put between pieces
+pub mod Gaps

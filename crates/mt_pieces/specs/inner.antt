@@ -6,3 +6,5 @@ pub mod LastParts
 pub mod Taken
 -- the parts of cells
 pub mod Cells
+-- the parts of what comes between pieces
+pub mod GapParts

@@ -1,6 +1,7 @@
 //! Pieces of the rows of a formula that is being set, one after another on one stack.
 #![tactic(auto)]
 
+mod gaps;
 mod last;
 mod limits;
 mod lines;
@@ -16,6 +17,7 @@ mod tables;
 #[cfg(test)]
 mod tests;
 
+pub use gaps::{Gap, Run};
 pub use pieces::{Pieces, Space};
 pub use runs::PieceAt;
 pub use scripts::Scripts;

@@ -1,9 +1,9 @@
 //! Pieces packed.
-ghost use Rattle.std.specs.Prelude.{◌≡◌, ◌≤◌, ◌≤ℤ◌, ◌^◌, ◌∷◌, length, map, take, drop, List, IfOk, OnOk};
+ghost use Rattle.std.specs.Prelude.{◌≡◌, ◌≤◌, ◌≤ℤ◌, ◌^◌, ◌∷◌, [], ℕ, length, map, take, drop, List, IfOk, OnOk};
 ghost use Rattle.mt_scaled.specs.Number.{Within};
 ghost use Rattle.mt_box.specs.declared.place.Place.{Place};
 ghost use Rattle.mt_box.specs.Extents.{ExtentsInRange};
-ghost use Rattle.mt_box.specs.Rows.{PieceValue, piece_shrink, row_width, row_height, row_depth, row_shrink};
+ghost use Rattle.mt_box.specs.Rows.{PieceGlyph, PieceKern, PieceValue, piece_shrink, row_width, row_height, row_depth, row_shrink};
 ghost use Rattle.mt_box.specs.SetRows.{pack_to};
 ghost use Rattle.mt_box.specs.marks.Layers.{top};
 ghost use Rattle.mt_box.specs.marks.RowParts.{AreParts, AllNearParts, on_stack, part_shrink, part_width, parts_sum};
@@ -54,6 +54,27 @@ impl Pieces {
         settle(&mut self.marks, &mut self.parts, first, made)
     }
 
+    /// A character of a font and a kern after it, packed, behind the others: the box of a row of both. The font is its
+    /// number in the font list, the extents of the character are in range, and the kern is at most 2^40 in size.
+    ///
+    /// Refused as by [`Pieces::pack`].
+    pub fn put_glyph_box(
+        &mut self,
+        font: u16,
+        code: u8,
+        extents: Extents,
+        kern: Length,
+    ) -> Result<(), PackError>
+        requires extents { ExtentsInRange extents }
+        requires kern { Within (2 ^ 40) kern.sp }
+        ensures { PacksPieces result self.new
+            (boxed_on self.old (pack_row (PieceGlyph font code extents ∷ PieceKern kern.sp ∷ []))) }
+    {
+        let keep = self.parts.len();
+        let made = glyph_layer(&mut self.marks, font, code, extents, kern);
+        settle(&mut self.marks, &mut self.parts, keep, made)
+    }
+
     /// The pieces from number `first` on, at most 2^21, as a row set to a width that is at most its own, as by
     /// `mt_box::hpack_to` (tex.web §664, §665). The width is at most 2^62 scaled points in size.
     ///
@@ -94,6 +115,41 @@ fn pack_layers(marks: &mut Marks, parts: &[RowPart]) -> Result<Extents, PackErro
 {
     let extents = pack_parts(marks, parts)?;
     tested_extents(extents)
+}
+
+// The box of a character and a kern after it becomes the layout on top, which is tested.
+fn glyph_layer(
+    marks: &mut Marks,
+    font: u16,
+    code: u8,
+    extents: Extents,
+    kern: Length,
+) -> Result<Extents, PackError>
+    requires extents { ExtentsInRange extents }
+    requires kern { Within (2 ^ 40) kern.sp }
+    ensures is { BoxSetsOn result (top marks.new)
+        (pack_row (PieceGlyph font code extents ∷ PieceKern kern.sp ∷ [])) }
+    ensures rest { OnOk result (marks.new ≡ top marks.new ∷ marks.old) }
+    ensures in_range { IfOk result ExtentsInRange }
+{
+    marks.push_glyph(font, code)?;
+    tested_extents(extents_with_kern(extents, kern))
+}
+
+// What a character and a kern after it reach as a row.
+#[tactic(auto, using(std::proofs::lemmas::Int::ints, std::proofs::lemmas::Int::clamps))]
+fn extents_with_kern(extents: Extents, kern: Length) -> Extents
+    requires extents { ExtentsInRange extents }
+    requires kern { Within (2 ^ 40) kern.sp }
+    ensures width { (font code : ℕ) → result.width ≡ row_width (PieceGlyph font code extents ∷ PieceKern kern.sp ∷ []) }
+    ensures height { (font code : ℕ) → result.height ≡ row_height (PieceGlyph font code extents ∷ PieceKern kern.sp ∷ []) }
+    ensures depth { (font code : ℕ) → result.depth ≡ row_depth (PieceGlyph font code extents ∷ PieceKern kern.sp ∷ []) }
+{
+    Extents {
+        width: extents.width + kern.sp,
+        height: extents.height.max(0),
+        depth: extents.depth.max(0),
+    }
 }
 
 // The parts from number `first` on.

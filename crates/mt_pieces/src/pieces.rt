@@ -5,6 +5,7 @@ ghost use Rattle.mt_box.specs.Extents.{ExtentsInRange};
 ghost use Rattle.mt_box.specs.Rows.{PieceGlyph, PieceBox, PieceKern, PieceSpace};
 ghost use Rattle.mt_rules.specs.Setting.{empty_layout};
 
+use crate::gaps::Run;
 use crate::putting::{box_part, put_part};
 use mt_box::{Extents, Marks, RowPart};
 use mt_scaled::Length;
@@ -19,6 +20,8 @@ pub struct Pieces {
     // a layer for each character and each box, the last one on top
     pub(crate) marks: Marks,
     pub(crate) parts: Vec<RowPart>,
+    // memory for the runs of lists that are joined
+    pub(crate) runs: Vec<Run>,
 }
 
 impl Model for Pieces {
@@ -51,6 +54,7 @@ impl Pieces {
         Pieces {
             marks: Marks::new(alloc),
             parts: Vec::new(alloc),
+            runs: Vec::new(alloc),
         }
     }
 
@@ -61,6 +65,7 @@ impl Pieces {
         Ok(Pieces {
             marks: Marks::with_capacity(alloc, pieces, pieces)?,
             parts: Vec::with_capacity(alloc, pieces)?,
+            runs: Vec::new(alloc),
         })
     }
 

@@ -1,11 +1,13 @@
 //! The second pass in place: the pieces of the items become the row of the list.
-ghost use Rattle.std.specs.Prelude.{◌≡◌, ◌≤◌, ◌^◌, None, OnOk, drop, length, take};
+ghost use Rattle.std.specs.Prelude.{◌≡◌, ◌≤◌, ◌^◌, false, ℤ, None, OnOk, drop, length, take};
+ghost use Rattle.mt_family.specs.declared.size.Size.{Size};
 ghost use Rattle.mt_scaled.specs.Number.{Within};
 ghost use Rattle.mt_convert.specs.Current.{opening};
 ghost use Rattle.mt_convert.specs.Halfway.{AllMeet};
 ghost use Rattle.mt_convert.specs.SecondPass.{all_pieces, row_of_halves, second_pass_of};
 ghost use Rattle.mt_convert.specs.inner.LoneAtoms.{is_lone_atom};
-ghost use Rattle.mt_convert.specs.Calls.{SetsRowOn};
+ghost use Rattle.mt_convert.specs.inner.Runs.{has_boundary};
+ghost use Rattle.mt_convert.specs.Calls.{RowOn, SetsRowOn};
 ghost use Rattle.mt_convert.specs.inner.Placed.{IsPlaced, PlacesIn, placed_halves, placed_values};
 
 use crate::SetFault;
@@ -13,14 +15,17 @@ use crate::flat::current::Current;
 use crate::placed::{PlacedHalf, PlacedHalves};
 use crate::second::boundary::{BoundaryFrame, boundary_frame};
 use crate::second::pieces::put_half;
+use crate::second::runs::{has_boundary, put_runs};
 use crate::set::row::tested;
 use mt_family::FontSet;
 use mt_pieces::Pieces;
 use mt_rules::Style;
+use std::alloc::{AllocError, Global};
 
 // The pieces from number `first` on, which are those of these items, become the row of the list, tested.
 pub(crate) fn join_on(
     pieces: &mut Pieces,
+    alloc: Global,
     fonts: &FontSet,
     style: Style,
     first: usize,
@@ -32,11 +37,62 @@ pub(crate) fn join_on(
         (second_pass_of fonts.now style (placed_halves halves (drop first pieces.old))) }
     ensures few { OnOk result (length (drop first pieces.new) ≤ 2 ^ 21) }
 {
+    let items = halves.items.as_slice();
+    if !has_boundary(items) {
+        return join_runs(pieces, alloc, fonts, style, first, items);
+    }
     let frame = boundary_frame(fonts, style, halves.height, halves.depth);
-    join_rows(pieces, fonts, frame, style, first, halves.items.as_slice())
+    join_rows(pieces, fonts, frame, style, first, items)
 }
 
-// The same where the wanted size of boundaries is found.
+// The same of items without boundaries and middles: only spaces and kerns come between their pieces.
+fn join_runs(
+    pieces: &mut Pieces,
+    alloc: Global,
+    fonts: &FontSet,
+    style: Style,
+    first: usize,
+    items: &[PlacedHalf],
+) -> Result<(), SetFault>
+    requires first { first ≤ length pieces.old }
+    requires placed { PlacesIn items.now (drop first pieces.old) }
+    requires inside { has_boundary items.now ≡ false }
+    ensures is { (size : Size) (wanted : ℤ) → SetsRowOn result (take first pieces.old) pieces.new
+        (row_of_halves fonts.now size wanted style (placed_values items.now (drop first pieces.old))) }
+    ensures few { OnOk result (length (drop first pieces.new) ≤ 2 ^ 21) }
+{
+    space_out(pieces, alloc, fonts, style, first, items)?;
+    tested(pieces, first)
+}
+
+// The row of such items, not tested. That of an atom alone stays as it is.
+fn space_out(
+    pieces: &mut Pieces,
+    alloc: Global,
+    fonts: &FontSet,
+    style: Style,
+    first: usize,
+    items: &[PlacedHalf],
+) -> Result<(), AllocError>
+    requires first { first ≤ length pieces.old }
+    requires placed { PlacesIn items.now (drop first pieces.old) }
+    requires inside { has_boundary items.now ≡ false }
+    ensures { OnOk result ((size : Size) (wanted : ℤ) → RowOn (take first pieces.old) pieces.new
+        (all_pieces fonts.now size wanted (opening style) (placed_values items.now (drop first pieces.old)))) }
+{
+    if is_lone_atom(items) {
+        return Ok(());
+    }
+    put_runs(pieces, alloc, fonts, style, first, items)
+}
+
+fn is_lone_atom(items: &[PlacedHalf]) -> bool
+    ensures { result ≡ is_lone_atom items.now }
+{
+    matches!(items, [PlacedHalf::Set { .. }])
+}
+
+// The same of items with boundaries or middles, whose wanted size is found.
 fn join_rows(
     pieces: &mut Pieces,
     fonts: &FontSet,
@@ -56,7 +112,7 @@ fn join_rows(
     tested(pieces, first)
 }
 
-// The row, not tested. That of an atom alone stays as it is.
+// The row, not tested.
 fn join_pieces(
     pieces: &mut Pieces,
     fonts: &FontSet,
@@ -71,19 +127,10 @@ fn join_pieces(
     ensures { SetsRowOn result (take first pieces.old) pieces.new
         (all_pieces fonts.now frame.size frame.wanted.sp (opening style) (placed_values items.now (drop first pieces.old))) }
 {
-    if is_lone_atom(items) {
-        return Ok(());
-    }
     let count = pieces.len() - first;
     put_halves(pieces, fonts, frame, style, first, items)?;
     pieces.remove(first, count);
     Ok(())
-}
-
-fn is_lone_atom(items: &[PlacedHalf]) -> bool
-    ensures { result ≡ is_lone_atom items.now }
-{
-    matches!(items, [PlacedHalf::Set { .. }])
 }
 
 // The row behind the pieces of the items, which begin with number `first` and stay.

@@ -43,6 +43,6 @@ pub fn second_pass(
 {
     let mut pieces = Pieces::new(alloc);
     let halves = put_halfway(alloc, &mut pieces, half)?;
-    join_on(&mut pieces, fonts, style, 0, halves)?;
+    join_on(&mut pieces, alloc, fonts, style, 0, halves)?;
     Ok(pieces.take_row(alloc, 0)?)
 }

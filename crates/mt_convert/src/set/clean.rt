@@ -114,10 +114,7 @@ fn packed_glyph(
     requires kern { Within (2 ^ 31) kern.sp }
     ensures is { SetsBoxOn result pieces.old pieces.new (pack_row (PieceGlyph number code extents ∷ PieceKern kern.sp ∷ [])) }
 {
-    let first = pieces.len();
-    pieces.put_glyph(number, code, extents)?;
-    pieces.put_kern(kern)?;
-    packed(pieces, first)
+    row_packed(pieces.put_glyph_box(number, code, extents, kern))
 }
 
 // What the clean box of a symbol reaches. The box is made behind the pieces, and taken off.

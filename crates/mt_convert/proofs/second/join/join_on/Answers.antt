@@ -1,5 +1,5 @@
-use Rattle.std.proofs.Common.{◌∙◌, ap, subst, take, drop}
-use Rattle.mt_convert.proofs.Common.{row_of_halves, SetsRowOn}
+use Rattle.std.proofs.Common.{◌∙◌, ap, refl, subst, take, drop}
+use Rattle.mt_convert.proofs.Common.{boundary_size, row_of_halves, size_of, SetsRowOn}
 use Rattle.mt_convert.specs.inner.Placed.{placed_values}
 use Rattle.mt_convert.proofs.SecondPass.{second_is}
 use Rattle.mt_convert.proofs.second.join.join_on.Goals as goal
@@ -8,6 +8,16 @@ pub returns-clause-is : goal.returns-clause-is
 returns-clause-is c =
     let row = drop c.args.first c.args.pieces.now in
     subst (SetsRowOn c.join_rows.result (take c.args.first c.args.pieces.now) c.join_rows.new.pieces)
-    (ap (λ items. row_of_halves c.args.fonts.now c.boundary_frame-frame.result.size c.boundary_frame-frame.result.wanted.sp c.args.style (placed_values items row)) c.as_slice.ensures
+    (ap (λ items. row_of_halves c.args.fonts.now c.boundary_frame-frame.result.size c.boundary_frame-frame.result.wanted.sp c.args.style (placed_values items row)) c.as_slice-items.ensures
     ∙ second_is c.args.fonts.now c.args.style _ _ _ _ (placed_values c.args.halves.items row) c.boundary_frame-frame.ensures.size c.boundary_frame-frame.ensures.wanted)
     c.join_rows.ensures.is
+
+pub returns-then-not-has_boundary-clause-is : goal.returns-then-not-has_boundary-clause-is
+returns-then-not-has_boundary-clause-is c =
+    let row = drop c.args.first c.args.pieces.now in
+    let size = size_of c.args.style in
+    let wanted = boundary_size c.args.fonts.now size c.args.halves.height.sp c.args.halves.depth.sp in
+    subst (SetsRowOn c.join_runs.result (take c.args.first c.args.pieces.now) c.join_runs.new.pieces)
+    (ap (λ items. row_of_halves c.args.fonts.now size wanted c.args.style (placed_values items row)) c.as_slice-items.ensures
+    ∙ second_is c.args.fonts.now c.args.style size wanted _ _ (placed_values c.args.halves.items row) refl refl)
+    (c.join_runs.ensures.is size wanted)

@@ -1,0 +1,127 @@
+//! Kerns and spaces put between pieces that are there.
+ghost use Rattle.std.specs.Prelude.{◌≡◌, ◌≤◌, ◌+◌, ◌-◌, ◌++◌, IfOk, OnOk, OnErr, [], drop, length, min, take};
+ghost use Rattle.mt_pieces.specs.Gaps.{gap_pieces, with_gaps, AllRunsFit};
+ghost use Rattle.mt_pieces.specs.inner.GapParts.{gap_parts};
+
+use crate::pieces::{Pieces, Space};
+use mt_box::{Marks, RowPart, cut};
+use mt_scaled::Length;
+use std::alloc::{AllocError, Global};
+
+/// What comes between two pieces.
+#[derive(Clone, Copy, Debug, PartialEq, Eq)]
+pub enum Gap {
+    /// Nothing.
+    None,
+    /// So many scaled points, at most 2^40 in size.
+    Kern(Length),
+    /// A space.
+    Space(Space),
+}
+
+/// Some pieces one after another, and what comes before them.
+#[derive(Clone, Copy, Debug, PartialEq, Eq)]
+pub struct Run {
+    /// What comes before the pieces.
+    pub gap: Gap,
+    /// How many pieces there are.
+    pub count: usize,
+}
+
+impl Pieces {
+    /// An empty list for runs, with the memory of the one that [`Pieces::put_gaps`] took last. Pieces stay.
+    pub fn take_runs(&mut self, alloc: Global) -> Vec<Run>
+        ensures same { self.new ≡ self.old }
+        ensures is { result.items ≡ [] }
+    {
+        let mut runs = std::mem::replace(&mut self.runs, Vec::new(alloc));
+        runs.clear();
+        runs
+    }
+
+    /// Puts the gaps of these runs before their pieces, which are those from number `first` on, in their order. Pieces
+    /// after those of the runs stay behind them. The memory of the list is kept for [`Pieces::take_runs`].
+    pub fn put_gaps(&mut self, first: usize, runs: Vec<Run>) -> Result<(), AllocError>
+        requires { AllRunsFit runs.items }
+        ensures { OnOk result (self.new ≡ take first self.old ++ with_gaps gap_pieces runs.items (drop first self.old)) }
+    {
+        let put = put_between(&mut self.marks, &mut self.parts, first, &runs);
+        self.runs = runs;
+        put
+    }
+}
+
+// The same of parts, whose layers stay. After a fault there are no parts and no layers.
+fn put_between(
+    marks: &mut Marks,
+    parts: &mut Vec<RowPart>,
+    first: usize,
+    runs: &[Run],
+) -> Result<(), AllocError>
+    ensures marks { OnOk result (marks.new ≡ marks.old) }
+    ensures parts { OnOk result (parts.new.items
+        ≡ take first parts.old.items ++ with_gaps gap_parts runs.now (drop first parts.old.items)) }
+    ensures no_marks { OnErr result (marks.new ≡ []) }
+    ensures no_parts { OnErr result (parts.new.items ≡ []) }
+{
+    let put = spread(parts, first, runs);
+    if put.is_err() {
+        marks.clear();
+        parts.clear();
+    }
+    put
+}
+
+// The parts from number `first` on with the gaps of the runs.
+fn spread(parts: &mut Vec<RowPart>, first: usize, runs: &[Run]) -> Result<(), AllocError>
+    ensures { OnOk result (parts.new.items
+        ≡ take first parts.old.items ++ with_gaps gap_parts runs.now (drop first parts.old.items)) }
+{
+    let end = parts.len();
+    let start = first.min(end);
+    let mut from = start;
+    for run in runs {
+        from = put_run(parts, *run, from, end)?;
+    }
+    copy_parts(parts, from, end)?;
+    cut(parts, start, end);
+    Ok(())
+}
+
+// The gap of a run and its parts, which are those from `from` on before `end`, once more behind all parts. The answer is
+// where the parts after them begin.
+fn put_run(parts: &mut Vec<RowPart>, run: Run, from: usize, end: usize) -> Result<usize, AllocError>
+    requires from { from ≤ end }
+    requires end { end ≤ length parts.old.items }
+    ensures parts { OnOk result (parts.new.items ≡ parts.old.items ++ (gap_parts run.gap
+        ++ take run.count (take (end - from) (drop from parts.old.items)))) }
+    ensures after { IfOk result (λ n. n ≡ min (from + run.count) end) }
+{
+    put_gap(parts, run.gap)?;
+    let after = from.saturating_add(run.count).min(end);
+    copy_parts(parts, from, after)?;
+    Ok(after)
+}
+
+// The parts from `start` on before `end` once more behind all parts. These are few, so they are copied one by one.
+fn copy_parts(parts: &mut Vec<RowPart>, start: usize, end: usize) -> Result<(), AllocError>
+    requires start { start ≤ end }
+    requires end { end ≤ length parts.old.items }
+    ensures { OnOk result (parts.new.items ≡ parts.old.items ++ take (end - start) (drop start parts.old.items)) }
+{
+    for i in start..end {
+        let part = parts[i];
+        parts.push(part)?;
+    }
+    Ok(())
+}
+
+fn put_gap(parts: &mut Vec<RowPart>, gap: Gap) -> Result<(), AllocError>
+    ensures { OnOk result (parts.new.items ≡ parts.old.items ++ gap_parts gap) }
+{
+    match gap {
+        Gap::None => Ok(()),
+        Gap::Kern(width) => Ok(parts.push(RowPart::Gap(width.sp))?),
+        Gap::Space(Space { width, shrink }) => Ok(parts.push(RowPart::Space { width, shrink })?),
+    }
+}
