@@ -21,6 +21,9 @@ use mt_pieces::Pieces;
 use mt_scaled::{Items, Length};
 use std::alloc::{AllocError, Global};
 
+// How many places there is room for at first, for each line: those of a short formula.
+const PLACES_OF_A_LINE: usize = 8;
+
 /// Lines of a page that is being set: the box of each is a piece of a stack, and the pieces of what
 /// is set now come behind them.
 #[derive(Drop)]
@@ -184,7 +187,7 @@ impl LineStack {
         ensures { (lines : List LineValue) → IsStack lines [] self.now
             → StackAnswers result (stacked_lines room lines) }
     {
-        let mut page = Vec::new(alloc);
+        let mut page = Vec::with_capacity(alloc, self.shifts.len() * PLACES_OF_A_LINE)?;
         let mut at = self.pieces.place_of(0);
         let mut next = FIRST_LINE;
         for shift in self.shifts.as_slice() {

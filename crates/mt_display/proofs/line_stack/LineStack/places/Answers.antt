@@ -5,7 +5,7 @@ use Rattle.mt_display.proofs.line_stack.LineStack.places.Goals as goal
 
 pub returns-in_err-next : goal.returns-in_err-next
 returns-in_err-next c lines is =
-    let p = err_from_is_err_and c.from_residual.result c.from_residual.ensures.1 in
+    let p = err_from_is_err_and c.from_residual-in_err-next.result c.from_residual-in_err-next.ensures.1 in
     let e = drop_more c.as_slice-shift-items.result.now c.loop-shift.shift-index (pos 0) c.loop-shift-test.true in
     let small = shift_here _ _ _ _ _ _ _ _ c.loop-shift.invariant e in
     rw (p.1, p.2) (walking_err c.args.room c.args.self.now _ _ _ c.loop-shift.page.items c.add_line.new.page.items c.loop-shift.at c.loop-shift.next c.in_err-next.field-0.0 lines c.loop-shift.invariant e (λ b r l s n k. c.in_err-next.ensures.is b r l s n (kept (2 ^ 40) _ small (lit< tt) ∙ k)) is)
