@@ -1,6 +1,6 @@
 -- The rows of a display of several lines, one after another, and the places of their line.
 use Rattle.std.proofs.Common.{◌≡◌, ℕ, ℤ, pos, ◌-ℤ◌, ◌+◌, ◌-◌, ◌≤◌, ◌^◌, Bool, List, [], ◌∷◌, ◌++◌, length, length-append, map, take, drop, refl, sym, ◌∙◌, ap, subst, arith, All, Option, Some, None, Result, Ok, Err}
-use Rattle.mt_pages.proofs.Common.{All-append, All-cons, All-head, All-nil, All-tail, Layout, all_moved, PieceValue, PieceBox, pack, Place, Within, ◌>>=◌, SetValue, EquationLayout, centred_row, equation_row, equation_rows, equations_axis, equations_line, margin, number_place, rows_line, stacked_rows, ◌>>◌, make_box, pack_row, pass_unless, rows_of, Sequence, Rows, NoRows, MoreRows, rows_length, PlaceHolds, at_left_end, equation_lines, greatest_level, row_lines, one_line, IsStack, LineValue, line_values, LineStack, are, made_then, one_has, each_set, equations_lines, equations_set, formula_box, formula_row, lists_of, rows_lines, rows_set, set_by, IsPure, Status, pure_err}
+use Rattle.mt_pages.proofs.Common.{All-append, All-cons, All-head, All-nil, All-tail, Layout, all_moved, PieceValue, PieceBox, pack, Place, Within, ◌>>=◌, SetValue, EquationLayout, centred_row, equation_row, equation_rows, equations_axis, equations_line, margin, number_place, rows_line, stacked_rows, ◌>>◌, make_box, pack_row, pass_unless, Sequence, Rows, NoRows, MoreRows, rows_length, PlaceHolds, at_left_end, equation_lines, greatest_level, row_lines, one_line, IsStack, LineValue, line_values, LineStack, are, made_then, one_has, each_set, equations_lines, equations_set, formula_box, formula_row, lists_of, rows_lines, rows_set, set_by, IsPure, Status, pure_err}
 use Rattle.mt_box.specs.Extents.{first_out}
 use Rattle.mt_box.proofs.Still.{moved_have, pack_has}
 use Rattle.mt_rules.specs.declared.document.Equation.{Equation}

@@ -1,7 +1,7 @@
 -- A source that is not read is refused for a reason (`document_explains`): memory did not run out, and a formula is refused for a cause with a
 -- number.
 use Rattle.std.proofs.Common.{◌≡◌, ◌+◌, ◌-◌, ℕ, zero, suc, length, map, Bool, true, false, List, [], ◌∷◌, refl, cond, Option, Some, None, Result, Ok, Err, nat_lt, drop, sym, ap, ◌∙◌, true≢false, if◌then◌else◌}
-use Rattle.mt_pages.proofs.Common.{Token, Expansion, Expanded, OverBudget, NoArgument, NoPartner, ListTooLong, MacroStep, Done, Missing, Next, macro_step, at_last, further, within_budget, run, unless_unmatched, expansion, CodeTables, plain_codes, plain_table, token_of, SetValue, units_of, DocumentState, DocumentAnswer, DocumentTurn, Goes, Ends, Stops, StopsOutside, after_assignment, after_definition, after_expansion, after_reading, formula_in, formula_turn, is_page_limit, outside_role, pages_from, start_state, turn_answer, turn_by, with_table, document_from, document_of, document_refusal, reading_refusal, token_refusal, OutOfMemory, Status, BadFormula, Avoids, ◌>>=◌}
+use Rattle.mt_pages.proofs.Common.{Token, Expansion, Expanded, OverBudget, NoArgument, NoPartner, ListTooLong, MacroStep, Done, Missing, Next, macro_step, at_last, further, within_budget, run, unless_unmatched, expansion, CodeTables, plain_codes, plain_words, word_token, SetValue, units_of, DocumentState, DocumentAnswer, DocumentTurn, Goes, Ends, Stops, StopsOutside, after_assignment, after_definition, after_expansion, after_reading, formula_in, formula_turn, is_page_limit, outside_role, pages_from, start_state, turn_answer, turn_by, with_table, document_from, document_of, document_refusal, reading_refusal, token_refusal, OutOfMemory, Status, BadFormula, Avoids, ◌>>=◌}
 use Rattle.std.specs.Prelude.{⊤}
 use Rattle.mt_scaled.specs.declared.unit.Units.{Units}
 use Rattle.mt_token.specs.declared.token.TokenError.{TokenError}
@@ -255,7 +255,7 @@ pages_explain units whole (suc turns) s (t ∷ rest) =
 
 answer_explains : (units : Units) (tokens : Answer) → fits tokens ≡ true → AnswerExplains (document_by units tokens)
 answer_explains units (Ok list) h =
-    pages_explain units (length (map token_of list)) (length (map token_of list)) (start_state plain_codes plain_table) (map token_of list)
+    pages_explain units (length (map word_token list)) (length (map word_token list)) (start_state plain_codes plain_words) (map word_token list)
 answer_explains units (Err cause) h = token_explained cause h
 
 -- a source within its limit

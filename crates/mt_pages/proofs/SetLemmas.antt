@@ -1,12 +1,13 @@
 -- Pages that are set and placed one after another, with the first fault held back.
 use Rattle.std.proofs.Common.{◌≡◌, ℕ, ◌+◌, ◌≤◌, false, List, [], ◌∷◌, ◌++◌, length, refl, sym, ◌∙◌, ap, subst, arith, ℤ, Option, Some, None, Result, Ok, Err, All, IfSome, nat_lt}
-use Rattle.mt_pages.proofs.Common.{All-append, All-cons, All-nil, append-nil, count_by-le-length, ◌>>=◌, Token, SetValue, units_of, Place, max_dvi_pages, max_places, IsWritable, all_places, plain_codes, plain_table, Formula, document, CanGoOn, GoesOn, IsBounded, IsNextPage, IsReadOf, left_to_read, document_from, document_of, document_pages, source_pages, is_glyph_place, is_rule_place, IsPure, Origin, PureBy, Status, pure_err}
+use Rattle.mt_pages.proofs.Common.{All-append, All-cons, All-nil, append-nil, count_by-le-length, ◌>>=◌, Token, SetValue, units_of, Place, max_dvi_pages, max_places, IsWritable, all_places, plain_codes, plain_words, Formula, document, CanGoOn, GoesOn, IsBounded, IsNextPage, IsReadOf, left_to_read, pages_ended, pages_view, ReaderView, document_from, document_of, document_pages, source_pages, is_glyph_place, is_rule_place, IsPure, Origin, PureBy, Status, pure_err}
 use Rattle.std.proofs.lemmas.Bool.Decides.{nat_tests}
 use Rattle.std.proofs.lemmas.List.{append_assoc, length-append}
 use Rattle.mt_dvi.specs.FileOf.{CanTake, IsFileOf}
 use Rattle.mt_dvi.specs.Refusal.{refusal_of}
 use Rattle.mt_dvi.specs.declared.file.DviFile.{DviFile}
 use Rattle.mt_scaled.specs.declared.unit.Units.{Units}
+use Rattle.mt_reader.specs.ItemReading as reading
 use Rattle.mt_reader.specs.declared.page_reader.PageReader.{PageReader}
 use Rattle.mt_pages.specs.inner.Texts.{AreCountsOf, HasRoom}
 use Rattle.mt_pages.specs.declared.summaries.Counts.{Counts}
@@ -22,7 +23,7 @@ use Rattle.mt_pages.proofs.PageLemmas.{all_places_length}
 
 module _ (set : SetValue) (width : ℤ) (source : List ℕ) where
   -- nothing is read
-  pub are_none : (tokens : List Token) (s : PageSetter) → AreTokensOf set source (Ok tokens) → IsReadOf (units_of set) tokens [] s.reader → s.room ≡ max_places → s.held ≡ Nothing → ArePagesOf set width source [] s
+  pub are_none : (tokens : List Token) (s : PageSetter) → AreTokensOf set source tokens → IsReadOf (units_of set) tokens [] s.reader → s.room ≡ max_places → s.held ≡ Nothing → ArePagesOf set width source [] s
   are_none tokens s same reader room held = record {
     tokens = tokens;
     same = same;
@@ -45,27 +46,27 @@ module _ (set : SetValue) (width : ℤ) (source : List ℕ) where
   with_room pages (Some places) room new full less = omega (arith, full, less, all_places_length pages places)
 
   -- one page more
-  pub are_more : (tokens : List Token) (pages : List (List Place)) (read : List (List Formula)) (page : List Formula) (old mid new : PageSetter) (places : Option (List Place)) → AreTokensOf set source (Ok tokens)
-      → ((rest : List (List Formula)) → document_pages set width (read ++ rest) ≡ rest_after set width pages old.room old.held rest) → IsTold old.held → length pages ≤ old.reader.state.ended → length (all_places pages) + old.room ≡ max_places
-      → IsReadOf (units_of set) tokens (read ++ page ∷ []) mid.reader → mid.reader.state.ended ≡ old.reader.state.ended + 1 → KeepsPlaces old mid → SetsPage set width page mid new places → new.reader ≡ mid.reader
+  pub are_more : (tokens : List Token) (pages : List (List Place)) (read : List (List Formula)) (page : List Formula) (old mid new : PageSetter) (places : Option (List Place)) → AreTokensOf set source tokens
+      → ((rest : List (List Formula)) → document_pages set width (read ++ rest) ≡ rest_after set width pages old.room old.held rest) → IsTold old.held → length pages ≤ pages_ended old.reader → length (all_places pages) + old.room ≡ max_places
+      → IsReadOf (units_of set) tokens (read ++ page ∷ []) mid.reader → pages_ended mid.reader ≡ pages_ended old.reader + 1 → KeepsPlaces old mid → SetsPage set width page mid new places → pages_view new.reader ≡ pages_view mid.reader
       → ArePagesOf set width source (append_page pages places) new
   are_more tokens pages read page old mid new places same is told few room reader ended keeps done kept = record {
     tokens = tokens;
     same = same;
     read = read ++ page ∷ [];
-    reader = subst (λ r. IsReadOf (units_of set) tokens (read ++ page ∷ []) r) (sym kept) reader;
+    reader = subst (λ (v : ReaderView). reading.IsReadOf (units_of set) tokens (read ++ page ∷ []) v) (sym kept) reader;
     is = λ rest.
         ap (document_pages set width) (append_assoc read (page ∷ []) rest)
         ∙ (is (page ∷ rest)
         ∙ (sym (ap (λ (n : ℕ). rest_after set width pages n mid.held (page ∷ rest)) keeps.room ∙ ap (λ (h : FirstFault). rest_after set width pages old.room h (page ∷ rest)) keeps.held)
         ∙ done.is pages rest));
     told = done.told (subst IsTold (sym keeps.held) told);
-    few = omega (arith, with_none pages places old.reader.state.ended few, ended, ap (λ r. r.state.ended) kept);
+    few = omega (arith, with_none pages places (pages_ended old.reader) few, ended, ap (λ (v : ReaderView). v.state.ended) kept);
     room = with_room pages places mid.room new.room (omega (arith, room, keeps.room)) done.room;
   }
 
   -- no page more
-  pub are_all : (pages : List (List Place)) (s : PageSetter) (are : ArePagesOf set width source pages s) → document (units_of set) plain_codes plain_table are.tokens ≡ Ok are.read
+  pub are_all : (pages : List (List Place)) (s : PageSetter) (are : ArePagesOf set width source pages s) → document (units_of set) plain_codes plain_words are.tokens ≡ Ok are.read
       → source_pages set width source ≡ rest_after set width pages s.room s.held []
   unfolding source_pages
   are_all pages s are all =
@@ -78,12 +79,12 @@ module _ (set : SetValue) (width : ℤ) (source : List ℕ) where
   end_by pages room (HeldSetting status) new told is = subst (λ (o : Origin). PureBy o (source_pages set width source ≡ Err status)) (sym told) is
 
   -- the end, or the fault that was held back
-  pub next_end : (pages : List (List Place)) (s new : PageSetter) (result : Result (Option (List Place)) Status) (are : ArePagesOf set width source pages s) → document (units_of set) plain_codes plain_table are.tokens ≡ Ok are.read
+  pub next_end : (pages : List (List Place)) (s new : PageSetter) (result : Result (Option (List Place)) Status) (are : ArePagesOf set width source pages s) → document (units_of set) plain_codes plain_words are.tokens ≡ Ok are.read
       → result ≡ end_of s.held → IsNextOf set width source pages new result
   next_end pages s new result are all ends = subst (λ (r : Result (Option (List Place)) Status). IsNextOf set width source pages new r) (sym ends) (end_by pages s.room s.held new are.told (are_all pages s are all))
 
   -- the document is refused
-  pub next_err : (pages : List (List Place)) (s : PageSetter) (status : Status) (are : ArePagesOf set width source pages s) → IsPure (document_from (document (units_of set) plain_codes plain_table are.tokens)) (Err status)
+  pub next_err : (pages : List (List Place)) (s : PageSetter) (status : Status) (are : ArePagesOf set width source pages s) → IsPure (document_from (document (units_of set) plain_codes plain_words are.tokens)) (Err status)
       → IsPure (source_pages set width source) (Err status)
   unfolding source_pages
   next_err pages s status are is =
@@ -106,7 +107,7 @@ kept_at set w v old new e is = subst (λ (x : ℤ). (source : List ℕ) → (pag
 -- a page is read and set
 pub are_set : (set : SetValue) (w v : ℤ) (source : List ℕ) (pages : List (List Place)) (page : List Formula) (old mid new : PageSetter) (found : Option (List Formula)) (got places : Option (List Place)) → w ≡ v
     → ArePagesOf set v source pages old → found ≡ Some page → ((tokens : List Token) → (read : List (List Formula)) → IsReadOf (units_of set) tokens read old.reader → AreFormulasOf set tokens read mid (Ok found))
-    → GoesOn old.reader mid.reader (Ok found) → KeepsPlaces old mid → SetsPage set w page mid new got → got ≡ places → new.reader ≡ mid.reader → ArePagesOf set v source (append_page pages places) new
+    → GoesOn old.reader mid.reader (Ok found) → KeepsPlaces old mid → SetsPage set w page mid new got → got ≡ places → pages_view new.reader ≡ pages_view mid.reader → ArePagesOf set v source (append_page pages places) new
 are_set set w v source pages page old mid new found got places e are some formulas more keeps done is kept =
     let reader : IsReadOf (units_of set) are.tokens (are.read ++ page ∷ []) mid.reader = subst (λ (o : Option (List Formula)). AreFormulasOf set are.tokens are.read mid (Ok o)) some (formulas are.tokens are.read are.reader) in
     let bounded : IsBounded old.reader mid.reader page = subst (λ (o : Option (List Formula)). GoesOn old.reader mid.reader (Ok o)) some more in
@@ -117,17 +118,17 @@ pub record GoesOnIn (first new : PageSetter) : Type 0 where
   pub more : CanGoOn new.reader
   pub falls : left_to_read new.reader ≤ left_to_read first.reader
 
-pub go_set : (first old mid new : PageSetter) (page : List Formula) (found : Option (List Formula)) → found ≡ Some page → GoesOn old.reader mid.reader (Ok found) → new.reader ≡ mid.reader → left_to_read old.reader ≤ left_to_read first.reader
+pub go_set : (first old mid new : PageSetter) (page : List Formula) (found : Option (List Formula)) → found ≡ Some page → GoesOn old.reader mid.reader (Ok found) → pages_view new.reader ≡ pages_view mid.reader → left_to_read old.reader ≤ left_to_read first.reader
     → GoesOnIn first new
 go_set first old mid new page found some more kept falls =
     let bounded : IsBounded old.reader mid.reader page = subst (λ (o : Option (List Formula)). GoesOn old.reader mid.reader (Ok o)) some more in
     record {
-      more = subst CanGoOn (sym kept) bounded.more;
-      falls = omega (arith, bounded.falls, falls, ap left_to_read kept);
+      more = subst reading.CanGoOn (sym kept) bounded.more;
+      falls = omega (arith, bounded.falls, falls, ap reading.left_to_read kept);
     }
 
--- the source has no tokens
-pub source_err : (set : SetValue) (width : ℤ) (source : List ℕ) (status : Status) → AreTokensOf set source (Err status) → IsPure (source_pages set width source) (Err status)
+-- the source has no document
+pub source_err : (set : SetValue) (width : ℤ) (source : List ℕ) (status : Status) → IsPure (document_of set source) (Err status) → IsPure (source_pages set width source) (Err status)
 unfolding source_pages
 source_err set width source status is = pure_err (document_of set source) (document_pages set width) status is
 

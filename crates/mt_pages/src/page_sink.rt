@@ -6,11 +6,12 @@ ghost use Rattle.mt_pages.specs.LineWidth.{IsLineWidth};
 ghost use Rattle.mt_pages.specs.Pages.{source_pages};
 ghost use Rattle.mt_pages.specs.inner.Added.{AddsPages, CanAdd};
 
-use crate::document::tokens_of;
+use crate::document::words_of;
 use crate::pages::PageSetter;
 use mt_box::PlaceList;
 use mt_family::FontSet;
 use mt_status::Status;
+use mt_tables::Tables;
 use std::alloc::{AllocError, Global};
 
 /// What is made of pages that are added one after another.
@@ -29,7 +30,7 @@ pub trait PageSink {
 ///
 /// # Errors
 ///
-/// The first fault of the source, as [`tokens_of`] and [`PageSetter::next_page`] say.
+/// The first fault of the source, as [`words_of`] and [`PageSetter::next_page`] say.
 pub fn add_pages<S: PageSink>(
     sink: &mut S,
     alloc: Global,
@@ -41,8 +42,11 @@ pub fn add_pages<S: PageSink>(
     requires none { S.HasPages fonts.now [] sink.old }
     ensures { AddsPages fonts.now (S.HasPages fonts.now) (source_pages fonts.now width source.now) result sink.new }
 {
-    let tokens = tokens_of(alloc, source)?;
-    let mut setter = PageSetter::new(alloc, tokens.as_slice())?;
+    let Ok(mut tables) = Tables::plain(alloc) else {
+        return Err(Status::OutOfMemory);
+    };
+    let words = words_of(alloc, &mut tables, source)?;
+    let mut setter = PageSetter::new(alloc, tables, words.as_slice())?;
     while let Some(page) = setter.next_page(alloc, fonts, width)? {
         sink.add(fonts, page)?;
     }

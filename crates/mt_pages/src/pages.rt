@@ -1,13 +1,16 @@
 //! The pages of a source, one after another.
-ghost use Rattle.std.specs.Prelude.{◌≡◌, ◌≤◌, ◌^◌, [], All, IfOk, IfSome, List, Ok, Option, Result, length, ℕ, ℤ};
+ghost use Rattle.std.specs.Prelude.{◌≡◌, ◌≤◌, ◌^◌, [], All, IfOk, IfSome, List, Ok, Option, Result, length, map, ℕ, ℤ};
 ghost use Rattle.mt_family.specs.SetValue.{SetValue};
 ghost use Rattle.mt_box.specs.declared.place.Place.{Place as PlaceFields};
 ghost use Rattle.mt_dvi.specs.Writable.{IsWritable};
 ghost use Rattle.mt_family.specs.Sets.{units_of};
 ghost use Rattle.mt_token.specs.Tokens.{max_source};
 ghost use Rattle.mt_token.specs.declared.token.Token.{Token as TokenFields};
+ghost use Rattle.mt_plain.specs.CodeTables.{plain_codes};
+ghost use Rattle.mt_tables.specs.Held.{held_token};
 ghost use Rattle.mt_rules.specs.declared.document.Formula.{Formula};
-ghost use Rattle.mt_reader.specs.PageReading.{CanGoOn, GoesOn, IsReadOf};
+ghost use Rattle.mt_reader.specs.PageReading.{CanGoOn, GoesOn, IsReadOf, pages_view};
+ghost use Rattle.mt_reader.specs.Sources.{plain_words};
 ghost use Rattle.mt_reader.specs.Weights.{HasModestLists, page_weight};
 ghost use Rattle.mt_pages.specs.Pages.{PageLinesValue, no_lines, page_lines, page_places, stack_refusal};
 ghost use Rattle.mt_pages.specs.LineWidth.{IsLineWidth};
@@ -22,9 +25,10 @@ use mt_box::PlaceList;
 use mt_display::StackError;
 use mt_dvi::MAX_PLACES;
 use mt_family::FontSet;
+use mt_lexicon::Word;
 use mt_reader::{ArenaPage, PageReader};
 use mt_status::{Much, Status};
-use mt_token::Token;
+use mt_tables::Tables;
 use std::alloc::{AllocError, Global};
 use std::mem;
 
@@ -103,16 +107,25 @@ pub struct PageSetter<'a> {
 }
 
 impl<'a> PageSetter<'a> {
-    /// The pages of these tokens. None of them is read yet.
-    pub fn new(alloc: Global, tokens: &'a [Token]) -> Result<PageSetter<'a>, AllocError>
-        requires { length tokens.now ≤ max_source }
+    /// The pages that these words make under plain TeX's tables. None of them is read yet.
+    ///
+    /// # Errors
+    ///
+    /// Memory ran out.
+    pub fn new(
+        alloc: Global,
+        tables: Tables,
+        words: &'a [Word],
+    ) -> Result<PageSetter<'a>, AllocError>
+        requires codes { tables.codes ≡ plain_codes }
+        requires macros { tables.macros ≡ plain_words }
+        requires few { length words.now ≤ max_source }
         ensures is { IfOk result (λ setter. (fonts : SetValue) → (width : ℤ) → (source : List ℕ)
-            → AreTokensOf fonts source (Ok tokens.now) → ArePagesOf fonts width source [] setter) }
+            → AreTokensOf fonts source (map (held_token tables) words.now) → ArePagesOf fonts width source [] setter) }
         ensures more { IfOk result (λ setter. CanGoOn setter.reader) }
     {
-        let reader = PageReader::new(alloc, tokens)?;
         Ok(PageSetter {
-            reader,
+            reader: PageReader::new(alloc, tables, words),
             room: MAX_PLACES,
             held: FirstFault::Nothing,
             lines: PageLines::new(alloc)?,
@@ -150,19 +163,19 @@ impl<'a> PageSetter<'a> {
         alloc: Global,
         fonts: &FontSet,
         width: i64,
-        page: ArenaPage,
+        page: &ArenaPage,
     ) -> Result<Option<PlaceList>, AllocError>
         requires width { IsLineWidth width }
-        requires modest { All HasModestLists page }
-        requires few { page_weight page ≤ 2 ^ 21 }
+        requires modest { All HasModestLists page.now }
+        requires few { page_weight page.now ≤ 2 ^ 21 }
         ensures reader { self.new.reader ≡ self.old.reader }
-        ensures is { IfOk result (λ places. SetsPage fonts.now width page self.old self.new places) }
+        ensures is { IfOk result (λ places. SetsPage fonts.now width page.now self.old self.new places) }
         ensures writable { IfOk result (λ places. IfSome places (λ page. All (IsWritable fonts.now) page)) }
     {
         if self.held.is_setting() {
             return Ok(None);
         }
-        match page_lines(&mut self.lines, alloc, fonts, width, &page) {
+        match page_lines(&mut self.lines, alloc, fonts, width, page) {
             Ok(()) => self.place(alloc),
             Err(Status::OutOfMemory) => Err(AllocError),
             Err(status) => {
@@ -170,6 +183,26 @@ impl<'a> PageSetter<'a> {
                 Ok(None)
             }
         }
+    }
+
+    // Sets a page and finds its places, and gives its memory back to the reader.
+    fn set_and_recycle(
+        &mut self,
+        alloc: Global,
+        fonts: &FontSet,
+        width: i64,
+        page: ArenaPage,
+    ) -> Result<Option<PlaceList>, AllocError>
+        requires width { IsLineWidth width }
+        requires modest { All HasModestLists page }
+        requires few { page_weight page ≤ 2 ^ 21 }
+        ensures reader { pages_view self.new.reader ≡ pages_view self.old.reader }
+        ensures is { IfOk result (λ places. SetsPage fonts.now width page self.old self.new places) }
+        ensures writable { IfOk result (λ places. IfSome places (λ page. All (IsWritable fonts.now) page)) }
+    {
+        let places = self.set(alloc, fonts, width, &page)?;
+        self.reader.recycle(page);
+        Ok(places)
     }
 
     // The formulas of the next page.
@@ -224,7 +257,7 @@ impl<'a> PageSetter<'a> {
         ensures more { IfOk result (λ places. IfSome places (λ page. GoesOnAfter fonts.now self.old self.new page)) }
     {
         while let Some(page) = self.formulas(alloc, fonts)? {
-            if let Some(places) = self.set(alloc, fonts, width, page)? {
+            if let Some(places) = self.set_and_recycle(alloc, fonts, width, page)? {
                 return Ok(Some(places));
             }
         }

@@ -1,6 +1,6 @@
 -- Tokens are a document or it is refused (`document_or_fault`), and not both (`not_both`).
-use Rattle.std.proofs.Common.{◌≡◌, List, refl, inl, inr}
-use Rattle.std.specs.Prelude.{Result, Ok, Err, IsOk, IsErr, ◌⊎◌}
+use Rattle.std.proofs.Common.{List, refl, inl, inr}
+use Rattle.std.specs.Prelude.{Ok, Err, IsOk, IsErr, ◌⊎◌}
 use Rattle.mt_token.specs.declared.token.Token.{Token}
 use Rattle.mt_scaled.specs.declared.unit.Units.{Units}
 use Rattle.mt_plain.specs.CodeTables.{CodeTables}

@@ -6,10 +6,7 @@ use Rattle.std.proofs.lemmas.List.Sums.{sum_by-append, sum_by-cons}
 use Rattle.mt_token.specs.declared.token.Token.{Token}
 use Rattle.mt_scaled.specs.declared.unit.Units.{Units}
 use Rattle.mt_plain.specs.CodeTables.{plain_codes}
-use Rattle.mt_plain.specs.PlainMacros.{plain_table}
 use Rattle.mt_rules.specs.declared.document.Formula.{Formula}
-use Rattle.mt_reader.specs.declared.document_state.DocumentState.{DocumentState as StateFields}
-use Rattle.mt_reader.specs.declared.page_reader.PageReader.{PageReader}
 use Rattle.mt_reader.specs.declared.outside_role.OutsideRole.{OutsideRole}
 use Rattle.mt_reader.specs.declared.outside_role.OutsideRole.TheVariants.{Passed, Defines, SetsMathCode, SetsDelimiterCode, BeginsFormula, EndsPage, EndsDocument, Misplaced}
 use Rattle.mt_macro.specs.declared.expansion.ExpandError.{ExpandError}
@@ -20,8 +17,10 @@ use Rattle.mt_reader.specs.declared.document_error.DocError.TheVariants.{Source,
 use Rattle.mt_reader.specs.Documents.{DocumentState, DocumentFault, DocumentAnswer, DocumentTurn, Goes, Ends, Stops, StopsOutside, start_state, state_pages, with_page, is_empty_page, after_page_end, turn_by, outside_role, turn_answer, pages_from, document}
 use Rattle.mt_reader.specs.Refusals.{IsExpandRefusal, IsNotRead, IsRefusal}
 use Rattle.mt_reader.specs.DocumentTurns.{state_of, ends_page, turn_refusal, IsSpent, IsTaken, TakesPage, state_weight}
-use Rattle.mt_reader.specs.PageReading.{IsNextPage, IsReadOf, IsTurned, read_state}
+use Rattle.mt_reader.specs.ItemReading.{IsNextPage, IsReadOf, IsTurned, read_state}
+use Rattle.mt_reader.specs.Views.{ReaderView, StateView}
 use Rattle.mt_reader.specs.Weights.{page_weight, pages_weight}
+use Rattle.mt_reader.specs.Sources.{plain_words}
 use Rattle.mt_reader.proofs.PagesMoved.{placeholders, same_turn, turn_after}
 
 at_end : (units : Units) (whole turns : ℕ) (s : DocumentState) → pages_from units whole turns s [] ≡ Ok (state_pages s)
@@ -46,16 +45,16 @@ page_some read [] some = absurd (cc)
 page_some read (f ∷ fs) some = refl
 
 -- the state after a page
-state_more : (read : List (List Formula)) (page : List Formula) (old new : StateFields) → IsTaken page old new → after_page_end (read_state read old) ≡ read_state (read ++ page ∷ []) new
+state_more : (read : List (List Formula)) (page : List Formula) (old new : StateView) → IsTaken page old new → after_page_end (read_state read old) ≡ read_state (read ++ page ∷ []) new
 state_more read page old new taken =
     let pages : with_page read old.page ≡ read ++ page ∷ [] = ap (with_page read) (sym taken.is) ∙ page_some read page taken.some in
     rw (pages, taken.empty, taken.codes, taken.macros, taken.count, taken.total) refl
 
-state_none : (read : List (List Formula)) (old new : StateFields) → old.page ≡ [] → new ≡ old → after_page_end (read_state read old) ≡ read_state read new
+state_none : (read : List (List Formula)) (old new : StateView) → old.page ≡ [] → new ≡ old → after_page_end (read_state read old) ≡ read_state read new
 state_none read old new none same = rw same (rw none refl)
 
 -- nothing is read yet
-pub at_start : (units : Units) (tokens : List Token) (r : PageReader) → state_of r.state ≡ start_state plain_codes plain_table → r.rest.now ≡ tokens → r.whole ≡ length tokens → IsReadOf units tokens [] r
+pub at_start : (units : Units) (tokens : List Token) (r : ReaderView) → state_of r.state ≡ start_state plain_codes plain_words → r.rest ≡ tokens → r.whole ≡ length tokens → IsReadOf units tokens [] r
 at_start units tokens r s rest whole = record {
   turns = length tokens;
   enough = omega (arith, ap length rest);
@@ -79,7 +78,7 @@ page_role Misplaced is = absurd (cc)
 
 -- ---- the first token that is left
 
-module _ (units : Units) (tokens after : List Token) (read : List (List Formula)) (old : PageReader) (t : Token) where
+module _ (units : Units) (tokens after : List Token) (read : List (List Formula)) (old : ReaderView) (t : Token) where
   abbrev now : DocumentState
   now = read_state read old.state
 
@@ -89,9 +88,9 @@ module _ (units : Units) (tokens after : List Token) (read : List (List Formula)
   record Turned (turn : DocumentTurn) : Type 0 where
     pub turns : ℕ
     pub enough : length after ≤ turns
-    pub is : document units plain_codes plain_table tokens ≡ turn_answer units (length tokens) (pages_from units (length tokens) turns) turn
+    pub is : document units plain_codes plain_words tokens ≡ turn_answer units (length tokens) (pages_from units (length tokens) turns) turn
 
-  turned_at : (turns : ℕ) → length old.rest.now ≤ turns → document units plain_codes plain_table tokens ≡ pages_from units (length tokens) turns now old.rest.now → old.rest.now ≡ t ∷ after → Turned (turn_by units now after role)
+  turned_at : (turns : ℕ) → length old.rest ≤ turns → document units plain_codes plain_words tokens ≡ pages_from units (length tokens) turns now old.rest → old.rest ≡ t ∷ after → Turned (turn_by units now after role)
   turned_at zero enough is first = absurd (omega (arith, enough, ap length first))
   turned_at (suc n) enough is first = record {
     turns = n;
@@ -100,19 +99,19 @@ module _ (units : Units) (tokens after : List Token) (read : List (List Formula)
   }
 
   -- what becomes of a token that ends no page
-  turned : (turn : DocumentTurn) → IsReadOf units tokens read old → old.rest.now ≡ t ∷ after → ends_page role ≡ false → turn_by units (state_of old.state) after role ≡ turn → Turned (turn_after read turn)
+  turned : (turn : DocumentTurn) → IsReadOf units tokens read old → old.rest ≡ t ∷ after → ends_page role ≡ false → turn_by units (state_of old.state) after role ≡ turn → Turned (turn_after read turn)
   turned turn r first goes_on is =
       subst Turned (same_turn read units (state_of old.state) after role (r.ended ∙ sym (placeholders old.state.ended)) goes_on ∙ ap (turn_after read) is) (turned_at r.turns r.enough r.is first)
 
   -- and of one that ends one
-  page_turned : IsReadOf units tokens read old → old.rest.now ≡ t ∷ after → ends_page role ≡ true → Turned (Goes (after_page_end now) after)
+  page_turned : IsReadOf units tokens read old → old.rest ≡ t ∷ after → ends_page role ≡ true → Turned (Goes (after_page_end now) after)
   page_turned r first ends = subst Turned (ap (turn_by units now after) (page_role role ends)) (turned_at r.turns r.enough r.is first)
 
-  module _ (new : PageReader) where
-    pub read_more : IsReadOf units tokens read old → old.rest.now ≡ t ∷ after → ends_page role ≡ false → new.whole ≡ old.whole
-        → turn_by units (state_of old.state) after role ≡ Goes (state_of new.state) new.rest.now → IsSpent old.state new.state after new.rest.now → IsReadOf units tokens read new
+  module _ (new : ReaderView) where
+    pub read_more : IsReadOf units tokens read old → old.rest ≡ t ∷ after → ends_page role ≡ false → new.whole ≡ old.whole
+        → turn_by units (state_of old.state) after role ≡ Goes (state_of new.state) new.rest → IsSpent old.state new.state after new.rest → IsReadOf units tokens read new
     read_more r first goes_on whole turn spent =
-        let at = turned (Goes (state_of new.state) new.rest.now) r first goes_on turn in
+        let at = turned (Goes (state_of new.state) new.rest) r first goes_on turn in
         record {
           turns = at.turns;
           enough = omega (arith, at.enough, spent.falls);
@@ -122,7 +121,7 @@ module _ (units : Units) (tokens after : List Token) (read : List (List Formula)
           weight = omega (arith, r.weight, ap length first, spent.weight);
         }
 
-    pub read_ended : IsReadOf units tokens read old → old.rest.now ≡ t ∷ after → ends_page role ≡ false → new.whole ≡ old.whole → new.rest.now ≡ []
+    pub read_ended : IsReadOf units tokens read old → old.rest ≡ t ∷ after → ends_page role ≡ false → new.whole ≡ old.whole → new.rest ≡ []
         → turn_by units (state_of old.state) after role ≡ Ends (state_of new.state) → new.state ≡ old.state → IsReadOf units tokens read new
     read_ended r first goes_on whole none turn same =
         let at = turned (Ends (state_of new.state)) r first goes_on turn in
@@ -131,11 +130,11 @@ module _ (units : Units) (tokens after : List Token) (read : List (List Formula)
           enough = omega (arith, ap length none);
           is = at.is ∙ sym (ap (pages_from units (length tokens) 0 (read_state read new.state)) none ∙ at_end units (length tokens) 0 (read_state read new.state));
           whole = whole ∙ r.whole;
-          ended = r.ended ∙ sym (ap (λ (s : StateFields). s.ended) same);
+          ended = r.ended ∙ sym (ap (λ (s : StateView). s.ended) same);
           weight = omega (arith, r.weight, ap length none, ap state_weight same);
         }
 
-    pub read_page : (page : List Formula) → IsReadOf units tokens read old → old.rest.now ≡ t ∷ after → ends_page role ≡ true → new.whole ≡ old.whole → new.rest.now ≡ after
+    pub read_page : (page : List Formula) → IsReadOf units tokens read old → old.rest ≡ t ∷ after → ends_page role ≡ true → new.whole ≡ old.whole → new.rest ≡ after
         → IsTaken page old.state new.state → IsReadOf units tokens (read ++ page ∷ []) new
     read_page page r first ends whole rest taken =
         let at = page_turned r first ends in
@@ -148,7 +147,7 @@ module _ (units : Units) (tokens after : List Token) (read : List (List Formula)
           weight = omega (arith, r.weight, ap length first, ap length rest, weight_more read page, ap page_weight taken.is, ap page_weight taken.empty);
         }
 
-    pub read_no_page : IsReadOf units tokens read old → old.rest.now ≡ t ∷ after → ends_page role ≡ true → new.whole ≡ old.whole → new.rest.now ≡ after
+    pub read_no_page : IsReadOf units tokens read old → old.rest ≡ t ∷ after → ends_page role ≡ true → new.whole ≡ old.whole → new.rest ≡ after
         → old.state.page ≡ [] → new.state ≡ old.state → IsReadOf units tokens read new
     read_no_page r first ends whole rest none same =
         let at = page_turned r first ends in
@@ -157,11 +156,11 @@ module _ (units : Units) (tokens after : List Token) (read : List (List Formula)
           enough = omega (arith, at.enough, ap length rest);
           is = at.is ∙ (ap (λ (s : DocumentState). pages_from units (length tokens) at.turns s after) (state_none read old.state new.state none same) ∙ sym (ap (pages_from units (length tokens) at.turns (read_state read new.state)) rest));
           whole = whole ∙ r.whole;
-          ended = r.ended ∙ sym (ap (λ (s : StateFields). s.ended) same);
+          ended = r.ended ∙ sym (ap (λ (s : StateView). s.ended) same);
           weight = omega (arith, r.weight, ap length first, ap length rest, ap state_weight same);
         }
 
-    pub read_taken : (taken : Option (List Formula)) → IsReadOf units tokens read old → old.rest.now ≡ t ∷ after → ends_page role ≡ true → new.whole ≡ old.whole → new.rest.now ≡ after
+    pub read_taken : (taken : Option (List Formula)) → IsReadOf units tokens read old → old.rest ≡ t ∷ after → ends_page role ≡ true → new.whole ≡ old.whole → new.rest ≡ after
         → TakesPage taken old.state new.state → IsTurned units tokens read new (Ok taken)
     read_taken (Some page) r first ends whole rest takes = read_page page r first ends whole rest takes
     read_taken None r first ends whole rest takes = read_no_page r first ends whole rest takes.0 takes.1
@@ -192,36 +191,36 @@ module _ (units : Units) (tokens after : List Token) (read : List (List Formula)
   refused again turn (Pages count) e = same_refusal again turn _ e
   refused again turn OutOfMemory e = tt
 
-  pub read_refused : (error : DocError) → IsReadOf units tokens read old → old.rest.now ≡ t ∷ after → ends_page role ≡ false → old.whole ≡ length tokens
-      → IsRefusal error (turn_refusal old.whole (turn_by units (state_of old.state) after role)) → IsRefusal error (document units plain_codes plain_table tokens)
+  pub read_refused : (error : DocError) → IsReadOf units tokens read old → old.rest ≡ t ∷ after → ends_page role ≡ false → old.whole ≡ length tokens
+      → IsRefusal error (turn_refusal old.whole (turn_by units (state_of old.state) after role)) → IsRefusal error (document units plain_codes plain_words tokens)
   read_refused error r first goes_on whole is =
       let at = turned (turn_by units (state_of old.state) after role) r first goes_on refl in
       subst (IsRefusal error) (sym at.is) (refused (pages_from units (length tokens) at.turns) (turn_by units (state_of old.state) after role) error (subst (λ (n : ℕ). IsRefusal error (turn_refusal n (turn_by units (state_of old.state) after role))) whole is))
 
 -- ---- no token is left
 
-module _ (units : Units) (tokens : List Token) (read : List (List Formula)) (old : PageReader) where
-  at_last : IsReadOf units tokens read old → old.rest.now ≡ [] → document units plain_codes plain_table tokens ≡ Ok (state_pages (read_state read old.state))
+module _ (units : Units) (tokens : List Token) (read : List (List Formula)) (old : ReaderView) where
+  at_last : IsReadOf units tokens read old → old.rest ≡ [] → document units plain_codes plain_words tokens ≡ Ok (state_pages (read_state read old.state))
   at_last r none = r.is ∙ (ap (pages_from units (length tokens) r.turns (read_state read old.state)) none ∙ at_end units (length tokens) r.turns (read_state read old.state))
 
-  pub last_none : IsReadOf units tokens read old → old.rest.now ≡ [] → old.state.page ≡ [] → document units plain_codes plain_table tokens ≡ Ok read
+  pub last_none : IsReadOf units tokens read old → old.rest ≡ [] → old.state.page ≡ [] → document units plain_codes plain_words tokens ≡ Ok read
   last_none r none empty = at_last r none ∙ ap (λ (page : List Formula). Ok (with_page read page)) empty
 
   -- nothing has changed
-  same_read : (new : PageReader) → IsReadOf units tokens read old → new.whole ≡ old.whole → new.rest.now ≡ old.rest.now → new.state ≡ old.state → IsReadOf units tokens read new
+  same_read : (new : ReaderView) → IsReadOf units tokens read old → new.whole ≡ old.whole → new.rest ≡ old.rest → new.state ≡ old.state → IsReadOf units tokens read new
   same_read new r whole rest state = record {
     turns = r.turns;
     enough = omega (arith, r.enough, ap length rest);
-    is = r.is ∙ sym (ap (pages_from units (length tokens) r.turns (read_state read new.state)) rest ∙ ap (λ (s : StateFields). pages_from units (length tokens) r.turns (read_state read s) old.rest.now) state);
+    is = r.is ∙ sym (ap (pages_from units (length tokens) r.turns (read_state read new.state)) rest ∙ ap (λ (s : StateView). pages_from units (length tokens) r.turns (read_state read s) old.rest) state);
     whole = whole ∙ r.whole;
-    ended = r.ended ∙ sym (ap (λ (s : StateFields). s.ended) state);
+    ended = r.ended ∙ sym (ap (λ (s : StateView). s.ended) state);
     weight = omega (arith, r.weight, ap length rest, ap state_weight state);
   }
 
-  pub last_page : (new : PageReader) (page : List Formula) → IsReadOf units tokens read old → old.rest.now ≡ [] → new.whole ≡ old.whole → new.rest.now ≡ old.rest.now → IsTaken page old.state new.state
+  pub last_page : (new : ReaderView) (page : List Formula) → IsReadOf units tokens read old → old.rest ≡ [] → new.whole ≡ old.whole → new.rest ≡ old.rest → IsTaken page old.state new.state
       → IsReadOf units tokens (read ++ page ∷ []) new
   last_page new page r none whole rest taken =
-      let last : document units plain_codes plain_table tokens ≡ Ok (read ++ page ∷ []) = at_last r none ∙ ap Ok (ap (with_page read) (sym taken.is) ∙ page_some read page taken.some) in
+      let last : document units plain_codes plain_words tokens ≡ Ok (read ++ page ∷ []) = at_last r none ∙ ap Ok (ap (with_page read) (sym taken.is) ∙ page_some read page taken.some) in
       let empty : state_pages (read_state (read ++ page ∷ []) new.state) ≡ read ++ page ∷ [] = ap (with_page (read ++ page ∷ [])) taken.empty in
       record {
         turns = 0;
@@ -232,13 +231,13 @@ module _ (units : Units) (tokens : List Token) (read : List (List Formula)) (old
         weight = omega (arith, r.weight, ap length rest, weight_more read page, ap page_weight taken.is, ap page_weight taken.empty);
       }
 
-  pub last_taken : (new : PageReader) (taken : Option (List Formula)) → IsReadOf units tokens read old → old.rest.now ≡ [] → new.whole ≡ old.whole → new.rest.now ≡ old.rest.now → TakesPage taken old.state new.state
+  pub last_taken : (new : ReaderView) (taken : Option (List Formula)) → IsReadOf units tokens read old → old.rest ≡ [] → new.whole ≡ old.whole → new.rest ≡ old.rest → TakesPage taken old.state new.state
       → IsNextPage units tokens read new (Ok taken)
   last_taken new (Some page) r none whole rest takes = last_page new page r none whole rest takes
   last_taken new None r none whole rest takes = (last_none r none takes.0, same_read new r whole rest takes.1)
 
 -- nothing is read
-pub read_none : (units : Units) (tokens : List Token) (r : PageReader) → state_of r.state ≡ start_state plain_codes plain_table → r.rest.now ≡ tokens → r.whole ≡ length tokens → IsReadOf units tokens [] r
+pub read_none : (units : Units) (tokens : List Token) (r : ReaderView) → state_of r.state ≡ start_state plain_codes plain_words → r.rest ≡ tokens → r.whole ≡ length tokens → IsReadOf units tokens [] r
 read_none units tokens r start rest whole =
     let ended : replicate {A = List Formula} r.state.ended [] ≡ [] = ap (λ (s : DocumentState). s.pages) start in
     let page : r.state.page ≡ [] = ap (λ (s : DocumentState). s.page) start in

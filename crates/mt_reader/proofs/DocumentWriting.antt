@@ -6,10 +6,10 @@ use Rattle.mt_token.specs.Tokens.{source_tokens}
 use Rattle.mt_macro.specs.Table.{Table}
 use Rattle.mt_rules.specs.Sequence.{Element}
 use Rattle.mt_plain.specs.CodeTables.{plain_codes}
-use Rattle.mt_plain.specs.PlainMacros.{plain_table}
 use Rattle.mt_rules.specs.declared.document.Body.TheVariants.{List as ListBody}
 use Rattle.mt_rules.specs.declared.document.Formula.{Formula}
-use Rattle.mt_reader.specs.Documents.{DocumentAnswer, document, document_from, start_state}
+use Rattle.mt_reader.specs.Documents.{DocumentAnswer, document_from, start_state}
+use Rattle.mt_reader.specs.Sources.{plain_words, source_document}
 use Rattle.mt_formula.proofs.Writing.{tokens_of, toy_units, seq}
 
 abbrev pub source : List ℕ → List Token
@@ -17,15 +17,15 @@ source text = tokens_of (source_tokens text)
 
 -- a source as a text
 abbrev pub read : List ℕ → DocumentAnswer
-read text = document toy_units plain_codes plain_table (source text)
+read text = source_document toy_units text
 
 -- after so many pages, with these formulas on the next
 abbrev pub after_pages : ℕ → List Formula → List ℕ → DocumentAnswer
-after_pages pages page text = document_from toy_units (record (start_state plain_codes plain_table) { pages = replicate pages []; page = page; count = 7 }) (source text)
+after_pages pages page text = document_from toy_units (record (start_state plain_codes plain_words) { pages = replicate pages []; page = page; count = 7 }) (source text)
 
 -- after formulas of 999,998 tokens
 abbrev pub after_tokens : List ℕ → DocumentAnswer
-after_tokens text = document_from toy_units (record (start_state plain_codes plain_table) { count = 7; total = 999998 }) (source text)
+after_tokens text = document_from toy_units (record (start_state plain_codes plain_words) { count = 7; total = 999998 }) (source text)
 
 -- names of the user's own: so many, from a number on
 abbrev pub own_names : ℕ → ℕ → Table

@@ -1,11 +1,12 @@
 -- A list without macros has at most as many tokens as a step may leave.
 use Rattle.std.proofs.Common.{◌≡◌, ℕ, zero, suc, ◌+◌, ◌≤◌, Bool, true, false, List, length, refl, arith, ap}
-use Rattle.std.specs.Prelude.{Option, Some, None, Result, Ok, Err, IfOk, nat_lt, if◌then◌else◌}
+use Rattle.std.specs.Prelude.{Option, Some, None, Result, Ok, Err, OnOk, map, nat_lt, if◌then◌else◌}
+use Rattle.std.proofs.lemmas.List.{length-map}
 use Rattle.mt_token.specs.declared.token.Token.{Token}
 use Rattle.mt_macro.specs.Limits.{max_tokens, max_steps}
 use Rattle.mt_macro.specs.Braces.{first_unmatched}
 use Rattle.mt_macro.specs.Table.{Table}
-use Rattle.mt_macro.specs.Expansion.{MacroStep, Done, Missing, Next, macro_step, Expansion, Expanded, OverBudget, ListTooLong, at_last, further, run, unless_unmatched, expansion, Expands}
+use Rattle.mt_macro.specs.Expansion.{MacroStep, Done, Missing, Next, macro_step, Expansion, Expanded, OverBudget, ListTooLong, at_last, further, run, unless_unmatched, expansion, ExpandsTo}
 use Rattle.mt_macro.specs.declared.expansion.ExpandError.{ExpandError}
 
 -- what a list leaves is short, if it is
@@ -44,6 +45,7 @@ expanded_short table list out e =
     given_short (nat_lt max_tokens (length list)) (unless_unmatched (first_unmatched 0 list) (run table max_steps 0 list)) out
     (matched_short (first_unmatched 0 list) (run table max_steps 0 list) out (run_short table 20000 0 list out)) e
 
-pub answer_short : (table : Table) (list : List Token) (answer : Result (List Token) ExpandError) → Expands answer (expansion table list) → IfOk answer (λ out. length out ≤ max_tokens)
-answer_short table list (Ok out) e = expanded_short table list out e
-answer_short table list (Err cause) e = tt
+-- the same where the list is that of items
+pub put_short : {T : Type 0} (token : T → Token) (items : List T) (table : Table) (list : List Token) (result : Result (Unit {0}) ExpandError) → ExpandsTo result (map token items) (expansion table list) → OnOk result (length items ≤ max_tokens)
+put_short token items table list (Ok done) e = omega (arith, length-map items token, expanded_short table list (map token items) e)
+put_short token items table list (Err cause) e = tt

@@ -1,5 +1,5 @@
 -- The bounds within which a reader reads on.
-use Rattle.std.proofs.Common.{◌≡◌, ℕ, ◌+◌, ◌≤◌, ◌^◌, Bool, true, false, List, [], ◌∷◌, length, refl, sym, ap, ◌∙◌, arith, subst}
+use Rattle.std.proofs.Common.{◌≡◌, ℕ, ◌+◌, ◌≤◌, Bool, true, false, List, [], ◌∷◌, length, refl, sym, ap, ◌∙◌, arith, subst}
 use Rattle.std.specs.Prelude.{All, Option, Some, None, Ok, replicate}
 use Rattle.std.proofs.lemmas.List.{length-append}
 use Rattle.std.proofs.lemmas.List.Elements.{All-nil}
@@ -7,16 +7,15 @@ use Rattle.std.proofs.lemmas.List.Sums.{sum_by-cons}
 use Rattle.mt_token.specs.Tokens.{max_source}
 use Rattle.mt_token.specs.declared.token.Token.{Token}
 use Rattle.mt_scaled.specs.declared.unit.Units.{Units}
-use Rattle.mt_plain.specs.CodeTables.{plain_codes}
-use Rattle.mt_plain.specs.PlainMacros.{plain_table}
+use Rattle.mt_plain.specs.CodeTables.{CodeTables}
+use Rattle.mt_macro.specs.Table.{Table}
 use Rattle.mt_rules.specs.declared.document.Formula.{Formula}
-use Rattle.mt_reader.specs.declared.document_state.DocumentState.{DocumentState as StateFields}
 use Rattle.mt_reader.specs.declared.outside_role.OutsideRole.{OutsideRole}
-use Rattle.mt_reader.specs.declared.page_reader.PageReader.{PageReader}
 use Rattle.mt_reader.specs.Documents.{DocumentState, Goes, start_state, state_pages, with_page, is_empty_page, turn_by}
 use Rattle.mt_reader.specs.DocumentTurns.{state_of, IsSpent, IsTaken, TakesPage, state_weight}
 use Rattle.mt_reader.specs.Limits.{max_document_pages}
-use Rattle.mt_reader.specs.PageReading.{CanGoOn, GoesOn, IsBounded, IsOver}
+use Rattle.mt_reader.specs.ItemReading.{CanGoOn, GoesOn, IsBounded, IsOver}
+use Rattle.mt_reader.specs.Views.{ReaderView, StateView}
 use Rattle.mt_reader.specs.Weights.{HasModestLists, dollars, formula_weight, page_weight}
 use Rattle.mt_reader.proofs.DocumentFormulas.{OfTurn, turn_modest}
 use Rattle.mt_reader.proofs.Pages.{TurnFits, turn_by_fits}
@@ -38,7 +37,7 @@ pages_none : (n : ℕ) → length (with_page (replicate n []) []) ≡ n
 pages_none n = placeholders n
 
 -- a page was taken
-pub go_page : (old new : PageReader) (page : List Formula) → CanGoOn old → new.whole ≡ old.whole → length new.rest.now ≤ length old.rest.now → IsTaken page old.state new.state → IsBounded old new page
+pub go_page : (old new : ReaderView) (page : List Formula) → CanGoOn old → new.whole ≡ old.whole → length new.rest ≤ length old.rest → IsTaken page old.state new.state → IsBounded old new page
 go_page old new page can whole shorter taken =
     let some : 1 ≤ page_weight page = page_weighs page taken.some in
     let weight : page_weight page ≡ page_weight old.state.page = ap page_weight taken.is in
@@ -61,29 +60,29 @@ go_page old new page can whole shorter taken =
     }
 
 -- the state is as it was
-pub go_same : (old new : PageReader) → CanGoOn old → new.whole ≡ old.whole → length new.rest.now ≤ length old.rest.now → new.state ≡ old.state → IsOver old new
+pub go_same : (old new : ReaderView) → CanGoOn old → new.whole ≡ old.whole → length new.rest ≤ length old.rest → new.state ≡ old.state → IsOver old new
 go_same old new can whole shorter same = record {
   falls = omega (arith, ap state_weight same, shorter);
-  ended = ap (λ (s : StateFields). s.ended) same;
+  ended = ap (λ (s : StateView). s.ended) same;
   more = record {
     whole = omega (arith, whole, can.whole);
     left = omega (arith, whole, can.left, ap state_weight same, shorter);
-    count = omega (arith, whole, ap (λ (s : StateFields). s.count) same, can.count, shorter);
-    total = omega (arith, ap (λ (s : StateFields). s.total) same, can.total);
-    pages = subst (λ (s : StateFields). length (state_pages (state_of s)) ≤ max_document_pages) (sym same) can.pages;
-    modest = subst (λ (s : StateFields). All HasModestLists s.page) (sym same) can.modest;
+    count = omega (arith, whole, ap (λ (s : StateView). s.count) same, can.count, shorter);
+    total = omega (arith, ap (λ (s : StateView). s.total) same, can.total);
+    pages = subst (λ (s : StateView). length (state_pages (state_of s)) ≤ max_document_pages) (sym same) can.pages;
+    modest = subst (λ (s : StateView). All HasModestLists s.page) (sym same) can.modest;
   };
 }
 
 -- after the turn of a token
-pub go_more : (units : Units) (old new : PageReader) (t : Token) (after : List Token) (role : OutsideRole) → CanGoOn old → new.whole ≡ old.whole → old.rest.now ≡ t ∷ after
-    → turn_by units (state_of old.state) after role ≡ Goes (state_of new.state) new.rest.now → IsSpent old.state new.state after new.rest.now → IsOver old new
+pub go_more : (units : Units) (old new : ReaderView) (t : Token) (after : List Token) (role : OutsideRole) → CanGoOn old → new.whole ≡ old.whole → old.rest ≡ t ∷ after
+    → turn_by units (state_of old.state) after role ≡ Goes (state_of new.state) new.rest → IsSpent old.state new.state after new.rest → IsOver old new
 go_more units old new t after role can whole first turn spent =
-    let shorter : length old.rest.now ≡ length after + 1 = omega (arith, ap length first) in
+    let shorter : length old.rest ≡ length after + 1 = omega (arith, ap length first) in
     let modest : OfTurn HasModestLists units (turn_by units (state_of old.state) after role) =
     turn_modest units (state_of old.state) after role (record { pages = placeholders_hold HasModestLists old.state.ended; page = can.modest }) in
-    let now : OfTurn HasModestLists units (Goes (state_of new.state) new.rest.now) = subst (OfTurn HasModestLists units) turn modest in
-    let fits : TurnFits (Goes (state_of new.state) new.rest.now) = subst TurnFits turn (turn_by_fits units (state_of old.state) after role can.pages) in
+    let now : OfTurn HasModestLists units (Goes (state_of new.state) new.rest) = subst (OfTurn HasModestLists units) turn modest in
+    let fits : TurnFits (Goes (state_of new.state) new.rest) = subst TurnFits turn (turn_by_fits units (state_of old.state) after role can.pages) in
     record {
       falls = omega (arith, shorter, spent.weight);
       ended = spent.ended;
@@ -98,13 +97,13 @@ go_more units old new t after role can whole first turn spent =
     }
 
 -- one after another
-pub over_start : (r : PageReader) → CanGoOn r → IsOver r r
+pub over_start : (r : ReaderView) → CanGoOn r → IsOver r r
 over_start r can = record { falls = omega arith; ended = refl; more = can }
 
-pub over_then : (old mid new : PageReader) → IsOver old mid → IsOver mid new → IsOver old new
+pub over_then : (old mid new : ReaderView) → IsOver old mid → IsOver mid new → IsOver old new
 over_then old mid new one two = record { falls = omega (arith, one.falls, two.falls); ended = two.ended ∙ one.ended; more = two.more }
 
-pub over_page : (old mid new : PageReader) (page : List Formula) → IsOver old mid → IsBounded mid new page → IsBounded old new page
+pub over_page : (old mid new : ReaderView) (page : List Formula) → IsOver old mid → IsBounded mid new page → IsBounded old new page
 over_page old mid new page one two = record {
   modest = two.modest;
   few = two.few;
@@ -114,13 +113,13 @@ over_page old mid new page one two = record {
   more = two.more;
 }
 
-pub go_taken : (first old new : PageReader) (taken : Option (List Formula)) → IsOver first old → new.whole ≡ old.whole → length new.rest.now ≤ length old.rest.now → TakesPage taken old.state new.state → GoesOn first new (Ok taken)
+pub go_taken : (first old new : ReaderView) (taken : Option (List Formula)) → IsOver first old → new.whole ≡ old.whole → length new.rest ≤ length old.rest → TakesPage taken old.state new.state → GoesOn first new (Ok taken)
 go_taken first old new (Some page) over whole shorter takes = over_page first old new page over (go_page old new page over.more whole shorter takes)
 go_taken first old new None over whole shorter takes = over_then first old new over (go_same old new over.more whole shorter takes.1)
 
 -- nothing is read
-pub go_start : (r : PageReader) → state_of r.state ≡ start_state plain_codes plain_table → r.whole ≡ length r.rest.now → r.whole ≤ max_source → CanGoOn r
-go_start r start whole few =
+pub go_start : (r : ReaderView) (codes : CodeTables) (macros : Table) → state_of r.state ≡ start_state codes macros → r.whole ≡ length r.rest → r.whole ≤ max_source → CanGoOn r
+go_start r codes macros start whole few =
     let page : r.state.page ≡ [] = ap (λ (s : DocumentState). s.page) start in
     record {
       whole = few;

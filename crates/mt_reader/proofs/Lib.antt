@@ -8,6 +8,8 @@ mod Expanding
 mod PagesMoved
 -- what becomes of what was read, turn by turn
 mod DocumentLoop
+-- what becomes of a formula
+mod Turning
 -- the bounds within which a reader reads on
 mod Going
 -- what holds of each formula of a document

@@ -1,55 +1,67 @@
--- The tokens of a source are those that its document is defined by.
-use Rattle.std.proofs.Common.{◌≡◌, ℕ, ◌+◌, ◌<◌, ◌≤◌, List, [], ◌∷◌, length, map, Ok, refl, sym, ap, ◌∙◌, arith}
-use Rattle.std.specs.Prelude.{Bool, true, false, nat_lt, Result, Err, ◌↔◌}
+-- The words of a source are those that its document is defined by.
+use Rattle.std.proofs.Common.{◌≡◌, ℕ, ◌<◌, ◌≤◌, List, [], ◌∷◌, length, map, Ok, refl, sym, ap, ◌∙◌, arith, true≢false}
+use Rattle.std.specs.Prelude.{Bool, true, false, nat_lt, Err, if◌then◌else◌}
 use Rattle.std.proofs.Math.Nat.{mod-eq_of_lt}
-use Rattle.mt_token.specs.declared.token.Token.{Token}
+use Rattle.std.proofs.lemmas.Bool.Decides.{nat_tests}
+use Rattle.std.proofs.lemmas.List.{append-nil}
 use Rattle.mt_token.specs.declared.token.TokenKind.{TokenKind}
 use Rattle.mt_token.specs.declared.token.TokenKind.TheVariants.{Control, Char, Space}
 use Rattle.mt_token.specs.declared.token.TokenError.{TokenError}
-use Rattle.mt_token.specs.declared.token.TokenError.TheVariants.{TooLong}
+use Rattle.mt_token.specs.declared.token.TokenError.TheVariants.{NotAscii, BadByte, TooLong, OutOfMemory}
+use Rattle.mt_token.specs.declared.lexeme.State.TheVariants.{New}
 use Rattle.mt_token.specs.Character.{character_code}
-use Rattle.mt_token.specs.Tokens.{spanned, source_tokens, SpansInOrder, max_source}
+use Rattle.mt_token.specs.Tokens.{Spanned, Answer, lex, source_tokens, max_source}
 use Rattle.mt_token.proofs.Same.{same_token}
-use Rattle.mt_plain.specs.PlainMacros.{token_of, ascii_kind}
+use Rattle.mt_lexicon.specs.declared.word.Word.{Word}
+use Rattle.mt_lexicon.specs.Meaning.{NameTable, ascii_of, kind_of, token_of as read_as}
+use Rattle.mt_lexicon.specs.Reading.{AreWordsOf, IsFault}
+use Rattle.mt_tables.specs.Reading.{AddsWords}
+use Rattle.mt_plain.specs.PlainMacros.{ascii_kind}
 use Rattle.mt_scaled.specs.declared.unit.Units.{Units}
 use Rattle.mt_plain.specs.CodeTables.{plain_codes}
-use Rattle.mt_plain.specs.PlainMacros.{plain_table}
-use Rattle.mt_reader.specs.Documents.{document}
-use Rattle.mt_reader.specs.Sources.{document_by, source_document}
+use Rattle.mt_reader.specs.Documents.{NotLexed, document}
+use Rattle.mt_reader.specs.Sources.{document_by, plain_words, source_document, word_token}
 
 ascii_same : (kind : TokenKind) → character_code kind < 128 → ascii_kind kind ≡ kind
 ascii_same (Control name) below = refl
 ascii_same (Char c) below = ap Char (mod-eq_of_lt below)
 ascii_same Space below = refl
 
-tokens_same : (list : List Token) → map token_of (map spanned list) ≡ list
-tokens_same [] = refl
-tokens_same (t ∷ ts) =
-    let kind : ascii_kind t.kind ≡ t.kind = ascii_same t.kind t.ascii in
-    let head : token_of (spanned t) ≡ t = same_token (token_of (spanned t)) t (ap (λ k. record { kind = k; start = t.start; end = t.end }) kind) in
-    ap (λ x. x ∷ map token_of (map spanned ts)) head ∙ ap (λ xs. t ∷ xs) (tokens_same ts)
+word_same : (names : NameTable) (w : Word) (t : Spanned) → t.kind ≡ kind_of names w.kind → read_as names w ≡ word_token t
+word_same names w t e =
+    let kind : kind_of names w.kind ≡ ascii_kind t.kind = sym (ascii_same (kind_of names w.kind) (ascii_of names w.kind w.ascii)) ∙ ap ascii_kind (sym e) in
+    same_token (read_as names w) (word_token t) (ap (λ (k : TokenKind). let s : Spanned = record { kind = k; start = 0; end = 0 } in s) kind)
 
-pub document_same : (units : Units) (bytes : List ℕ) (list lent : List Token) → source_tokens bytes ≡ Ok (map spanned list) → lent ≡ list → source_document units bytes ≡ document units plain_codes plain_table lent
-document_same units bytes list lent e same = ap (document_by units) e ∙ ap (document units plain_codes plain_table) (tokens_same list ∙ sym same)
+words_same : (names : NameTable) (words : List Word) (list : List Spanned) → AreWordsOf names words list → map (read_as names) words ≡ map word_token list
+words_same names [] [] h = refl
+words_same names [] (t ∷ ts) h = absurd h
+words_same names (w ∷ ws) [] h = absurd h
+words_same names (w ∷ ws) (t ∷ ts) h = ap (λ x. x ∷ map (read_as names) ws) (word_same names w t h.0.0) ∙ ap (λ xs. word_token t ∷ xs) (words_same names ws ts h.1)
 
-spans_few : (from to : ℕ) (list : List Token) → SpansInOrder from list to → from + length list ≤ to
-spans_few from to [] s = omega (arith, s)
-spans_few from to (t ∷ ts) s =
-    let rest : t.end + length ts ≤ to = spans_few t.end to ts s.2 in
-    omega (arith, s.0, s.1, rest)
+-- the document of a source is that of its words
+pub words_document : (units : Units) (bytes : List ℕ) (names : NameTable) (words : List Word) → AddsWords names [] (source_tokens bytes) words (Ok []) → source_document units bytes ≡ document units plain_codes plain_words (map (read_as names) words)
+words_document units bytes names words h =
+    ap (document_by units) h.4 ∙ ap (document units plain_codes plain_words) (ap (map word_token) (append-nil h.1) ∙ (sym (words_same names h.0 h.1 h.3) ∙ ap (map (read_as names)) (sym h.2)))
 
-below_or_over : (b : Bool) (n : ℕ) → nat_lt max_source n ≡ b → (max_source < n → ⊥) → n ≤ max_source
-below_or_over true n e never = absurd (never (grind arith))
-below_or_over false n e never = grind arith
+tested_lex : (b : Bool) (lexed : Answer) → b ≡ false → (if b then Err TooLong else lexed) ≡ lexed
+tested_lex true lexed e = absurd (true≢false e)
+tested_lex false lexed e = refl
 
-abbrev the_result : Result (List Token) TokenError → Result (List Token) TokenError
-the_result r = r
+-- a source that is not too long is lexed
+pub lexed : (bytes : List ℕ) → length bytes ≤ max_source → source_tokens bytes ≡ lex New 0 0 bytes
+lexed bytes h = tested_lex (nat_lt max_source (length bytes)) (lex New 0 0 bytes) (grind (arith, nat_tests))
 
-never_long : (list : List Token) → ¬ (the_result (Ok list) ≡ Err TooLong)
-never_long list e = cc
+tested_long : (b : Bool) (lexed : Answer) → b ≡ true → (if b then Err TooLong else lexed) ≡ Err TooLong
+tested_long true lexed e = refl
+tested_long false lexed e = absurd (true≢false (sym e))
 
-pub few_tokens : (list : List Token) (n : ℕ) → ((the_result (Ok list) ≡ Err TooLong) ↔ (max_source < n)) → SpansInOrder 0 list n → length list ≤ max_source
-few_tokens list n long ordered =
-    let few : 0 + length list ≤ n = spans_few 0 n list ordered in
-    let bound : n ≤ max_source = below_or_over (nat_lt max_source n) n refl (λ over. never_long list (long.1 over)) in
-    omega (arith, few, bound)
+-- a source that is too long is refused
+pub too_long : (units : Units) (bytes : List ℕ) → max_source < length bytes → source_document units bytes ≡ Err (NotLexed TooLong)
+too_long units bytes h = ap (document_by units) (tested_long (nat_lt max_source (length bytes)) (lex New 0 0 bytes) (grind (arith, nat_tests)))
+
+-- the first fault of a source refuses its document
+pub fault_refuses : (units : Units) (bytes : List ℕ) (e : TokenError) → (e ≡ OutOfMemory → ⊥) → IsFault e (source_tokens bytes) (source_tokens bytes) → source_document units bytes ≡ Err (NotLexed e)
+fault_refuses units bytes OutOfMemory never f = absurd (never refl)
+fault_refuses units bytes TooLong never f = absurd f
+fault_refuses units bytes (NotAscii n) never f = ap (document_by units) f.0
+fault_refuses units bytes (BadByte n) never f = ap (document_by units) f.0

@@ -1,5 +1,5 @@
 -- What a turn of a document leaves.
-use Rattle.std.specs.Prelude.{◌≡◌, ℕ, ◌+◌, ◌-◌, ◌*◌, ◌≤◌, Bool, true, false, List, [], length, replicate, Option, Some, None, Result, Ok, Err, ⊤}
+use Rattle.std.specs.Prelude.{◌≡◌, ℕ, ◌+◌, ◌-◌, ◌*◌, ◌≤◌, Bool, true, false, List, [], length, map, replicate, Option, Some, None, Result, Ok, Err, ⊤}
 use Rattle.std.specs.Borrow.{Bor}
 use Rattle.mt_token.specs.declared.token.Token.{Token}
 use Rattle.mt_macro.specs.Table.{Table}
@@ -20,15 +20,15 @@ use Rattle.mt_reader.specs.declared.document_turn.AfterTurn.{AfterTurn}
 use Rattle.mt_reader.specs.declared.document_turn.AfterTurn.TheVariants.{Left, Ended}
 use Rattle.mt_reader.specs.declared.document_error.DocError.{DocError}
 use Rattle.mt_reader.specs.declared.document_error.DocError.TheVariants.{Expand, Read as NotReadError, OutOfMemory}
-use Rattle.mt_reader.specs.declared.document_state.DocumentState.{DocumentState as StateFields}
 use Rattle.mt_reader.specs.Documents.{DocumentState, DocumentAnswer, DocumentTurn, Goes, Ends, Stops, StopsOutside, Outside, is_empty_page, with_formula}
 use Rattle.mt_reader.specs.Refusals.{IsRefusal}
 use Rattle.mt_reader.specs.Lent.{Assigns}
+use Rattle.mt_reader.specs.Views.{StateView}
 use Rattle.mt_reader.specs.Weights.{dollars, page_weight}
 use Rattle.mt_reader.specs.Limits.{max_total_tokens}
 
 -- what has been read; of the pages that are ended only their number is kept, and each counts as one without formulas
-abbrev pub state_of : StateFields → DocumentState
+abbrev pub state_of : StateView → DocumentState
 state_of s = record {
   tables = s.codes;
   macros = s.macros;
@@ -43,7 +43,7 @@ ends_page EndsPage = true
 ends_page role = false
 
 -- a page that is ended
-pub record IsTaken (page : List Formula) (old new : StateFields) : Type 0 where
+pub record IsTaken (page : List Formula) (old new : StateView) : Type 0 where
   pub is : page ≡ old.page
   pub some : is_empty_page page ≡ false
   pub empty : new.page ≡ []
@@ -54,7 +54,7 @@ pub record IsTaken (page : List Formula) (old new : StateFields) : Type 0 where
   pub total : new.total ≡ old.total
 
 -- the page that was handed out, or that there was none
-abbrev pub TakesPage : Option (List Formula) → StateFields → StateFields → Type 0
+abbrev pub TakesPage : Option (List Formula) → StateView → StateView → Type 0
 TakesPage (Some page) old new = IsTaken page old new
 TakesPage None old new = (old.page ≡ []) × (new ≡ old)
 
@@ -71,9 +71,9 @@ abbrev pub changes_tables : DocumentState → CodeTables → DocumentState
 changes_tables s tables = record s { tables = tables }
 
 -- the new state and the tokens after the assignment are what is read, and nothing but the codes changes
-abbrev pub SetsTables : Result (Bor (List Token)) FaultFields → DocumentState → DocumentState
+abbrev pub SetsTables : {T : Type 0} → (T → Token) → Result (Bor (List T)) FaultFields → DocumentState → DocumentState
     → Read CodeTables → Type 0
-SetsTables result old new read = Assigns result new.tables read × (new ≡ changes_tables old new.tables)
+SetsTables token result old new read = Assigns token result new.tables read × (new ≡ changes_tables old new.tables)
 
 -- the refusal of a turn, where a source has so many tokens
 abbrev pub turn_refusal : ℕ → DocumentTurn → DocumentAnswer
@@ -83,10 +83,10 @@ turn_refusal whole (Stops refusal) = Err refusal
 turn_refusal whole (StopsOutside n cause left) = Err (Outside n cause (whole - left))
 
 -- the result and the new state are those of this turn
-abbrev pub MeetsTurn : Result AfterTurn DocError → StateFields → ℕ → DocumentTurn → Type 0
-MeetsTurn (Ok (Left rest)) new whole turn = turn ≡ Goes (state_of new) rest.now
-MeetsTurn (Ok Ended) new whole turn = turn ≡ Ends (state_of new)
-MeetsTurn (Err e) new whole turn = IsRefusal e (turn_refusal whole turn)
+abbrev pub MeetsTurn : {T : Type 0} → (T → Token) → Result (AfterTurn T) DocError → StateView → ℕ → DocumentTurn → Type 0
+MeetsTurn token (Ok (Left rest)) new whole turn = turn ≡ Goes (state_of new) (map token rest.now)
+MeetsTurn token (Ok Ended) new whole turn = turn ≡ Ends (state_of new)
+MeetsTurn token (Err e) new whole turn = IsRefusal e (turn_refusal whole turn)
 
 -- why formula n is not expanded; that memory ran out is no cause of its own
 abbrev pub expand_error : ℕ → ExpandError → DocError
@@ -98,11 +98,11 @@ read_error n NoMemoryToRead = OutOfMemory
 read_error n cause = NotReadError n cause
 
 -- the formulas of the page, each display counted twice
-abbrev pub state_weight : StateFields → ℕ
+abbrev pub state_weight : StateView → ℕ
 state_weight s = page_weight s.page
 
 -- one more formula at most, which has at least two tokens, four in a display
-pub record IsSpent (old new : StateFields) (tokens rest : List Token) : Type 0 where
+pub record IsSpent (old new : StateView) (tokens rest : List Token) : Type 0 where
   pub ended : new.ended ≡ old.ended
   pub falls : length rest ≤ length tokens
   pub count : new.count ≤ old.count + 1
@@ -110,20 +110,20 @@ pub record IsSpent (old new : StateFields) (tokens rest : List Token) : Type 0 w
   pub weight : 2 * state_weight new + length rest ≤ 2 * state_weight old + length tokens + 1
 
 -- one more formula, and these tokens after it
-pub record IsReadOne (old new : StateFields) (display : Bool) (tokens left : List Token) : Type 0 where
+pub record IsReadOne (old new : StateView) (display : Bool) (tokens left : List Token) : Type 0 where
   pub rest : left ≡ tokens
   pub ended : new.ended ≡ old.ended
   pub count : new.count ≡ old.count + 1
   pub total : new.total ≤ max_total_tokens
   pub weight : state_weight new ≡ state_weight old + dollars display
 
-abbrev pub ReadsOne : Result AfterTurn DocError → StateFields → StateFields → Bool → List Token → Type 0
-ReadsOne (Ok (Left rest)) old new display tokens = IsReadOne old new display tokens rest.now
-ReadsOne (Ok Ended) old new display tokens = ⊥
-ReadsOne (Err e) old new display tokens = ⊤
+abbrev pub ReadsOne : {T : Type 0} → (T → Token) → Result (AfterTurn T) DocError → StateView → StateView → Bool → List Token → Type 0
+ReadsOne token (Ok (Left rest)) old new display tokens = IsReadOne old new display tokens (map token rest.now)
+ReadsOne token (Ok Ended) old new display tokens = ⊥
+ReadsOne token (Err e) old new display tokens = ⊤
 
 -- what a turn takes for what it reads, of its first token and these
-abbrev pub Spends : Result AfterTurn DocError → StateFields → StateFields → List Token → Type 0
-Spends (Ok (Left rest)) old new tokens = IsSpent old new tokens rest.now
-Spends (Ok Ended) old new tokens = new ≡ old
-Spends (Err e) old new tokens = ⊤
+abbrev pub Spends : {T : Type 0} → (T → Token) → Result (AfterTurn T) DocError → StateView → StateView → List Token → Type 0
+Spends token (Ok (Left rest)) old new tokens = IsSpent old new tokens (map token rest.now)
+Spends token (Ok Ended) old new tokens = new ≡ old
+Spends token (Err e) old new tokens = ⊤

@@ -18,11 +18,16 @@ pub mod Refusals
 pub mod Weights
 -- where the numbers of its formulas are
 pub mod Tags
--- tokens that are lent
+-- the names of control sequences
+pub mod Naming
+-- items that are lent
 pub mod Lent
 -- what a turn leaves
 pub mod DocumentTurns
--- documents that are read page by page
+-- what contracts see of what has been read
+pub mod Views
+-- documents that are read page by page, from items of any kind and from words
+pub mod ItemReading
 pub mod PageReading
 -- what counts no turns is read or at fault
 pub mod Answered

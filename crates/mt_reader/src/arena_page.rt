@@ -6,11 +6,11 @@ ghost use Rattle.mt_reader.specs.ArenaPages.{AddsFormula, KeptFormula, page_form
 ghost use Rattle.mt_reader.specs.Documents.{is_empty_page};
 
 use mt_arena::{Arena, SpanFormula, formula_of};
-use mt_formula::{ReadError, read_spans};
-use mt_plain::Codes;
+use mt_formula::ReadError;
+use mt_formula::items::read_spans;
 use mt_rules::{Formula, Page};
 use mt_scaled::{Items, Units};
-use mt_token::Token;
+use mt_scan::Roles;
 use std::alloc::{AllocError, Global};
 use std::marker::Model;
 
@@ -100,6 +100,14 @@ impl ArenaPage {
         }
     }
 
+    /// Takes out all formulas. The memory is kept for those that are read later.
+    pub fn clear(&mut self)
+        ensures { self.new ≡ [] }
+    {
+        self.arena.clear();
+        self.formulas.clear();
+    }
+
     /// Whether there are no formulas.
     pub fn is_empty(&self) -> bool
         ensures { result ≡ is_empty_page self.now }
@@ -112,21 +120,21 @@ impl ArenaPage {
     /// # Errors
     ///
     /// Those of [`read_spans`]. What formulas there are after an error is not said.
-    pub fn read(
+    pub fn read<T, R: Roles<T>>(
         &mut self,
-        codes: &Codes,
+        roles: &R,
         units: Units,
         number: u32,
         display: bool,
-        tokens: &[Token],
+        tokens: &[T],
     ) -> Result<(), ReadError>
         requires length { length tokens.now ≤ 2 ^ 31 }
         requires em { Within (2 ^ 31) units.em }
         requires ex { Within (2 ^ 31) units.ex }
         ensures { AddsFormula result self.old self.new number display
-            (reading codes.now units display tokens.now) }
+            (reading (R.codes roles.now) units display (map (R.token roles.now) tokens.now)) }
     {
-        match read_spans(&mut self.arena, codes, units, display, tokens) {
+        match read_spans(&mut self.arena, roles, units, display, tokens) {
             Ok(spans) => {
                 let formula = PageFormula {
                     number,

@@ -1,5 +1,5 @@
 //! What becomes of a token outside of formulas, and of those after it.
-ghost use Rattle.std.specs.Prelude.{◌≡◌, ℕ, ◌≤◌, ◌<◌, ◌+◌, ◌-◌, ◌^◌, false, length};
+ghost use Rattle.std.specs.Prelude.{◌≡◌, ℕ, ◌≤◌, ◌<◌, ◌+◌, ◌-◌, ◌^◌, false, length, map};
 ghost use Rattle.mt_scaled.specs.Number.{Within};
 ghost use Rattle.mt_reader.specs.Answered.{definition_answered, math_code_answered, delcode_answered};
 ghost use Rattle.mt_reader.specs.Definitions.{macro_definition};
@@ -11,19 +11,20 @@ ghost use Rattle.mt_formula.specs.Formulas.{reading};
 ghost use Rattle.mt_reader.specs.DocumentTurns.{state_of, MeetsTurn, Spends, ReadsOne};
 ghost use Rattle.mt_reader.specs.DocumentTurns.{ends_page, expand_error, read_error};
 ghost use Rattle.mt_reader.specs.Limits.{max_total_tokens};
+ghost use Rattle.mt_reader.specs.Views.{state_view};
 ghost use Rattle.mt_macro.specs.Limits.{max_tokens};
 
 use crate::definitions::macro_definition;
 use crate::document_error::DocError;
 use crate::document_state::{DocumentState, MAX_DOCUMENT_PAGES};
+use crate::document_tables::DocumentTables;
 use crate::dollars::{Taken, begins_display, between_dollars};
+use crate::expanded_items::ExpandedItems;
 use crate::outside_cause::OutsideCause;
 use crate::outside_role::OutsideRole;
 use mt_formula::ReadError;
 use mt_macro::{ExpandError, MacroError};
 use mt_scaled::Units;
-use mt_token::Token;
-use std::alloc::Global;
 
 /// The greatest number of tokens of all formulas after expansion.
 const MAX_TOTAL_TOKENS: u64 = 1_000_000;
@@ -33,15 +34,15 @@ const PAGE_TOO_MANY: u32 = MAX_DOCUMENT_PAGES + 1;
 
 /// What is left after a turn.
 #[derive(Clone, Copy)]
-pub enum AfterTurn<'a> {
-    /// These tokens.
-    Left(&'a [Token]),
+pub enum AfterTurn<'a, T> {
+    /// These items.
+    Left(&'a [T]),
     /// Nothing, where the document ends.
     Ended,
 }
 
 // A fault outside of formulas, where so many of the source's tokens are left.
-fn outside(state: &DocumentState, whole: usize, cause: OutsideCause, left: usize) -> DocError
+fn outside<K>(state: &DocumentState<K>, whole: usize, cause: OutsideCause, left: usize) -> DocError
     requires count { state.now.count < 2 ^ 32 - 1 }
     requires whole { whole < 2 ^ 32 }
     ensures { result ≡ DocError.Outside (state.now.count + 1) (whole - left) cause }
@@ -54,11 +55,11 @@ fn outside(state: &DocumentState, whole: usize, cause: OutsideCause, left: usize
 }
 
 // A fault at the token before these, which are the last of the source.
-fn outside_before(
-    state: &DocumentState,
+fn outside_before<T, K>(
+    state: &DocumentState<K>,
     whole: usize,
     cause: OutsideCause,
-    after: &[Token],
+    after: &[T],
 ) -> DocError
     requires count { state.now.count < 2 ^ 32 - 1 }
     requires whole { whole < 2 ^ 32 }
@@ -69,21 +70,24 @@ fn outside_before(
 }
 
 // What becomes of `\def` and the tokens after it.
-fn definition_turn<'a>(
-    state: &mut DocumentState,
+fn definition_turn<'a, T, K: DocumentTables<T>>(
+    state: &mut DocumentState<K>,
     whole: usize,
-    tokens: &'a [Token],
-) -> Result<AfterTurn<'a>, DocError>
+    tokens: &'a [T],
+) -> Result<AfterTurn<'a, T>, DocError>
     requires count { state.old.count < 2 ^ 32 - 1 }
     requires total { state.old.total ≤ max_total_tokens }
     requires whole { whole < 2 ^ 32 }
     requires tokens { length tokens.now < whole }
-    ensures is { MeetsTurn result state.new whole
-        (after_definition (state_of state.old) (length tokens.now + 1)
-        (macro_definition tokens.now) (definition_answered tokens.now)) }
-    ensures spends { Spends result state.old state.new tokens.now }
+    ensures is { MeetsTurn (K.token state.new.tables) result
+        (state_view K.codes K.macros state.new) whole
+        (after_definition (state_of (state_view K.codes K.macros state.old)) (length tokens.now + 1)
+        (macro_definition (map (K.token state.old.tables) tokens.now))
+        (definition_answered (map (K.token state.old.tables) tokens.now))) }
+    ensures spends { Spends (K.token state.new.tables) result (state_view K.codes K.macros state.old)
+        (state_view K.codes K.macros state.new) (map (K.token state.old.tables) tokens.now) }
 {
-    match macro_definition(tokens) {
+    match macro_definition(state.tables(), tokens) {
         Ok(part) => match state.define(&part.value) {
             Ok(()) => Ok(AfterTurn::Left(part.rest)),
             Err(MacroError::OutOfMemory) => Err(DocError::OutOfMemory),
@@ -94,18 +98,22 @@ fn definition_turn<'a>(
 }
 
 // What becomes of `\mathcode` and the tokens after it.
-fn math_code_turn<'a>(
-    state: &mut DocumentState,
+fn math_code_turn<'a, T, K: DocumentTables<T>>(
+    state: &mut DocumentState<K>,
     whole: usize,
-    tokens: &'a [Token],
-) -> Result<AfterTurn<'a>, DocError>
+    tokens: &'a [T],
+) -> Result<AfterTurn<'a, T>, DocError>
     requires count { state.old.count < 2 ^ 32 - 1 }
     requires total { state.old.total ≤ max_total_tokens }
     requires whole { whole < 2 ^ 32 }
     requires tokens { length tokens.now < whole }
-    ensures is { MeetsTurn result state.new whole (after_assignment (state_of state.old) (length tokens.now + 1)
-        (math_code_assignment state.old.codes tokens.now) (math_code_answered state.old.codes tokens.now)) }
-    ensures spends { Spends result state.old state.new tokens.now }
+    ensures is { MeetsTurn (K.token state.new.tables) result
+        (state_view K.codes K.macros state.new) whole
+        (after_assignment (state_of (state_view K.codes K.macros state.old)) (length tokens.now + 1)
+        (math_code_assignment (K.codes state.old.tables) (map (K.token state.old.tables) tokens.now))
+        (math_code_answered (K.codes state.old.tables) (map (K.token state.old.tables) tokens.now))) }
+    ensures spends { Spends (K.token state.new.tables) result (state_view K.codes K.macros state.old)
+        (state_view K.codes K.macros state.new) (map (K.token state.old.tables) tokens.now) }
 {
     match state.assign_math_code(tokens) {
         Ok(rest) => Ok(AfterTurn::Left(rest)),
@@ -114,18 +122,22 @@ fn math_code_turn<'a>(
 }
 
 // What becomes of `\delcode` and the tokens after it.
-fn delcode_turn<'a>(
-    state: &mut DocumentState,
+fn delcode_turn<'a, T, K: DocumentTables<T>>(
+    state: &mut DocumentState<K>,
     whole: usize,
-    tokens: &'a [Token],
-) -> Result<AfterTurn<'a>, DocError>
+    tokens: &'a [T],
+) -> Result<AfterTurn<'a, T>, DocError>
     requires count { state.old.count < 2 ^ 32 - 1 }
     requires total { state.old.total ≤ max_total_tokens }
     requires whole { whole < 2 ^ 32 }
     requires tokens { length tokens.now < whole }
-    ensures is { MeetsTurn result state.new whole (after_assignment (state_of state.old) (length tokens.now + 1)
-        (delcode_assignment state.old.codes tokens.now) (delcode_answered state.old.codes tokens.now)) }
-    ensures spends { Spends result state.old state.new tokens.now }
+    ensures is { MeetsTurn (K.token state.new.tables) result
+        (state_view K.codes K.macros state.new) whole
+        (after_assignment (state_of (state_view K.codes K.macros state.old)) (length tokens.now + 1)
+        (delcode_assignment (K.codes state.old.tables) (map (K.token state.old.tables) tokens.now))
+        (delcode_answered (K.codes state.old.tables) (map (K.token state.old.tables) tokens.now))) }
+    ensures spends { Spends (K.token state.new.tables) result (state_view K.codes K.macros state.old)
+        (state_view K.codes K.macros state.new) (map (K.token state.old.tables) tokens.now) }
 {
     match state.assign_delcode(tokens) {
         Ok(rest) => Ok(AfterTurn::Left(rest)),
@@ -154,22 +166,26 @@ fn read_error(n: u32, cause: ReadError) -> DocError
 }
 
 // Reads a formula without macros, with which all formulas have so many tokens.
-fn read_expanded<'a>(
+fn read_expanded<'a, T, K: DocumentTables<T>>(
     units: Units,
-    state: &mut DocumentState,
+    state: &mut DocumentState<K>,
     display: bool,
-    list: &[Token],
+    list: &[T],
     total: u64,
-    rest: &'a [Token],
-) -> Result<AfterTurn<'a>, DocError>
+    rest: &'a [T],
+) -> Result<AfterTurn<'a, T>, DocError>
     requires em { Within (2 ^ 31) units.em }
     requires ex { Within (2 ^ 31) units.ex }
     requires count { state.old.count < 2 ^ 32 - 1 }
     requires list { length list.now ≤ max_tokens }
     requires total { total ≤ max_total_tokens }
-    ensures is { (whole : ℕ) → MeetsTurn result state.new whole (after_reading units (state_of state.old) display total
-        rest.now (reading state.old.codes units display list.now)) }
-    ensures reads { ReadsOne result state.old state.new display rest.now }
+    ensures is { (whole : ℕ) → MeetsTurn (K.token state.new.tables) result
+        (state_view K.codes K.macros state.new) whole
+        (after_reading units (state_of (state_view K.codes K.macros state.old))
+        display total (map (K.token state.old.tables) rest.now)
+        (reading (K.codes state.old.tables) units display (map (K.token state.old.tables) list.now))) }
+    ensures reads { ReadsOne (K.token state.new.tables) result (state_view K.codes K.macros state.old)
+        (state_view K.codes K.macros state.new) display (map (K.token state.new.tables) rest.now) }
 {
     let n = state.next_number();
     match state.add_formula(units, display, list, total) {
@@ -179,21 +195,25 @@ fn read_expanded<'a>(
 }
 
 // Counts the tokens of a formula without macros, and reads it.
-fn count_expanded<'a>(
+fn count_expanded<'a, T, K: DocumentTables<T>>(
     units: Units,
-    state: &mut DocumentState,
+    state: &mut DocumentState<K>,
     display: bool,
-    list: &[Token],
-    rest: &'a [Token],
-) -> Result<AfterTurn<'a>, DocError>
+    list: &[T],
+    rest: &'a [T],
+) -> Result<AfterTurn<'a, T>, DocError>
     requires em { Within (2 ^ 31) units.em }
     requires ex { Within (2 ^ 31) units.ex }
     requires count { state.old.count < 2 ^ 32 - 1 }
     requires total { state.old.total ≤ max_total_tokens }
     requires list { length list.now ≤ max_tokens }
-    ensures is { (whole : ℕ) → MeetsTurn result state.new whole
-        (after_expansion units (state_of state.old) display rest.now (Expanded list.now)) }
-    ensures reads { ReadsOne result state.old state.new display rest.now }
+    ensures is { (whole : ℕ) → MeetsTurn (K.token state.new.tables) result
+        (state_view K.codes K.macros state.new) whole
+        (after_expansion units (state_of (state_view K.codes K.macros state.old)) display
+        (map (K.token state.old.tables) rest.now)
+        (Expanded (map (K.token state.old.tables) list.now))) }
+    ensures reads { ReadsOne (K.token state.new.tables) result (state_view K.codes K.macros state.old)
+        (state_view K.codes K.macros state.new) display (map (K.token state.new.tables) rest.now) }
 {
     let total = state.total_with(list);
     if total > MAX_TOTAL_TOKENS {
@@ -206,67 +226,76 @@ fn count_expanded<'a>(
 }
 
 // Expands a formula where there is something to expand, counts its tokens and reads it.
-fn formula_between<'a>(
-    alloc: Global,
+fn formula_between<'a, T: Drop, K: DocumentTables<T>>(
     units: Units,
-    state: &mut DocumentState,
+    state: &mut DocumentState<K>,
+    expanded: &mut ExpandedItems<T>,
     display: bool,
-    taken: Taken<'a>,
-) -> Result<AfterTurn<'a>, DocError>
+    taken: Taken<'a, T>,
+) -> Result<AfterTurn<'a, T>, DocError>
     requires em { Within (2 ^ 31) units.em }
     requires ex { Within (2 ^ 31) units.ex }
     requires count { state.old.count < 2 ^ 32 - 1 }
     requires total { state.old.total ≤ max_total_tokens }
-    ensures is { (whole : ℕ) → MeetsTurn result state.new whole (after_expansion units (state_of state.old) display
-        taken.entry.after.now (expansion state.old.macros taken.entry.argument.now)) }
-    ensures reads { ReadsOne result state.old state.new display taken.entry.after.now }
+    ensures is { (whole : ℕ) → MeetsTurn (K.token state.new.tables) result
+        (state_view K.codes K.macros state.new) whole
+        (after_expansion units (state_of (state_view K.codes K.macros state.old)) display
+        (map (K.token state.old.tables) taken.entry.after.now)
+        (expansion (K.macros state.old.tables) (map (K.token state.old.tables) taken.entry.argument.now))) }
+    ensures reads { ReadsOne (K.token state.new.tables) result (state_view K.codes K.macros state.old)
+        (state_view K.codes K.macros state.new) display (map (K.token state.new.tables) taken.entry.after.now) }
 {
     if state.is_expanded(taken.argument) {
         return count_expanded(units, state, display, taken.argument, taken.after);
     }
-    match state.expand(alloc, taken.argument) {
-        Ok(list) => count_expanded(units, state, display, list.as_slice(), taken.after),
+    match state.expand(expanded, taken.argument) {
+        Ok(()) => count_expanded(units, state, display, expanded.items(), taken.after),
         Err(cause) => Err(expand_error(state.next_number(), cause)),
     }
 }
 
 // What becomes of `$` and the tokens after it.
-fn formula_turn<'a>(
-    alloc: Global,
+fn formula_turn<'a, T: Drop, K: DocumentTables<T>>(
     units: Units,
-    state: &mut DocumentState,
+    state: &mut DocumentState<K>,
+    expanded: &mut ExpandedItems<T>,
     whole: usize,
-    tokens: &'a [Token],
-) -> Result<AfterTurn<'a>, DocError>
+    tokens: &'a [T],
+) -> Result<AfterTurn<'a, T>, DocError>
     requires em { Within (2 ^ 31) units.em }
     requires ex { Within (2 ^ 31) units.ex }
     requires count { state.old.count < 2 ^ 32 - 1 }
     requires total { state.old.total ≤ max_total_tokens }
     requires whole { whole < 2 ^ 32 }
     requires tokens { length tokens.now < whole }
-    ensures is { MeetsTurn result state.new whole
-        (formula_turn units (state_of state.old) tokens.now (is_page_limit (state_of state.old))) }
-    ensures spends { Spends result state.old state.new tokens.now }
+    ensures is { MeetsTurn (K.token state.new.tables) result
+        (state_view K.codes K.macros state.new) whole
+        (formula_turn units (state_of (state_view K.codes K.macros state.old))
+        (map (K.token state.old.tables) tokens.now)
+        (is_page_limit (state_of (state_view K.codes K.macros state.old)))) }
+    ensures spends { Spends (K.token state.new.tables) result (state_view K.codes K.macros state.old)
+        (state_view K.codes K.macros state.new) (map (K.token state.old.tables) tokens.now) }
 {
     if state.is_page_limit() {
         return Err(DocError::Pages(PAGE_TOO_MANY));
     }
-    match between_dollars(tokens) {
-        Some(taken) => formula_between(alloc, units, state, begins_display(tokens), taken),
+    let display = begins_display(state.tables(), tokens);
+    match between_dollars(state.tables(), tokens) {
+        Some(taken) => formula_between(units, state, expanded, display, taken),
         None => Err(outside_before(state, whole, OutsideCause::OpenFormula, tokens)),
     }
 }
 
 /// What becomes of a token outside of formulas, by what it is, and of those after it, in a source of so many tokens.
 /// It ends no page.
-pub fn document_turn<'a>(
-    alloc: Global,
+pub fn document_turn<'a, T: Drop, K: DocumentTables<T>>(
     units: Units,
-    state: &mut DocumentState,
+    state: &mut DocumentState<K>,
+    expanded: &mut ExpandedItems<T>,
     whole: usize,
     role: OutsideRole,
-    tokens: &'a [Token],
-) -> Result<AfterTurn<'a>, DocError>
+    tokens: &'a [T],
+) -> Result<AfterTurn<'a, T>, DocError>
     requires em { Within (2 ^ 31) units.em }
     requires ex { Within (2 ^ 31) units.ex }
     requires count { state.old.count < 2 ^ 32 - 1 }
@@ -274,15 +303,19 @@ pub fn document_turn<'a>(
     requires whole { whole < 2 ^ 32 }
     requires tokens { length tokens.now < whole }
     requires page { ends_page role ≡ false }
-    ensures is { MeetsTurn result state.new whole (turn_by units (state_of state.old) tokens.now role) }
-    ensures spends { Spends result state.old state.new tokens.now }
+    ensures is { MeetsTurn (K.token state.new.tables) result
+        (state_view K.codes K.macros state.new) whole
+        (turn_by units (state_of (state_view K.codes K.macros state.old))
+        (map (K.token state.old.tables) tokens.now) role) }
+    ensures spends { Spends (K.token state.new.tables) result (state_view K.codes K.macros state.old)
+        (state_view K.codes K.macros state.new) (map (K.token state.old.tables) tokens.now) }
 {
     match role {
         OutsideRole::Passed => Ok(AfterTurn::Left(tokens)),
         OutsideRole::Defines => definition_turn(state, whole, tokens),
         OutsideRole::SetsMathCode => math_code_turn(state, whole, tokens),
         OutsideRole::SetsDelimiterCode => delcode_turn(state, whole, tokens),
-        OutsideRole::BeginsFormula => formula_turn(alloc, units, state, whole, tokens),
+        OutsideRole::BeginsFormula => formula_turn(units, state, expanded, whole, tokens),
         OutsideRole::EndsPage => unreachable!(),
         OutsideRole::EndsDocument => Ok(AfterTurn::Ended),
         OutsideRole::Misplaced => Err(outside_before(

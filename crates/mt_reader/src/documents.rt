@@ -1,11 +1,11 @@
 //! Documents.
-ghost use Rattle.std.specs.Prelude.{◌≡◌, ◌≤◌, ◌^◌, ◌++◌, ◌∷◌, [], length, map, IfOk, Ok, OnOk};
+ghost use Rattle.std.specs.Prelude.{◌≡◌, ◌≤◌, ◌^◌, ◌++◌, ◌∷◌, [], length, map, IfOk, OnOk};
 ghost use Rattle.mt_scaled.specs.Number.{Within};
-ghost use Rattle.mt_token.specs.Tokens.{max_source, source_tokens, spanned};
+ghost use Rattle.mt_token.specs.Tokens.{max_source};
 ghost use Rattle.mt_plain.specs.CodeTables.{plain_codes};
-ghost use Rattle.mt_plain.specs.PlainMacros.{plain_table};
+ghost use Rattle.mt_tables.specs.Held.{held_token};
 ghost use Rattle.mt_reader.specs.Documents.{document};
-ghost use Rattle.mt_reader.specs.Sources.{AreSourceTokens, source_document};
+ghost use Rattle.mt_reader.specs.Sources.{plain_words, source_document};
 ghost use Rattle.mt_reader.specs.Refusals.{IsDocument};
 ghost use Rattle.mt_reader.specs.Weights.{pages_weight, HaveFewItems, IsModestDocument};
 ghost use Rattle.mt_reader.specs.Tags.{HaveTagsPlaced};
@@ -13,27 +13,12 @@ ghost use Rattle.mt_reader.specs.Limits.{max_document_pages};
 
 use crate::document_error::DocError;
 use crate::page_reader::PageReader;
+use crate::words::source_words;
+use mt_lexicon::Word;
 use mt_rules::{Document, Page};
 use mt_scaled::Units;
-use mt_token::{Token, TokenError, TokenList, tokens};
+use mt_tables::Tables;
 use std::alloc::{AllocError, Global};
-
-/// The tokens of a source.
-///
-/// # Errors
-///
-/// Why it has none; `OutOfMemory` where memory ran out.
-pub fn source_tokens(alloc: Global, bytes: &[u8]) -> Result<TokenList, DocError>
-    ensures tokens { IfOk result (λ list. source_tokens bytes.now ≡ Ok (map spanned list)) }
-    ensures is { (units : Units) → AreSourceTokens units bytes.now result }
-    ensures few { IfOk result (λ list. length list ≤ max_source) }
-{
-    match tokens(alloc, bytes) {
-        Ok(list) => Ok(list),
-        Err(TokenError::OutOfMemory) => Err(DocError::OutOfMemory),
-        Err(cause) => Err(DocError::Source(cause)),
-    }
-}
 
 fn push_page(pages: &mut Vec<Page>, page: Page) -> Result<(), AllocError>
     ensures { OnOk result (pages.new.items ≡ pages.old.items ++ page ∷ []) }
@@ -42,15 +27,22 @@ fn push_page(pages: &mut Vec<Page>, page: Page) -> Result<(), AllocError>
     Ok(())
 }
 
-// The document that these tokens make, with plain TeX's codes and macros at its start.
-fn document_of(alloc: Global, units: Units, tokens: &[Token]) -> Result<Document, DocError>
+// The document that these words make, with plain TeX's codes and macros at its start.
+fn document_of(
+    alloc: Global,
+    units: Units,
+    tables: Tables,
+    words: &[Word],
+) -> Result<Document, DocError>
     requires em { Within (2 ^ 31) units.em }
     requires ex { Within (2 ^ 31) units.ex }
-    requires tokens { length tokens.now ≤ max_source }
-    ensures is { IsDocument result (document units plain_codes plain_table tokens.now) }
+    requires codes { tables.codes ≡ plain_codes }
+    requires macros { tables.macros ≡ plain_words }
+    requires words { length words.now ≤ max_source }
+    ensures is { IsDocument result (document units plain_codes plain_words (map (held_token tables) words.now)) }
     ensures few { IfOk result (λ pages. pages_weight pages ≤ 2 ^ 21) }
 {
-    let mut reader = PageReader::new(alloc, tokens)?;
+    let mut reader = PageReader::new(alloc, tables, words);
     let mut pages = Vec::new(alloc);
     while let Some(page) = reader.next_page(alloc, units)? {
         push_page(&mut pages, page.to_page(alloc)?)?;
@@ -77,6 +69,7 @@ pub fn read_document(alloc: Global, units: Units, bytes: &[u8]) -> Result<Docume
     ensures modest { IfOk result IsModestDocument }
     ensures tags { IfOk result HaveTagsPlaced }
 {
-    let list = source_tokens(alloc, bytes)?;
-    document_of(alloc, units, list.as_slice())
+    let mut tables = Tables::plain(alloc)?;
+    let words = source_words(alloc, &mut tables, bytes)?;
+    document_of(alloc, units, tables, words.as_slice())
 }

@@ -3,10 +3,12 @@ ghost use Rattle.std.specs.Prelude.{◌≡◌, ◌≤◌, ◌^◌, length, IfOk,
 
 use crate::assignments::{assign_delcode, assign_math_code};
 use crate::definitions::macro_definition;
+use crate::document_tables::DocumentTables;
 use crate::dollars::{begins_display, between_dollars};
 use crate::outside_role::{OutsideRole, outside_role};
+use crate::token_tables::TokenTables;
 use mt_macro::{MacroError, Macros};
-use mt_plain::{Codes, plain_macros};
+use mt_plain::Codes;
 use mt_token::{MAX_SOURCE, Token};
 use std::alloc::{AllocError, Global};
 
@@ -41,8 +43,7 @@ pub struct SourceFormula<'a> {
 // What has been passed of a source.
 #[derive(Drop)]
 struct Walk<'a> {
-    codes: Codes,
-    macros: Macros,
+    tables: TokenTables,
     definitions: Vec<&'a [Token]>,
     formulas: u32,
     pages: u32,
@@ -51,15 +52,11 @@ struct Walk<'a> {
 
 impl<'a> Walk<'a> {
     fn start(alloc: Global) -> Result<Walk<'a>, AllocError> {
-        let Ok(codes) = Codes::plain(alloc) else {
-            return Err(AllocError);
-        };
-        let Ok(macros) = plain_macros(alloc) else {
+        let Ok(tables) = TokenTables::plain(alloc) else {
             return Err(AllocError);
         };
         Ok(Walk {
-            codes,
-            macros,
+            tables,
             definitions: Vec::new(alloc),
             formulas: 0,
             pages: 0,
@@ -87,12 +84,12 @@ impl<'a> Walk<'a> {
         requires { length after.now ≤ 2 ^ 32 }
         ensures falls { IfOk result (λ left. IfSome left (λ rest. length rest.now ≤ length after.now)) }
     {
-        let Ok(part) = macro_definition(after) else {
+        let Ok(part) = macro_definition(&self.tables, after) else {
             return Ok(None);
         };
         let definition = part.value;
         match self
-            .macros
+            .tables
             .define(definition.name, definition.params, definition.body)
         {
             Ok(()) => {}
@@ -107,7 +104,7 @@ impl<'a> Walk<'a> {
     fn pass_formula(&mut self, after: &'a [Token]) -> Option<&'a [Token]>
         ensures falls { IfSome result (λ rest. length rest.now ≤ length after.now) }
     {
-        let taken = between_dollars(after)?;
+        let taken = between_dollars(&self.tables, after)?;
         self.formulas = self.formulas.saturating_add(1);
         self.is_page_empty = false;
         Some(taken.after)
@@ -116,7 +113,7 @@ impl<'a> Walk<'a> {
     fn pass_math_code(&mut self, after: &'a [Token]) -> Option<&'a [Token]>
         ensures falls { IfSome result (λ rest. length rest.now ≤ length after.now) }
     {
-        match assign_math_code(&mut self.codes, after) {
+        match assign_math_code(&mut self.tables, after) {
             Ok(rest) => Some(rest),
             Err(_) => None,
         }
@@ -125,7 +122,7 @@ impl<'a> Walk<'a> {
     fn pass_delcode(&mut self, after: &'a [Token]) -> Option<&'a [Token]>
         ensures falls { IfSome result (λ rest. length rest.now ≤ length after.now) }
     {
-        match assign_delcode(&mut self.codes, after) {
+        match assign_delcode(&mut self.tables, after) {
             Ok(rest) => Some(rest),
             Err(_) => None,
         }
@@ -166,24 +163,24 @@ impl<'a> Walk<'a> {
 
     // The formula of a first `$` and the tokens after it.
     fn found(self, opening: &'a Token, after: &'a [Token]) -> Option<SourceFormula<'a>> {
-        let taken = between_dollars(after)?;
-        let inside = inside_of(after);
+        let taken = between_dollars(&self.tables, after)?;
+        let inside = inside_of(&self.tables, after);
         Some(SourceFormula {
-            is_display: begins_display(after),
+            is_display: begins_display(&self.tables, after),
             opening,
             tokens: taken.argument,
             closing: behind(inside, taken.argument.len()),
-            codes: self.codes,
-            macros: self.macros,
+            codes: self.tables.codes,
+            macros: self.tables.macros,
             definitions: self.definitions,
         })
     }
 }
 
 // The tokens after the first dollars of a formula, by those after its first one.
-fn inside_of<'a>(after: &'a [Token]) -> &'a [Token] {
+fn inside_of<'a>(tables: &TokenTables, after: &'a [Token]) -> &'a [Token] {
     match after {
-        [_, rest @ ..] if begins_display(after) => rest,
+        [_, rest @ ..] if begins_display(tables, after) => rest,
         _ => after,
     }
 }
@@ -214,7 +211,7 @@ pub fn find_formula<'a>(
     let mut walk = Walk::start(alloc)?;
     let mut rest = source;
     while let [token, after @ ..] = rest {
-        let role = outside_role(token);
+        let role = outside_role(&walk.tables, token);
         if role == OutsideRole::BeginsFormula && walk.is_wanted(wanted) {
             return Ok(walk.found(token, after));
         }

@@ -1,8 +1,9 @@
 //! What a token is outside of formulas.
 ghost use Rattle.std.specs.Prelude.{◌≡◌};
+ghost use Rattle.mt_token.specs.LentKinds.{owned_kind};
 ghost use Rattle.mt_reader.specs.Documents.{outside_name_role, outside_role};
 
-use mt_token::{Token, TokenKind};
+use mt_token::{LentKind, Lexicon};
 
 /// What a token is outside of formulas, whatever its name is defined as.
 #[derive(Clone, Copy, Debug, PartialEq, Eq)]
@@ -56,14 +57,20 @@ fn name_role(name: &[u8]) -> OutsideRole
     }
 }
 
-/// What a token is outside of formulas.
-pub fn outside_role(token: &Token) -> OutsideRole
-    ensures { result ≡ outside_role token.now.kind }
+fn role_of_kind(kind: LentKind) -> OutsideRole
+    ensures { result ≡ outside_role (owned_kind kind.entry) }
 {
-    match &token.kind {
-        TokenKind::Control(name) => name_role(name.as_slice()),
-        TokenKind::Char(b'$') => OutsideRole::BeginsFormula,
-        TokenKind::Char(_) => OutsideRole::Misplaced,
-        TokenKind::Space => OutsideRole::Passed,
+    match kind {
+        LentKind::Control(name) => name_role(name),
+        LentKind::Char(b'$') => OutsideRole::BeginsFormula,
+        LentKind::Char(_) => OutsideRole::Misplaced,
+        LentKind::Space => OutsideRole::Passed,
     }
+}
+
+/// What an item is outside of formulas.
+pub fn outside_role<T, L: Lexicon<T>>(tables: &L, item: &T) -> OutsideRole
+    ensures { result ≡ outside_role (L.token tables.now item.now).kind }
+{
+    role_of_kind(tables.lent(item))
 }

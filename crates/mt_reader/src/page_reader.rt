@@ -1,79 +1,49 @@
-//! A document that is read page by page.
-ghost use Rattle.std.specs.Prelude.{◌≡◌, ◌≤◌, ◌<◌, ◌^◌, [], ◌∷◌, List, IfOk, length};
+//! A document that is read page by page from words.
+ghost use Rattle.std.specs.Prelude.{◌≡◌, ◌≤◌, ◌^◌, [], List, length, map};
 ghost use Rattle.mt_scaled.specs.Number.{Within};
 ghost use Rattle.mt_token.specs.Tokens.{max_source};
 ghost use Rattle.mt_token.specs.declared.token.Token.{Token as TokenFields};
+ghost use Rattle.mt_plain.specs.CodeTables.{plain_codes};
+ghost use Rattle.mt_tables.specs.Held.{held_token};
 ghost use Rattle.mt_rules.specs.declared.document.Formula.{Formula};
-ghost use Rattle.mt_reader.specs.PageReading.{CanGoOn, GoesOn, IsNextPage, IsReadOf, IsTurned};
+ghost use Rattle.mt_reader.specs.PageReading.{CanGoOn, GoesOn, IsNextPage, IsReadOf, pages_view};
+ghost use Rattle.mt_reader.specs.Sources.{plain_words};
 
 use crate::arena_page::ArenaPage;
 use crate::document_error::DocError;
-use crate::document_state::DocumentState;
-use crate::document_turn::{AfterTurn, document_turn};
-use crate::outside_role::outside_role;
+use crate::item_reader::ItemReader;
+use mt_lexicon::Word;
 use mt_scaled::Units;
-use mt_token::Token;
-use std::alloc::{AllocError, Global};
+use mt_tables::Tables;
+use std::alloc::Global;
 
-/// The pages of a document, one after another: what has been read, and the tokens that are left. After an error it is
+/// The pages of a document, one after another: what has been read, and the words that are left. After an error it is
 /// of no more use.
 #[derive(Drop)]
 pub struct PageReader<'a> {
-    state: DocumentState,
-    rest: &'a [Token],
-    whole: usize,
+    reader: ItemReader<'a, Word, Tables>,
 }
 
 impl<'a> PageReader<'a> {
-    /// The pages that these tokens make, with plain TeX's codes and macros at their start. None of them is read yet.
-    pub fn new(alloc: Global, tokens: &'a [Token]) -> Result<PageReader<'a>, AllocError>
-        requires { length tokens.now ≤ max_source }
-        ensures is { IfOk result (λ reader. (units : Units) → IsReadOf units tokens.now [] reader) }
-        ensures more { IfOk result CanGoOn }
+    /// The pages that these words make, by the tables that have their names, with plain TeX's codes and macros. None of
+    /// them is read yet.
+    pub fn new(alloc: Global, tables: Tables, words: &'a [Word]) -> PageReader<'a>
+        requires codes { tables.codes ≡ plain_codes }
+        requires macros { tables.macros ≡ plain_words }
+        requires words { length words.now ≤ max_source }
+        ensures is { (units : Units) → IsReadOf units (map (held_token tables) words.now) [] result }
+        ensures more { CanGoOn result }
     {
-        match DocumentState::start(alloc) {
-            Ok(state) => Ok(PageReader {
-                state,
-                rest: tokens,
-                whole: tokens.len(),
-            }),
-            Err(_) => Err(AllocError),
+        PageReader {
+            reader: ItemReader::new(alloc, tables, words),
         }
     }
 
-    // What becomes of a token and of those after it; the page, where it ends one.
-    fn turn(
-        &mut self,
-        alloc: Global,
-        units: Units,
-        token: &Token,
-        after: &'a [Token],
-    ) -> Result<Option<ArenaPage>, DocError>
-        requires em { Within (2 ^ 31) units.em }
-        requires ex { Within (2 ^ 31) units.ex }
-        requires more { CanGoOn self.old }
-        requires first { self.old.rest.now ≡ token.now ∷ after.now }
-        ensures is { (tokens : List TokenFields) → (read : List (List Formula)) → IsReadOf units tokens read self.old
-            → IsTurned units tokens read self.new result }
-        ensures more { GoesOn self.old self.new result }
-        ensures falls { IfOk result (λ _. length self.new.rest.now < length self.old.rest.now) }
+    /// Takes back a page that was handed out: a later page takes its memory.
+    pub fn recycle(&mut self, page: ArenaPage)
+        ensures { pages_view self.new ≡ pages_view self.old }
     {
-        let role = outside_role(token);
-        if role.ends_page() {
-            self.rest = after;
-            return Ok(self.state.take_page(alloc));
-        }
-        match document_turn(alloc, units, &mut self.state, self.whole, role, after) {
-            Ok(AfterTurn::Left(left)) => {
-                self.rest = left;
-                Ok(None)
-            }
-            Ok(AfterTurn::Ended) => {
-                self.rest = &[];
-                Ok(None)
-            }
-            Err(error) => Err(error),
-        }
+        self.reader.recycle(page);
     }
 
     /// The next page that has formulas; `None` where there are no more. `units` are what `em` and `ex` are, in
@@ -91,11 +61,6 @@ impl<'a> PageReader<'a> {
             → IsNextPage units tokens read self.new result }
         ensures more { GoesOn self.old self.new result }
     {
-        while let [token, after @ ..] = self.rest {
-            if let Some(page) = self.turn(alloc, units, token, after)? {
-                return Ok(Some(page));
-            }
-        }
-        Ok(self.state.take_page(alloc))
+        self.reader.next_page(alloc, units)
     }
 }

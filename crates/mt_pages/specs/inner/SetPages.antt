@@ -1,5 +1,7 @@
 -- Pages that are read, set and placed one after another (`ArePagesOf`), with the first fault held back.
-use Rattle.std.specs.Prelude.{◌≡◌, ℕ, ◌+◌, ◌≤◌, ◌<◌, ℤ, List, [], ◌∷◌, ◌++◌, length, All, Option, Some, None, Result, Ok, Err, ⊤, Bool, true, false}
+use Rattle.std.specs.Prelude.{◌≡◌, ℕ, ◌+◌, ◌≤◌, ◌<◌, ℤ, List, [], ◌∷◌, ◌++◌, length, map, All, Option, Some, None, Result, Ok, Err, ⊤, Bool, true, false}
+use Rattle.std.specs.declared.vec.Vec.{Vec}
+use Rattle.std.specs.Global.{Global}
 use Rattle.mt_scaled.specs.Results.{◌>>=◌}
 use Rattle.mt_token.specs.declared.token.Token.{Token}
 use Rattle.mt_family.specs.SetValue.{SetValue}
@@ -8,12 +10,14 @@ use Rattle.mt_box.specs.declared.place.Place.{Place}
 use Rattle.mt_dvi.specs.Limits.{max_places}
 use Rattle.mt_dvi.specs.Writable.{IsWritable}
 use Rattle.mt_dvi.specs.WrittenPlaces.{all_places}
+use Rattle.mt_lexicon.specs.declared.word.Word.{Word}
 use Rattle.mt_plain.specs.CodeTables.{plain_codes}
-use Rattle.mt_plain.specs.PlainMacros.{plain_table}
+use Rattle.mt_tables.specs.Held.{Held, held_token}
 use Rattle.mt_rules.specs.declared.document.Formula.{Formula}
 use Rattle.mt_reader.specs.Documents.{document}
 use Rattle.mt_reader.specs.Limits.{max_document_pages}
-use Rattle.mt_reader.specs.PageReading.{CanGoOn, IsReadOf, left_to_read}
+use Rattle.mt_reader.specs.PageReading.{CanGoOn, IsReadOf, left_to_read, pages_ended}
+use Rattle.mt_reader.specs.Sources.{plain_words}
 use Rattle.mt_pages.specs.Documents.{document_from, document_of}
 use Rattle.mt_pages.specs.Pages.{document_lines, document_pages, source_pages}
 use Rattle.mt_pages.specs.inner.Placed.{PlacedValue, place_rest}
@@ -43,10 +47,15 @@ end_of Nothing = Ok None
 end_of (HeldPlace status) = Err status
 end_of (HeldSetting status) = Err status
 
--- the document of the source is that of these tokens, or it has none
-abbrev pub AreTokensOf : SetValue → List ℕ → Result (List Token) Status → Type 0
-AreTokensOf fonts source (Ok tokens) = document_of fonts source ≡ document_from (document (units_of fonts) plain_codes plain_table tokens)
-AreTokensOf fonts source (Err status) = IsPure (document_of fonts source) (Err status)
+-- the document of the source is that of these tokens
+abbrev pub AreTokensOf : SetValue → List ℕ → List Token → Type 0
+AreTokensOf fonts source tokens =
+    document_of fonts source ≡ document_from (document (units_of fonts) plain_codes plain_words tokens)
+
+-- the document of the source is that of the tokens that these words are read as, or it has none
+abbrev pub AreWordsOf : SetValue → List ℕ → Held → Result (Vec Word Global) Status → Type 0
+AreWordsOf fonts source tables (Ok words) = AreTokensOf fonts source (map (held_token tables) words.items)
+AreWordsOf fonts source tables (Err status) = IsPure (document_of fonts source) (Err status)
 
 -- the pages of a document that are left, after those that are placed
 abbrev pub rest_pages : SetValue → ℤ → Result PlacedValue Status → List (List Formula) → Result (List (List Place)) Status
@@ -61,19 +70,19 @@ rest_after set width pages room (HeldSetting status) rest = Err status
 -- these pages of the source were handed out
 pub record ArePagesOf (fonts : SetValue) (width : ℤ) (source : List ℕ) (pages : List (List Place)) (s : PageSetter) : Type 0 where
   pub tokens : List Token
-  pub same : AreTokensOf fonts source (Ok tokens)
+  pub same : AreTokensOf fonts source tokens
   pub read : List (List Formula)
   pub reader : IsReadOf (units_of fonts) tokens read s.reader
   pub is : (rest : List (List Formula)) → document_pages fonts width (read ++ rest) ≡ rest_after fonts width pages s.room s.held rest
   pub told : IsTold s.held
-  pub few : length pages ≤ s.reader.state.ended
+  pub few : length pages ≤ pages_ended s.reader
   pub room : length (all_places pages) + s.room ≡ max_places
 
 -- what a reader's next page is, or the refusal of the document
 abbrev pub AreFormulasOf : SetValue → List Token → List (List Formula) → PageSetter → Result (Option (List Formula)) Status → Type 0
 AreFormulasOf fonts tokens read new (Ok (Some page)) = IsReadOf (units_of fonts) tokens (read ++ page ∷ []) new.reader
-AreFormulasOf fonts tokens read new (Ok None) = document (units_of fonts) plain_codes plain_table tokens ≡ Ok read
-AreFormulasOf fonts tokens read new (Err status) = IsPure (document_from (document (units_of fonts) plain_codes plain_table tokens)) (Err status)
+AreFormulasOf fonts tokens read new (Ok None) = document (units_of fonts) plain_codes plain_words tokens ≡ Ok read
+AreFormulasOf fonts tokens read new (Err status) = IsPure (document_from (document (units_of fonts) plain_codes plain_words tokens)) (Err status)
 
 -- nothing but the reader changes
 pub record KeepsPlaces (old new : PageSetter) : Type 0 where
@@ -107,5 +116,5 @@ IsNextOf fonts width source pages new (Err status) = IsPure (source_pages fonts 
 pub record GoesOnAfter (fonts : SetValue) (old new : PageSetter) (page : List Place) : Type 0 where
   pub writable : All (IsWritable fonts) page
   pub falls : left_to_read new.reader < left_to_read old.reader
-  pub pages : new.reader.state.ended ≤ max_document_pages
+  pub pages : pages_ended new.reader ≤ max_document_pages
   pub more : CanGoOn new.reader

@@ -1,4 +1,4 @@
-use Rattle.std.proofs.Common.{◌∷◌, refl, subst, sym, ap, arith, ◌∙◌}
+use Rattle.std.proofs.Common.{refl, subst, ap, arith, ◌∙◌}
 use Rattle.mt_arena.specs.Arena.{grid_in}
 use Rattle.mt_rules.specs.Equations.{equations_of}
 use Rattle.mt_arena.specs.Formulas.{equation_in}

@@ -1,4 +1,4 @@
-use Rattle.std.proofs.Common.{◌≡◌, ◌-◌}
+use Rattle.std.proofs.Common.{◌≡◌}
 use Rattle.mt_arena.specs.Arena.{grid_in}
 use Rattle.mt_rules.specs.Sequence.{grid_length}
 use Rattle.mt_rules.specs.Equations.{equations_of}

@@ -1,4 +1,4 @@
-use Rattle.std.proofs.Common.{◌+◌, ◌∙◌, List, [], ◌∷◌, ◌++◌, drop, map, take, sym, ap, subst, arith, of_z, to_z, to_z-of_z, w64, ℤ, All, Err}
+use Rattle.std.proofs.Common.{◌+◌, ◌∙◌, List, [], ◌++◌, drop, map, take, sym, ap, subst, arith, of_z, to_z, to_z-of_z, w64, ℤ, All, Err}
 use Rattle.std.proofs.lemmas.List.Elements.{All-drop, All-get_or}
 use Rattle.std.proofs.lemmas.List.{drop-map, drop_all, drop_more, take_all}
 use Rattle.mt_reader.specs.ArenaPages.{KeptFormula, page_formula}

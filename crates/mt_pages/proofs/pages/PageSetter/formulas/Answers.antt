@@ -1,5 +1,5 @@
 use Rattle.std.proofs.Common.{refl}
-use Rattle.mt_pages.proofs.Common.{units_of, plain_codes, plain_table, document}
+use Rattle.mt_pages.proofs.Common.{units_of, plain_codes, plain_words, document}
 use Rattle.mt_pages.proofs.SetLemmas.{formulas_ok}
 use Rattle.mt_pages.proofs.pages.PageSetter.formulas.Goals as goal
 
@@ -8,4 +8,4 @@ returns-in-Ok-clause-is c = λ tokens read r. formulas_ok c.args.fonts.now c.uni
 
 pub returns-in-Err-clause-is : goal.returns-in-Err-clause-is
 returns-in-Err-clause-is c =
-    λ tokens read r. c.document_refusal.ensures (document (units_of c.args.fonts.now) plain_codes plain_table tokens) ((rw c.units.ensures.is at c.in-Err.ensures.is) tokens read r)
+    λ tokens read r. c.document_refusal.ensures (document (units_of c.args.fonts.now) plain_codes plain_words tokens) ((rw c.units.ensures.is at c.in-Err.ensures.is) tokens read r)

@@ -14,16 +14,16 @@ returns-in_err-page-clause-is c =
 pub returns-in-Some-2-clause-is : goal.returns-in-Some-2-clause-is
 returns-in-Some-2-clause-is c =
     λ source pages are.
-    are_set c.args.fonts.now _ c.args.width source pages c.in-Some.page c.loop-page.self c.formulas.new.self c.set.new.self c.in_ok-page.field-0 c.in_ok-places.field-0 (Some c.in-Some-2.places) (to_z-of_z c.ranges.width)
+    are_set c.args.fonts.now _ c.args.width source pages c.in-Some.page c.loop-page.self c.formulas.new.self c.set_and_recycle.new.self c.in_ok-page.field-0 c.in_ok-places.field-0 (Some c.in-Some-2.places) (to_z-of_z c.ranges.width)
     (kept_at c.args.fonts.now _ c.args.width c.args.self.now c.loop-page.self (to_z-of_z c.ranges.width) c.loop-page.invariant.is source pages are) c.in-Some.is c.in_ok-page.ensures.is c.in_ok-page.ensures.more
     c.in_ok-page.ensures.keeps c.in_ok-places.ensures.is c.in-Some-2.is c.in_ok-places.ensures.reader
 
 pub loop-page-preserved : goal.loop-page-preserved
 loop-page-preserved c =
-    let on = go_set c.args.self.now c.loop-page.self c.formulas.new.self c.set.new.self c.in-Some.page c.in_ok-page.field-0 c.in-Some.is c.in_ok-page.ensures.more c.in_ok-places.ensures.reader c.loop-page.invariant.falls in
+    let on = go_set c.args.self.now c.loop-page.self c.formulas.new.self c.set_and_recycle.new.self c.in-Some.page c.in_ok-page.field-0 c.in-Some.is c.in_ok-page.ensures.more c.in_ok-places.ensures.reader c.loop-page.invariant.falls in
     record {
       is = λ source pages are.
-          are_set c.args.fonts.now _ _ source pages c.in-Some.page c.loop-page.self c.formulas.new.self c.set.new.self c.in_ok-page.field-0 c.in_ok-places.field-0 None refl (c.loop-page.invariant.is source pages are) c.in-Some.is
+          are_set c.args.fonts.now _ _ source pages c.in-Some.page c.loop-page.self c.formulas.new.self c.set_and_recycle.new.self c.in_ok-page.field-0 c.in_ok-places.field-0 None refl (c.loop-page.invariant.is source pages are) c.in-Some.is
           c.in_ok-page.ensures.is c.in_ok-page.ensures.more c.in_ok-page.ensures.keeps c.in_ok-places.ensures.is c.in_default-2.is c.in_ok-places.ensures.reader;
       more = on.more;
       falls = on.falls;

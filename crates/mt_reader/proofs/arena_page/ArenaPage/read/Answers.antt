@@ -7,7 +7,7 @@ use Rattle.mt_reader.proofs.PagesLater.{page_pushed}
 use Rattle.mt_reader.proofs.arena_page.ArenaPage.read.Goals as goal
 
 pub returns-in_ok-push_formula-in-Ok : goal.returns-in_ok-push_formula-in-Ok
-returns-in_ok-push_formula-in-Ok c =
+returns-in_ok-push_formula-in-Ok g c =
     let es = c.read_spans.new.arena.closed in
     let f : PageFormula = record { number = c.args.number; display = c.args.display; spans = c.in-Ok.spans } in (
       formula_in es c.in-Ok.spans,
