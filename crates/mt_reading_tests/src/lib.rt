@@ -21,6 +21,8 @@ mod scaled;
 #[cfg(test)]
 mod scan;
 #[cfg(test)]
+mod tables;
+#[cfg(test)]
 mod tfm;
 #[cfg(test)]
 mod token;
