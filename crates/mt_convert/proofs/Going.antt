@@ -1,11 +1,11 @@
 -- How far the first pass has set a list (`Going`).
 use Rattle.std.proofs.Common.{◌≡◌, ℕ, zero, suc, ◌<◌, ◌≤◌, ◌+◌, ◌*◌, ◌^◌, ◌≤ℤ◌, ℤ, pos, List, [], ◌∷◌, ◌++◌, length, drop, ap, sym, ◌∙◌, refl, arith, subst, append_assoc, length-append, Option, Some, None, Bool, true, false, if◌then◌else◌, Ok, Err, IfSome}
-use Rattle.mt_convert.proofs.Common.{current_after_half, ints, clamps, nil_from_length, take_all, int_max, Within, is_in_range, max_dimen, PieceValue, row_height, row_depth, SetValue, Style, IsModestList, list_items, element_items, list_nesting, ListAmounts, Sequence, Element, End, More, AtomElement, sequence_size, element_size, Setting, Overflow, ◌>>=◌, test_value, in_range, Current, SetFault, PlacedHalf, PlacedHalves, Thing, Held, value_in, is_item, more_of, SetFails, opening, set_item, set_items, flat, flat_by, current_after_items, HalfValue, half_height, half_depth, greatest_height, greatest_depth, settle, items_of}
+use Rattle.mt_convert.proofs.Common.{KeptItem, current_after_half, ints, clamps, nil_from_length, take_all, int_max, Within, is_in_range, max_dimen, PieceValue, row_height, row_depth, SetValue, Style, IsModestList, list_items, element_items, list_nesting, ListAmounts, Sequence, Element, End, More, AtomElement, sequence_size, element_size, Setting, Overflow, ◌>>=◌, test_value, in_range, Current, SetFault, PlacedHalf, PlacedHalves, Thing, Held, value_in, is_item, more_of, SetFails, opening, set_item, set_items, flat, flat_by, current_after_items, HalfValue, half_height, half_depth, greatest_height, greatest_depth, settle, items_of}
 use Rattle.std.specs.Prelude.{⊤}
 use Rattle.mt_rules.specs.Facts.{IsMathList}
 use Rattle.mt_convert.specs.declared.placed.PlacedHalf.TheVariants as placed
 use Rattle.mt_convert.specs.declared.set.settle.Reach.{Reach}
-use Rattle.mt_convert.specs.declared.flat.passed.Passed.{Passed as CodePassed}
+use Rattle.mt_convert.specs.declared.flat.passed.Joined.{Joined}
 use Rattle.mt_convert.specs.inner.OnPieces.{HalfOn}
 use Rattle.mt_convert.specs.inner.Placed.{AllPlacedFit, HalvesOn, PlacedFits, placed_count, placed_length, placed_value, placed_values}
 use Rattle.mt_convert.specs.inner.Settling.{CanFinish, Finishes}
@@ -13,7 +13,7 @@ use Rattle.mt_convert.specs.inner.Appending.{appended_to}
 use Rattle.mt_convert.specs.inner.Boundaries.{Remains, RestOfList, LeavesBy}
 use Rattle.mt_convert.specs.inner.Lengths.{kern_halves, test_kern}
 use Rattle.mt_convert.specs.inner.Modest.{IsModestElement}
-use Rattle.mt_convert.specs.inner.Spans.{KeptPassed, ModestPassed, passed_in, turn_of_held}
+use Rattle.mt_convert.specs.inner.Spans.{ModestPassed, passed_in, turn_of_held}
 use Rattle.mt_convert.specs.inner.Turns.{PassedElement, ListTurn, PassesOne, RewritesTo, element_of_passed, turn_of, turned_by, turn_meaning, flat_item, flat_items, kern_of}
 use Rattle.mt_convert.proofs.Appending.{appended_nil, appended_end, fails_on}
 use Rattle.mt_convert.proofs.Following.{FollowSoFar, follow_start, follow_step, item_follows}
@@ -359,7 +359,7 @@ pub record FrontTurn (fonts : SetValue) (current : Current) (rest : Sequence) (t
   pub turn : t ≡ turn_of fonts current element after
   pub leaves : (enclosed : Bool) → RestOfList enclosed (More element after) → TurnLeaves enclosed t
 
-front_turn : (fonts : SetValue) (current : Current) (es : List Held) (front : Thing) (rest after rest' : Sequence) (o : Option CodePassed) → is_item front ≡ true → rest ≡ more_of (value_in es front) after → turned_by (passed_in es) o rest' ≡ turn_of_held fonts current (value_in es front) after → ((enclosed : Bool) → RestOfList enclosed (more_of (value_in es front) after) → LeavesBy (passed_in es) enclosed o rest') → FrontTurn fonts current rest (turned_by (passed_in es) o rest')
+front_turn : (fonts : SetValue) (current : Current) (es : List Held) (front : Thing) (rest after rest' : Sequence) (o : Option Joined) → is_item front ≡ true → rest ≡ more_of (value_in es front) after → turned_by (passed_in es front) o rest' ≡ turn_of_held fonts current (value_in es front) after → ((enclosed : Bool) → RestOfList enclosed (more_of (value_in es front) after) → LeavesBy (passed_in es front) enclosed o rest') → FrontTurn fonts current rest (turned_by (passed_in es front) o rest')
 front_turn fonts current es front rest after rest' o i e u l =
     let h = an_item es front i in
     record {
@@ -367,17 +367,15 @@ front_turn fonts current es front rest after rest' o i e u l =
       after = after;
       is = e ∙ ap (λ x. more_of x after) h.is;
       turn = u ∙ ap (λ x. turn_of_held fonts current x after) h.is;
-      leaves = λ enclosed x. turn_leaves (passed_in es) enclosed o rest' (l enclosed (subst (λ v. RestOfList enclosed (more_of v after)) (sym h.is) x));
+      leaves = λ enclosed x. turn_leaves (passed_in es front) enclosed o rest' (l enclosed (subst (λ v. RestOfList enclosed (more_of v after)) (sym h.is) x));
     }
 
-pub front_passes : (fonts : SetValue) (current : Current) (es : List Held) (front : Thing) (rest after rest' : Sequence) (o : Option CodePassed) (p : CodePassed) → is_item front ≡ true → rest ≡ more_of (value_in es front) after → turned_by (passed_in es) o rest' ≡ turn_of_held fonts current (value_in es front) after → ((enclosed : Bool) → RestOfList enclosed (more_of (value_in es front) after) → LeavesBy (passed_in es) enclosed o rest') → o ≡ Some p → FrontTurn fonts current rest (PassesOne (passed_in es p) rest')
-front_passes fonts current es front rest after rest' o p i e u l f = subst (λ x. FrontTurn fonts current rest (turned_by (passed_in es) x rest')) f (front_turn fonts current es front rest after rest' o i e u l)
+pub front_passes : (fonts : SetValue) (current : Current) (es : List Held) (front : Thing) (rest after rest' : Sequence) (o : Option Joined) (p : Joined) → is_item front ≡ true → rest ≡ more_of (value_in es front) after → turned_by (passed_in es front) o rest' ≡ turn_of_held fonts current (value_in es front) after → ((enclosed : Bool) → RestOfList enclosed (more_of (value_in es front) after) → LeavesBy (passed_in es front) enclosed o rest') → o ≡ Some p → FrontTurn fonts current rest (PassesOne (passed_in es front p) rest')
+front_passes fonts current es front rest after rest' o p i e u l f = subst (λ x. FrontTurn fonts current rest (turned_by (passed_in es front) x rest')) f (front_turn fonts current es front rest after rest' o i e u l)
 
-pub front_again : (fonts : SetValue) (current : Current) (es : List Held) (front : Thing) (rest after rest' : Sequence) (o : Option CodePassed) → is_item front ≡ true → rest ≡ more_of (value_in es front) after → turned_by (passed_in es) o rest' ≡ turn_of_held fonts current (value_in es front) after → ((enclosed : Bool) → RestOfList enclosed (more_of (value_in es front) after) → LeavesBy (passed_in es) enclosed o rest') → ((p : CodePassed) → o ≡ Some p → ⊥) → FrontTurn fonts current rest (RewritesTo rest')
+pub front_again : (fonts : SetValue) (current : Current) (es : List Held) (front : Thing) (rest after rest' : Sequence) (o : Option Joined) → is_item front ≡ true → rest ≡ more_of (value_in es front) after → turned_by (passed_in es front) o rest' ≡ turn_of_held fonts current (value_in es front) after → ((enclosed : Bool) → RestOfList enclosed (more_of (value_in es front) after) → LeavesBy (passed_in es front) enclosed o rest') → ((p : Joined) → o ≡ Some p → ⊥) → FrontTurn fonts current rest (RewritesTo rest')
 front_again fonts current es front rest after rest' None i e u l n = front_turn fonts current es front rest after rest' None i e u l
 front_again fonts current es front rest after rest' (Some p) i e u l n = absurd (n p refl)
 
-pub modest_passed : (es : List Held) (o : Option CodePassed) (p : CodePassed) → o ≡ Some p → IfSome o (KeptPassed es) → IsModestElement (element_of_passed (passed_in es p)) → ModestPassed es p
-modest_passed es o p e k m =
-    let i = subst (λ x. IfSome x (KeptPassed es)) e k in
-    record { within = i.1.0; modest = m; kept = i.1.1 }
+pub modest_passed : (es : List Held) (front : Thing) (p : Joined) → KeptItem es front → IsModestElement (element_of_passed (passed_in es front p)) → ModestPassed es front p
+modest_passed es front p k m = record { within = k.1.0; modest = m; kept = k.1.1 }

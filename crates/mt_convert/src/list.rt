@@ -29,7 +29,7 @@ use crate::SetFault;
 use crate::context::Context;
 use crate::flat::current::{Current, kind_class};
 use crate::flat::joining::is_empty;
-use crate::flat::passed::{JoiningRole, Passed};
+use crate::flat::passed::{Joined, JoiningRole};
 use crate::flat::turn::turn;
 use crate::lone::lone_atom;
 use crate::placed::{PlacedHalf, PlacedHalves, placed_after};
@@ -50,13 +50,19 @@ use crate::set::row::{test_row, tested};
 use crate::set::scripts::{with_limits, with_scripts, without_scripts};
 use crate::set::settle::{Reach, finish};
 use crate::set::tables::{equations, has_column, matrix, push_count, table_strut};
-use mt_arena::{Arena, Cell, FractionNoad, Noad, Rest, Span, next_cells, next_row};
+use mt_arena::{Arena, Cell, FractionNoad, Noad, Rest, Span, Thing, next_cells, next_row};
 use mt_family::FontSet;
 use mt_pieces::{Pieces, Scripts};
-use mt_rules::{Class, Delim, Kind, Look, Style, Symbol, in_points};
+use mt_rules::{Class, Delim, Glue, Kind, Look, Style, Symbol, in_points};
 use mt_scaled::Length;
 use mt_spacing::forward;
 use std::alloc::Global;
+
+// A space without a size.
+const NO_SPACE: Glue = Glue {
+    width: 0,
+    shrink: 0,
+};
 
 // The row of a math list in a style, behind the pieces that are there: at most 2^21 pieces.
 #[cycle(setting)]
@@ -98,54 +104,57 @@ pub(crate) fn first_pass_on(
     let mut current = Current::opening(style);
     let mut reach = Reach::none();
     while let Some(front) = rest.pop(context.arena) {
-        if let Some(passed) = turn(context.fonts, context.arena, current, front, &mut rest)? {
+        if let Some(joined) = turn(context.fonts, context.arena, current, &front, &mut rest)? {
             let first = pieces.len();
-            let half = set_item(pieces, context, current, &passed)?;
+            let half = set_item(pieces, context, current, &front, joined)?;
             reach = reach.with_pieces(pieces, first);
-            push_with_kern(&mut items, half, passed.kern())?;
+            push_with_kern(&mut items, half, joined.kern)?;
             current = current.after_half(half);
         }
     }
     Ok(finish(items, reach))
 }
 
-// An item of the flat list, set.
+// An item that passes, set.
 #[cycle(setting)]
 fn set_item(
     pieces: &mut Pieces,
     context: Context<'_>,
     current: Current,
-    passed: &Passed,
+    item: &Thing,
+    joined: Joined,
 ) -> Result<PlacedHalf, SetFault>
-    requires modest { ModestPassed context.arena.now.closed passed.now }
+    requires modest { ModestPassed context.arena.now.closed item.now joined }
     ensures is { SetsHalfOn result pieces.old pieces.new
         (FirstPass.set_item context.entry.fonts.now current (flat_item context.entry.fonts.now
-        (passed_in context.entry.arena.now.closed passed.now))) }
+        (passed_in context.entry.arena.now.closed item.now joined))) }
 {
-    match passed {
-        Passed::Atom { role, noad, .. } => {
+    match item {
+        Thing::Atom(noad) => {
             let class = forward(current.last, kind_class(noad.kind));
             let first = pieces.len();
-            set_atom(pieces, context, current.style, *role, noad)?;
+            set_atom(pieces, context, current.style, joined.role, noad)?;
             Ok(placed_after(pieces, first, class))
         }
-        Passed::Fraction(fraction) => {
+        Thing::Fraction(fraction) => {
             let first = pieces.len();
             set_fraction(pieces, context, current.style, fraction)?;
             Ok(placed_after(pieces, first, Class::Inner))
         }
-        Passed::Left(delim) => Ok(PlacedHalf::Left(*delim)),
-        Passed::Middle(delim) => Ok(PlacedHalf::Middle(*delim)),
-        Passed::Right(delim) => Ok(PlacedHalf::Right(*delim)),
-        Passed::Style(style) => Ok(PlacedHalf::Style(*style)),
-        Passed::MuSpace(glue) => {
+        Thing::Left(delim) => Ok(PlacedHalf::Left(*delim)),
+        Thing::Middle(delim) => Ok(PlacedHalf::Middle(*delim)),
+        Thing::Right(delim) => Ok(PlacedHalf::Right(*delim)),
+        Thing::Style(style) => Ok(PlacedHalf::Style(*style)),
+        Thing::MuSpace(glue) => {
             make_space(glue_in_points(context.fonts, current.style, long_glue(*glue)))
         }
-        Passed::Space(glue) => make_space(long_glue(*glue)),
-        Passed::MuKern(amount) => {
+        Thing::Space(glue) => make_space(long_glue(*glue)),
+        Thing::MuKern(amount) => {
             make_kern(in_points(context.fonts, current.style, long_length(*amount)))
         }
-        Passed::Kern(amount) => make_kern(long_length(*amount)),
+        Thing::Kern(amount) => make_kern(long_length(*amount)),
+        // A conditional space has no size. The others do not pass.
+        _ => make_space(NO_SPACE),
     }
 }
 
