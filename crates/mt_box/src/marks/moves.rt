@@ -60,6 +60,9 @@ fn turn(nodes: &mut [Node], middle: usize)
     requires { middle ≤ length nodes.old }
     ensures { nodes.new ≡ drop middle nodes.old ++ take middle nodes.old }
 {
+    if middle == 0 || middle == nodes.len() {
+        return;
+    }
     nodes[..middle].reverse();
     nodes[middle..].reverse();
     nodes.reverse();
