@@ -4,6 +4,7 @@ ghost use Rattle.mt_token.specs.Tokens.{max_source};
 
 use crate::lent::LentToken;
 use crate::lexeme::{LentLexeme, State, next_lexeme};
+use crate::plain_bytes::plain_in_front;
 use crate::token::TokenError;
 
 /// How far a source is read, token by token, in memory of a fixed size.
@@ -31,6 +32,7 @@ impl<'a> Lexer<'a> {
     ghost use Rattle.mt_token.specs.declared.lexeme.State.TheVariants.{New};
     ghost use Rattle.mt_token.specs.Ahead.{ahead, offset, source};
     ghost use Rattle.mt_token.specs.Lent.{Steps, Spans, IsOfByte};
+    ghost use Rattle.mt_token.specs.Plain.{plain_in_front, StepsPlain};
 
     /// A cursor at the beginning of a source, which has at most [`crate::MAX_SOURCE`] bytes.
     pub fn new(bytes: &'a [u8]) -> Lexer<'a>
@@ -56,12 +58,32 @@ impl<'a> Lexer<'a> {
         self.at
     }
 
+    /// Reads the next token if it is a plain character, which is one that begins at the offset and
+    /// stands for itself in every state of the reader: a visible byte other than `%`, `\`, `~`, and
+    /// `^` before another one.
+    ///
+    /// It gives the character's ASCII code, below 128. `None` where the next byte is another one, and
+    /// at the end of the source; nothing is read then.
+    #[inline]
+    pub fn plain_character(&mut self) -> Option<u8>
+        ensures is { StepsPlain result (ahead self.old) (offset self.old) (ahead self.new)
+            (offset self.new) }
+        ensures front { result ≡ plain_in_front (drop (offset self.old) (source self.old)) }
+        ensures bytes { source self.new ≡ source self.old }
+    {
+        let c = plain_in_front(rest_from(self.bytes, self.at))?;
+        self.at += 1;
+        self.state = State::Middle;
+        Some(c)
+    }
+
     /// Reads the next token; `None` at the end of the source, and from then on.
     ///
     /// # Errors
     ///
     /// `NotAscii` or `BadByte` with the offset of the first byte at fault, as [`crate::tokens`]
     /// reports it. The fault is then ahead still, and each further step reports it again.
+    #[inline(always)]
     pub fn step(&mut self) -> Result<Option<LentToken<'a>>, TokenError>
         ensures is { Steps result (ahead self.old) (ahead self.new) }
         ensures spans { Spans result (offset self.old) (offset self.new) }

@@ -110,6 +110,7 @@ fn lexeme_after_escape<'a>(after: &'a [u8]) -> LentLexeme<'a>
 }
 
 /// The lexeme in front of a rest that is not empty.
+#[inline(always)]
 pub fn next_lexeme<'a>(state: State, rest: &'a [u8]) -> LentLexeme<'a>
     requires { 0 < length rest.now }
     ensures is { owned_lexeme result ≡ lexeme state rest.now }

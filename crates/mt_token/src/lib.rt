@@ -13,6 +13,7 @@ mod lexeme;
 mod lexer;
 mod lexicon;
 mod own_tokens;
+mod plain_bytes;
 mod token;
 
 pub use cause::FIRST_OUTSIDE_CAUSE;
