@@ -47,6 +47,21 @@ impl Roles<Word> for Tables {
     }
 
     #[inline]
+    fn symbol_code(&self, item: &Word) -> Option<u16> {
+        match item.kind {
+            WordKind::Name(high, low) => role_numbered(
+                &self.codes,
+                &self.names,
+                self.roles.as_slice(),
+                name_number(high, low),
+            )
+            .math_code(),
+            WordKind::Char(c) => character_role(&self.codes, c).math_code(),
+            WordKind::Space => None,
+        }
+    }
+
+    #[inline]
     fn delcode(&self, c: u8) -> Option<u32> {
         self.codes.delcode(c)
     }
