@@ -2,7 +2,7 @@
 ghost use Rattle.std.specs.Prelude.{◌≡◌, ◌<◌};
 ghost use Rattle.mt_plain.specs.Names.{control};
 ghost use Rattle.mt_scan.specs.Role.{role_of, command_role, meaning_role, code_role, character_role, mu_space};
-ghost use Rattle.mt_scan.specs.Role.{big_class, veil};
+ghost use Rattle.mt_scan.specs.Role.{big_class, role_code, veil};
 
 use mt_plain::{Codes, Command, MAX_MATH_CODE, Meaning};
 use mt_rules::{Class, Delim, Glue, Limits, Style, Symbol};
@@ -169,6 +169,19 @@ pub enum Role {
     Unknown,
 }
 
+impl Role {
+    /// The math code by which it is set, where there is one.
+    #[inline]
+    pub fn math_code(self) -> Option<u16>
+        ensures { result ≡ role_code self }
+    {
+        match self {
+            Role::MathCode(code) => Some(code),
+            _ => None,
+        }
+    }
+}
+
 fn mu_space(width: i64, shrink: i64) -> Role
     ensures { result ≡ mu_space width shrink }
 {
@@ -289,6 +302,7 @@ fn code_role(c: u8, code: u16) -> Role
 }
 
 /// What a character is in a formula, by its ASCII code, with these codes.
+#[inline]
 pub fn character_role(codes: &Codes, c: u8) -> Role
     requires { c < 128 }
     ensures { result ≡ character_role codes.now c }
