@@ -1,5 +1,5 @@
 -- A run of items, turn by turn (`run_on`).
-use Rattle.std.proofs.Common.{◌≡◌, ℕ, List, [], ◌++◌, refl, sym, ap, ◌∙◌, subst, append_assoc}
+use Rattle.std.proofs.Common.{◌≡◌, ℕ, List, [], ◌++◌, drop, Some, refl, sym, ap, ◌∙◌, subst, append_assoc}
 use Rattle.mt_token.specs.declared.token.Token.{Token}
 use Rattle.mt_scaled.specs.declared.unit.Units.{Units}
 use Rattle.mt_plain.specs.CodeTables.{CodeTables}
@@ -7,22 +7,25 @@ use Rattle.mt_rules.specs.Sequence.{Sequence}
 use Rattle.mt_scan.specs.declared.fault.Fault.{Fault as FaultFields}
 use Rattle.mt_scan.specs.Parts.{Read, Got, Fault, NoTurn, then_read}
 use Rattle.mt_arena.specs.Arena.{ArenaValue, Held, as_sequence}
-use Rattle.mt_arena.proofs.Putting.{extends_more}
+use Rattle.mt_arena.proofs.Putting.{extends_more, extends_same}
 use Rattle.mt_formula.specs.declared.reading.given.Given.{Given as CodeGiven}
+use Rattle.mt_formula.specs.declared.reading.given.Given.TheVariants as give
 use Rattle.mt_formula.specs.declared.reading.given.RunEnd.{RunEnd}
 use Rattle.mt_formula.specs.declared.reading.stop.Stop.{Stop}
 use Rattle.mt_formula.specs.declared.reading.stop.Stop.TheVariants.{Fault as AtFault, OutOfMemory}
 use Rattle.mt_formula.specs.declared.actions.action.Action.{Action}
 use Rattle.mt_formula.specs.declared.actions.action.Action.TheVariants.{Stop as StopAction}
 use Rattle.mt_formula.specs.Atoms.{append}
-use Rattle.mt_formula.specs.Items.{action_here, given}
+use Rattle.mt_formula.specs.Items.{action_here, coded_action, given}
 use Rattle.mt_formula.specs.Lists.{ItemRun, items_before}
 use Rattle.mt_formula.specs.reading.Carried.{carried_turn, follows, put_given}
+use Rattle.mt_formula.specs.reading.Ends.{front_code}
 use Rattle.mt_formula.specs.reading.Givens.{given_in}
-use Rattle.mt_formula.specs.reading.Noads.{KeptLast, last_in}
+use Rattle.mt_formula.specs.reading.Noads.{KeptLast, last_in, symbol_noad}
 use Rattle.mt_formula.specs.reading.Reads.{Adds, Grows, Puts, RunsTo, whole_run}
 use Rattle.mt_formula.specs.reading.Stops.{HasFault, fitting}
 use Rattle.mt_formula.proofs.Arenas.{inside_more, last_later, sequence_more}
+use Rattle.mt_formula.proofs.Fronts.{code_action}
 use Rattle.mt_formula.proofs.Below.{Below, before_below, below_from, below_refl, below_to, below_trans}
 use Rattle.mt_formula.proofs.Carrying.{whole_turn}
 use Rattle.mt_formula.proofs.Giving.{adds_none, no_items}
@@ -106,6 +109,13 @@ module _ (tables : CodeTables) (units : Units) (level : ℕ) (whole : Read ItemR
       adds = s.1;
       is = sym (subst (λ b. Below (items_before (as_sequence s.0) (follows tables units (whole_run tables units) level run.family (last_in now.closed run.last) b after)) whole) e turned);
     }
+
+  -- the atom of a math code
+  pub run_on_symbol : (now new : ArenaValue) (run next : RunEnd) (rest : List Token) (code : ℕ) → RunSoFar now run rest → front_code tables rest ≡ Some code → KeptLast now.closed run.last
+      → Puts now new run (give.Atom (symbol_noad run.family code)) next → RunSoFar new next (drop 1 rest)
+  run_on_symbol now new run next rest code s e k puts =
+      run_on now run rest (drop 1 rest) (coded_action run.family code) s (code_action tables units level run.family (last_in now.closed run.last) code rest e) now new next (give.Atom (symbol_noad run.family code)) (drop 1 rest) k
+      (record { front = extends_same now.closed; top = refl; below = refl }) refl puts
 
   -- a token that no action takes
   pub action_fails : (now : ArenaValue) (run : RunEnd) (rest : List Token) (f : FaultFields) → RunSoFar now run rest

@@ -1,5 +1,5 @@
--- What becomes of a list where no item is (`StopsHere`).
-use Rattle.std.specs.Prelude.{◌≡◌, ℕ, true, false, List, drop, Result, Ok, Err}
+-- What is in front (`front_code`), and what becomes of a list where no item is (`StopsHere`).
+use Rattle.std.specs.Prelude.{◌≡◌, ℕ, true, false, List, [], ◌∷◌, Option, None, drop, Result, Ok, Err}
 use Rattle.mt_token.specs.declared.token.Token.{Token}
 use Rattle.mt_scaled.specs.declared.unit.Units.{Units}
 use Rattle.mt_plain.specs.CodeTables.{CodeTables}
@@ -7,11 +7,17 @@ use Rattle.mt_rules.specs.Sequence.{Sequence}
 use Rattle.mt_scan.specs.declared.fault.Fault.{Fault as FaultFields}
 use Rattle.mt_scan.specs.declared.fault.ReadCause.TheVariants.{Unbalanced}
 use Rattle.mt_scan.specs.declared.role.Role.{Role}
+use Rattle.mt_scan.specs.Role.{role_code, role_of}
 use Rattle.mt_scan.specs.Parts.{Read, Got, Fault, then_read}
 use Rattle.mt_formula.specs.declared.reading.ends.Ending.{Ending}
 use Rattle.mt_formula.specs.declared.reading.ends.ListStop.{ListStop}
 use Rattle.mt_formula.specs.declared.reading.ends.ListStop.TheVariants.{Ends, Divides}
 use Rattle.mt_formula.specs.Lists.{ItemRun, ItemRunReader, after_item_run, denominator, ends_at, ends_with_tokens, fraction_head, misplaced_cause}
+
+-- the math code of the token in front, if it is set by one
+abbrev pub front_code : CodeTables → List Token → Option ℕ
+front_code tables [] = None
+front_code tables (t ∷ rest) = role_code (role_of tables t)
 
 -- a list ends at a token of this role, with which so many are left, or that is at fault
 abbrev pub EndsAtRole : Result (Unit {0}) FaultFields → Ending → Role → ℕ → Type 0

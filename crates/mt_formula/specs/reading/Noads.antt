@@ -1,5 +1,5 @@
 -- Atoms in an arena (`noad_in`), and what is known of the one at hand.
-use Rattle.std.specs.Prelude.{◌≡◌, ◌≤◌, true, List, [], ◌∷◌, length, Option, Some, None, IfSome}
+use Rattle.std.specs.Prelude.{◌≡◌, ◌≤◌, ℕ, true, List, [], ◌∷◌, length, Option, Some, None, IfSome}
 use Rattle.mt_rules.specs.declared.class.Class.TheVariants.{Ord}
 use Rattle.mt_rules.specs.declared.kind.Kind.{Kind}
 use Rattle.mt_rules.specs.declared.kind.Kind.TheVariants.{Plain}
@@ -7,8 +7,9 @@ use Rattle.mt_rules.specs.declared.kind.Limits.{Limits}
 use Rattle.mt_rules.specs.declared.kind.Limits.TheVariants.{Default}
 use Rattle.mt_scan.specs.declared.role.Side.{Side}
 use Rattle.mt_scan.specs.declared.role.Side.TheVariants.{Up, Down}
+use Rattle.mt_scan.specs.Symbols.{class_of, code_symbol}
 use Rattle.mt_arena.specs.declared.thing.Cell.{Cell}
-use Rattle.mt_arena.specs.declared.thing.Cell.TheVariants.{Empty}
+use Rattle.mt_arena.specs.declared.thing.Cell.TheVariants.{Empty, Sym}
 use Rattle.mt_arena.specs.declared.thing.Noad.{Noad}
 use Rattle.mt_arena.specs.declared.thing.Thing.TheVariants.{Atom}
 use Rattle.mt_arena.specs.Arena.{Held, ItemHeld, cell_end, cell_part, thing_end}
@@ -27,6 +28,10 @@ last_in es (Some a) = Some (noad_in es a)
 -- an atom without scripts
 abbrev pub bare_noad : Kind → Cell → Noad
 bare_noad kind nucleus = record { kind = kind; limits = Default; nucleus = nucleus; sup = Empty; sub = Empty }
+
+-- the atom of a math code, where this family is current
+abbrev pub symbol_noad : Option ℕ → ℕ → Noad
+symbol_noad family code = bare_noad (Plain (class_of code)) (Sym (code_symbol family code))
 
 -- the atom that scripts here belong to
 abbrev pub scripted_noad : Option Noad → Noad

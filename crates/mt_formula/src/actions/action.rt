@@ -6,6 +6,7 @@ ghost use Rattle.mt_formula.specs.Items.{coded_action, nucleus_action, script_ac
 
 use crate::actions::groups::{check_level, missing_field};
 use crate::actions::table_form::TableForm;
+use crate::reading::ends::{after_first, front_code};
 use mt_rules::{Class, Delim, Limits, Symbol};
 use mt_scan::items::{after_blanks, number_to};
 use mt_scan::{
@@ -113,6 +114,13 @@ pub fn field_start<'a, T, R: Roles<T>>(
         (field_start (R.codes roles.now) level family (map (R.token roles.now) tokens.now)) }
     ensures falls { IfOk result (λ start. length start.rest.now < length tokens.now) }
 {
+    // Most fields are symbols, which need no role.
+    if let Some(code) = front_code(roles, tokens) {
+        return Ok(Scanned {
+            value: FieldStart::Symbol(code_symbol(family, u32::from(code))),
+            rest: after_first(roles, tokens),
+        });
+    }
     field_start_here(roles, level, family, after_blanks(roles, tokens))
 }
 

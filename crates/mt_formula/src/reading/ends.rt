@@ -1,10 +1,10 @@
 //! Where lists end, and what becomes of a list where no item is.
-ghost use Rattle.std.specs.Prelude.{◌≡◌, ◌≤◌, ℕ, drop, length, map};
+ghost use Rattle.std.specs.Prelude.{◌≡◌, ◌≤◌, ◌-◌, ℕ, drop, length, map};
 ghost use Rattle.mt_rules.specs.Sequence.{Sequence};
 ghost use Rattle.mt_scaled.specs.declared.unit.Units.{Units};
 ghost use Rattle.mt_formula.specs.Groups.{ends_at_middle};
 ghost use Rattle.mt_formula.specs.Lists.{ItemRun, ItemRunReader, ends_at, ends_with_tokens, list_end, misplaced_cause};
-ghost use Rattle.mt_formula.specs.reading.Ends.{EndsAtEnd, EndsAtRole, EndsHere, StopsHere};
+ghost use Rattle.mt_formula.specs.reading.Ends.{EndsAtEnd, EndsAtRole, EndsHere, StopsHere, front_code};
 
 use mt_scan::{Bar, Fault, ReadCause, Role, Roles};
 
@@ -139,10 +139,22 @@ pub fn is_at_middle<T, R: Roles<T>>(roles: &R, tokens: &[T]) -> bool
     }
 }
 
+/// The math code of the token in front, if it is set by one.
+#[inline]
+pub fn front_code<T, R: Roles<T>>(roles: &R, tokens: &[T]) -> Option<u16>
+    ensures { result ≡ front_code (R.codes roles.now) (map (R.token roles.now) tokens.now) }
+{
+    match tokens {
+        [token, ..] => roles.symbol_code(token),
+        [] => None,
+    }
+}
+
 /// The tokens after the one in front.
 pub fn after_first<'a, T, R: Roles<T>>(roles: &R, tokens: &'a [T]) -> &'a [T]
     ensures is { map (R.token roles.now) result.now ≡ drop 1 (map (R.token roles.now) tokens.now) }
     ensures falls { length result.now ≤ length tokens.now }
+    ensures length { length result.now ≡ length tokens.now - 1 }
 {
     match tokens {
         [_, after @ ..] => after,

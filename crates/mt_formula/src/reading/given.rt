@@ -18,13 +18,13 @@ ghost use Rattle.mt_formula.specs.Lists.{ItemRunReader};
 ghost use Rattle.mt_formula.specs.Tables.{enclosed_items};
 ghost use Rattle.mt_formula.specs.declared.reading.given.Given.TheVariants as give;
 ghost use Rattle.mt_formula.specs.reading.Givens.{KeptGiven, KeptThing, given_in, is_plain_action, item_in, table_held};
-ghost use Rattle.mt_formula.specs.reading.Noads.{KeptField, KeptLast, OpenNoad, bare_noad};
+ghost use Rattle.mt_formula.specs.reading.Noads.{KeptField, KeptLast, OpenNoad, bare_noad, symbol_noad};
 ghost use Rattle.mt_formula.specs.reading.Reads.{Adds, Grows, Puts};
 ghost use Rattle.mt_formula.specs.reading.WholeLists.{KeptSpan, KeptWhole, list_in};
 
 use crate::actions::action::Action;
 use crate::actions::table_form::{TableForm, look_of};
-use crate::reading::noads::{kind_of, plain_noad, with_limits, with_script};
+use crate::reading::noads::{kind_of, plain_noad, symbol_noad, with_limits, with_script};
 use crate::reading::whole_list::{WholeList, group_noad, nucleus_of, push_last};
 use mt_arena::{Arena, Cell, Noad, RootParts, ShortGlue, Span, Thing, short_amount, short_glue};
 use mt_rules::{Class, Delim, Kind, Limits, Look};
@@ -83,6 +83,17 @@ fn put_atom(arena: &mut Arena, run: RunEnd, noad: Noad) -> Result<RunEnd, AllocE
         last: Some(noad),
         ..run
     })
+}
+
+/// Puts the atom of a math code, with the current family, to the run of items in which it is read.
+#[inline(always)]
+pub fn put_symbol(arena: &mut Arena, run: RunEnd, code: u16) -> Result<RunEnd, AllocError>
+    requires { KeptLast arena.old.closed run.last }
+    ensures is { IfOk result (Puts arena.old arena.new run (give.Atom (symbol_noad run.family code))) }
+    ensures last { IfOk result (λ next. KeptLast arena.new.closed next.last) }
+{
+    let noad = symbol_noad(run.family, code);
+    put_atom(arena, run, noad)
 }
 
 // The thin space at a side of a table.

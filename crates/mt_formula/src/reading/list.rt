@@ -36,10 +36,12 @@ use crate::reading::argument::{
     ArgumentEnd, ScriptArgument, after_superscript, argument_here, primes,
 };
 use crate::reading::context::{Grammar, Group};
-use crate::reading::ends::{Ending, ListStop, after_first, is_at_middle, list_ends, list_stop};
+use crate::reading::ends::{
+    Ending, ListStop, after_first, front_code, is_at_middle, list_ends, list_stop,
+};
 use crate::reading::fraction::{FractionHead, fraction_head, fraction_thing};
 use crate::reading::given::{
-    Given, RunEnd, nucleus_given, plain_given, put_given, root_given, table_given,
+    Given, RunEnd, nucleus_given, plain_given, put_given, put_symbol, root_given, table_given,
 };
 use crate::reading::noads::{plain_noad, prime_noad};
 use crate::reading::parts::{begin_primes, cell_list, cell_start};
@@ -76,6 +78,12 @@ fn read_run<'a, T, R: Roles<T>>(
     };
     let mut rest = tokens;
     loop {
+        // Most tokens are symbols: what one does is read off its math code, without its role.
+        if let Some(code) = front_code(grammar.roles, rest) {
+            run = put_symbol(arena, run, code)?;
+            rest = after_first(grammar.roles, rest);
+            continue;
+        }
         let here = group.with_family(run.family);
         let action = action_here(grammar, here, &run.last, rest)?;
         if let Action::Stop = action.value {

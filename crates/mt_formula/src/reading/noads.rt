@@ -6,11 +6,11 @@ ghost use Rattle.mt_arena.specs.Arena.{Held};
 ghost use Rattle.mt_arena.specs.declared.thing.Cell.TheVariants.{Sym};
 ghost use Rattle.mt_scan.specs.Role.{nucleus_kind};
 ghost use Rattle.mt_formula.specs.Atoms.{is_bare_ord, is_accent_kind, is_free, is_op};
-ghost use Rattle.mt_formula.specs.reading.Noads.{bare_noad, last_in, limited, noad_in, noad_with};
+ghost use Rattle.mt_formula.specs.reading.Noads.{bare_noad, last_in, limited, noad_in, noad_with, symbol_noad};
 
 use mt_arena::{Cell, Noad};
 use mt_rules::{Class, Kind, Limits, Symbol};
-use mt_scan::{FieldKind, Side};
+use mt_scan::{FieldKind, Side, class_of, code_symbol};
 
 /// The kind of an atom with a nucleus of this kind.
 pub fn kind_of(kind: FieldKind) -> Kind
@@ -45,6 +45,15 @@ pub fn plain_noad(kind: Kind, nucleus: Cell) -> Noad
         sup: Cell::Empty,
         sub: Cell::Empty,
     }
+}
+
+/// The atom of a math code, where this family is current.
+pub fn symbol_noad(family: Option<u8>, code: u16) -> Noad
+    ensures { result ≡ symbol_noad family code }
+{
+    let code = u32::from(code);
+    let symbol = code_symbol(family, code);
+    plain_noad(Kind::Plain(class_of(code)), Cell::Sym(symbol))
 }
 
 /// The atom of a prime (plain TeX's `\prime`).

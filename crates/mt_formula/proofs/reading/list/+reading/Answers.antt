@@ -16,7 +16,7 @@ use Rattle.mt_formula.proofs.Completing.{fraction_fails, fraction_lists, fractio
 use Rattle.mt_formula.proofs.Rowing.{later_at_fault, row_pushed, rows_end, rows_left, rows_on, rows_start, rows_start_fails}
 use Rattle.mt_formula.proofs.Tabling.{cell_reader, cells_on, cells_pushed, cells_start, ends_unless, row_of_cells_fails, table_end, table_on, table_start}
 use Rattle.mt_formula.proofs.Bounding.{boundary_pushed, boundary_read, bounded_field, middle_between, segment_between, segment_joined, segments_end, segments_left, segments_on, segments_start}
-use Rattle.mt_formula.proofs.Running.{action_fails, fault_same, given_fails, run_ends, run_on, run_start}
+use Rattle.mt_formula.proofs.Running.{action_fails, fault_same, given_fails, run_ends, run_on, run_on_symbol, run_start}
 use Rattle.mt_formula.proofs.reading.list.+reading.Goals as goal
 
 pub read_after_primes-returns-clause-is : goal.read_after_primes-returns-clause-is
@@ -241,8 +241,8 @@ read_rows-returns-clause-is g t c =
 pub read_rows-returns-clause-lists : goal.read_rows-returns-clause-lists
 read_rows-returns-clause-lists g t c = subst (λ hs. RowsLists (as_rows hs)) (sym c.in_ok-close.ensures.is) (rows_lists _ c.in_ok-close.ensures.lists)
 
-pub read_run-loop-action-init : goal.read_run-loop-action-init
-read_run-loop-action-init g t c =
+pub read_run-loop-code-init : goal.read_run-loop-code-init
+read_run-loop-code-init g t c =
     let codes = g.R.Roles.codes c.args.grammar.roles.now in
     let token = g.R.Lexicon.token c.args.grammar.roles.now in
     record {
@@ -251,21 +251,32 @@ read_run-loop-action-init g t c =
       falls = omega arith;
     }
 
+pub read_run-loop-code-preserved-in-Some : goal.read_run-loop-code-preserved-in-Some
+read_run-loop-code-preserved-in-Some g t c =
+    let codes = g.R.Roles.codes c.args.grammar.roles.now in
+    let token = g.R.Lexicon.token c.args.grammar.roles.now in
+    record {
+      so_far = rw (c.after_first-rest.ensures.is) (run_on_symbol codes c.args.grammar.units c.args.group.level _ c.args.arena.now c.loop-code.arena c.put_symbol.new.arena c.loop-code.run c.in_ok-run.run' (map token c.loop-code.rest.now) c.in-Some.code c.loop-code.invariant.so_far
+          (sym c.front_code.ensures ∙ c.in-Some.is) c.loop-code.invariant.last c.in_ok-run.ensures.is);
+      last = c.in_ok-run.ensures.last;
+      falls = omega (arith, c.after_first-rest.ensures.falls, c.loop-code.invariant.falls);
+    }
+
 pub read_run-returns-in_err-action-clause-is : goal.read_run-returns-in_err-action-clause-is
 read_run-returns-in_err-action-clause-is g t c =
     let codes = g.R.Roles.codes c.args.grammar.roles.now in
     let token = g.R.Lexicon.token c.args.grammar.roles.now in
-    let p = err_from_is_err_and c.from_residual.result c.from_residual.ensures.1 in
+    let p = err_from_is_err_and c.from_residual-in_err-action.result c.from_residual-in_err-action.ensures.1 in
     let f : Fits w64 c.in_err-action.field-0.0.left = search rules in
-    rw (p.1, p.2) (action_fails codes c.args.grammar.units c.args.group.level _ c.args.arena.now c.loop-action.arena c.loop-action.run (map token c.loop-action.rest.now) c.in_err-action.field-0.0 c.loop-action.invariant.so_far
-    (rw (c.with_family-here.ensures.level, c.with_family-here.ensures.family) at (c.in_err-action.ensures.is c.loop-action.arena.closed)) (omega (arith, f)))
+    rw (p.1, p.2) (action_fails codes c.args.grammar.units c.args.group.level _ c.args.arena.now c.loop-code.arena c.loop-code.run (map token c.loop-code.rest.now) c.in_err-action.field-0.0 c.loop-code.invariant.so_far
+    (rw (c.with_family-here.ensures.level, c.with_family-here.ensures.family) at (c.in_err-action.ensures.is c.loop-code.arena.closed)) (omega (arith, f)))
 
 pub read_run-returns-in-Stop-clause-is : goal.read_run-returns-in-Stop-clause-is
 read_run-returns-in-Stop-clause-is g t c =
     let codes = g.R.Roles.codes c.args.grammar.roles.now in
     let token = g.R.Lexicon.token c.args.grammar.roles.now in
-    run_ends codes c.args.grammar.units c.args.group.level _ c.args.arena.now c.loop-action.arena c.loop-action.run (map token c.loop-action.rest.now) _ c.in_ok-action.action.value c.loop-action.invariant.so_far
-    (rw (c.with_family-here.ensures.level, c.with_family-here.ensures.family) at (c.in_ok-action.ensures.is c.loop-action.arena.closed)) c.in-Stop.is
+    run_ends codes c.args.grammar.units c.args.group.level _ c.args.arena.now c.loop-code.arena c.loop-code.run (map token c.loop-code.rest.now) _ c.in_ok-action.action.value c.loop-code.invariant.so_far
+    (rw (c.with_family-here.ensures.level, c.with_family-here.ensures.family) at (c.in_ok-action.ensures.is c.loop-code.arena.closed)) c.in-Stop.is
 
 pub read_run-returns-in_err-given : goal.read_run-returns-in_err-given
 read_run-returns-in_err-given g t c =
@@ -273,8 +284,8 @@ read_run-returns-in_err-given g t c =
     let token = g.R.Lexicon.token c.args.grammar.roles.now in
     let p = err_from_is_err_and c.from_residual-in_err-given.result c.from_residual-in_err-given.ensures.1 in
     rw (p.1, p.2) (record {
-      is = given_fails codes c.args.grammar.units c.args.group.level _ c.args.arena.now c.loop-action.arena c.loop-action.run (map token c.loop-action.rest.now) _ c.in_ok-action.action.value c.loop-action.invariant.so_far
-          (rw (c.with_family-here.ensures.level, c.with_family-here.ensures.family) at (c.in_ok-action.ensures.is c.loop-action.arena.closed)) _
+      is = given_fails codes c.args.grammar.units c.args.group.level _ c.args.arena.now c.loop-code.arena c.loop-code.run (map token c.loop-code.rest.now) _ c.in_ok-action.action.value c.loop-code.invariant.so_far
+          (rw (c.with_family-here.ensures.level, c.with_family-here.ensures.family) at (c.in_ok-action.ensures.is c.loop-code.arena.closed)) _
           (rw (c.with_family-here.ensures.level, c.with_family-here.ensures.family) at c.in_err-given.ensures.is);
       last = tt;
       falls = tt;
@@ -283,20 +294,20 @@ read_run-returns-in_err-given g t c =
 pub read_run-put_given-requires : goal.read_run-put_given-requires
 read_run-put_given-requires g t c =
     record {
-      last = kept_last_later _ _ c.loop-action.run.last c.in_ok-given.ensures.is.0.front c.loop-action.invariant.last;
+      last = kept_last_later _ _ c.loop-code.run.last c.in_ok-given.ensures.is.0.front c.loop-code.invariant.last;
       given = c.in_ok-given.ensures.kept;
     }
 
-pub read_run-loop-action-preserved : goal.read_run-loop-action-preserved
-read_run-loop-action-preserved g t c =
+pub read_run-loop-code-preserved : goal.read_run-loop-code-preserved
+read_run-loop-code-preserved g t c =
     let codes = g.R.Roles.codes c.args.grammar.roles.now in
     let token = g.R.Lexicon.token c.args.grammar.roles.now in
     record {
-      so_far = run_on codes c.args.grammar.units c.args.group.level _ c.args.arena.now c.loop-action.arena c.loop-action.run (map token c.loop-action.rest.now) _ c.in_ok-action.action.value c.loop-action.invariant.so_far
-          (rw (c.with_family-here.ensures.level, c.with_family-here.ensures.family) at (c.in_ok-action.ensures.is c.loop-action.arena.closed)) _ _ c.in_ok-run.run' c.in_ok-given.given.value _ c.loop-action.invariant.last c.in_ok-given.ensures.is.0
-          (rw (c.with_family-here.ensures.level, c.with_family-here.ensures.family) at c.in_ok-given.ensures.is.1) c.in_ok-run.ensures.is;
-      last = c.in_ok-run.ensures.last;
-      falls = omega (arith, c.in_ok-given.ensures.falls, c.in_ok-action.ensures.falls, c.loop-action.invariant.falls);
+      so_far = run_on codes c.args.grammar.units c.args.group.level _ c.args.arena.now c.loop-code.arena c.loop-code.run (map token c.loop-code.rest.now) _ c.in_ok-action.action.value c.loop-code.invariant.so_far
+          (rw (c.with_family-here.ensures.level, c.with_family-here.ensures.family) at (c.in_ok-action.ensures.is c.loop-code.arena.closed)) _ _ c.in_ok-run-2.run' c.in_ok-given.given.value _ c.loop-code.invariant.last c.in_ok-given.ensures.is.0
+          (rw (c.with_family-here.ensures.level, c.with_family-here.ensures.family) at c.in_ok-given.ensures.is.1) c.in_ok-run-2.ensures.is;
+      last = c.in_ok-run-2.ensures.last;
+      falls = omega (arith, c.in_ok-given.ensures.falls, c.in_ok-action.ensures.falls, c.loop-code.invariant.falls);
     }
 
 pub read_table_rows-loop-step-init : goal.read_table_rows-loop-step-init

@@ -85,8 +85,8 @@ decreases-read_primes g l = 20 * length l.tokens.now + 5
 abbrev pub decreases-read_given : goal.decreases-read_given
 decreases-read_given g l = 20 * length l.tokens.now + 10
 
-abbrev pub invariant-read_run-loop-action : goal.invariant-read_run-loop-action
-invariant-read_run-loop-action g l = record {
+abbrev pub invariant-read_run-loop-code : goal.invariant-read_run-loop-code
+invariant-read_run-loop-code g l = record {
   so_far : (more : List Held) × Adds l.fn.arena l.arena more
       × Below (items_before (as_sequence more) (whole_run (g.R.Roles.codes l.grammar.roles.now) l.grammar.units l.group.level l.run.family (last_in l.arena.closed l.run.last) (map (g.R.Lexicon.token l.fn.grammar.roles.now) l.rest)))
       (whole_run (g.R.Roles.codes l.fn.grammar.roles.now) l.fn.grammar.units l.fn.group.level l.fn.group.family (last_in l.fn.arena.closed l.fn.last) (map (g.R.Lexicon.token l.fn.grammar.roles.now) l.tokens));
@@ -94,8 +94,8 @@ invariant-read_run-loop-action g l = record {
   falls : length l.rest ≤ length l.tokens;
 }
 
-abbrev pub decreases-read_run-loop-action : goal.decreases-read_run-loop-action
-decreases-read_run-loop-action g l = length l.rest
+abbrev pub decreases-read_run-loop-code : goal.decreases-read_run-loop-code
+decreases-read_run-loop-code g l = length l.rest
 
 abbrev pub invariant-read_left_right-loop-end : goal.invariant-read_left_right-loop-end
 invariant-read_left_right-loop-end g l = record {
