@@ -8,12 +8,30 @@ mod Expanding
 mod PagesMoved
 -- what becomes of what was read, turn by turn
 mod DocumentLoop
+-- tokens with more tokens behind them
+mod Locality
+-- a turn by tokens with more behind them
+mod Ahead
+-- what a turn leaves are the last tokens
+mod Ending
+-- the words behind the first one
+mod SourceViews
+-- words that are read ahead
+mod AheadWords
+-- what becomes of a reader, word by word
+mod SourceLoop
+-- more words are read
+mod SourceMore
+-- what a turn leaves, counted
+mod CountedTurning
 -- what becomes of a formula
 mod Turning
 -- the bounds within which a reader reads on
 mod Going
 -- what holds of each formula of a document
 mod DocumentFormulas
+-- the document of a source, by its tokens or its fault
+mod SourceDocuments
 -- how many pages a document has
 mod Pages
 -- the tokens of a source

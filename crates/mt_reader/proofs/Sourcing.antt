@@ -1,9 +1,8 @@
--- The words of a source are those that its document is defined by.
+-- The words of a source are read as the tokens that its document is defined by.
 use Rattle.std.proofs.Common.{◌≡◌, ℕ, ◌<◌, ◌≤◌, List, [], ◌∷◌, length, map, Ok, refl, sym, ap, ◌∙◌, arith, true≢false}
 use Rattle.std.specs.Prelude.{Bool, true, false, nat_lt, Err, if◌then◌else◌}
 use Rattle.std.proofs.Math.Nat.{mod-eq_of_lt}
 use Rattle.std.proofs.lemmas.Bool.Decides.{nat_tests}
-use Rattle.std.proofs.lemmas.List.{append-nil}
 use Rattle.mt_token.specs.declared.token.TokenKind.{TokenKind}
 use Rattle.mt_token.specs.declared.token.TokenKind.TheVariants.{Control, Char, Space}
 use Rattle.mt_token.specs.declared.token.TokenError.{TokenError}
@@ -14,8 +13,7 @@ use Rattle.mt_token.specs.Tokens.{Spanned, Answer, lex, source_tokens, max_sourc
 use Rattle.mt_token.proofs.Same.{same_token}
 use Rattle.mt_lexicon.specs.declared.word.Word.{Word}
 use Rattle.mt_lexicon.specs.Meaning.{NameTable, ascii_of, kind_of, token_of as read_as}
-use Rattle.mt_lexicon.specs.Reading.{AreWordsOf, IsFault}
-use Rattle.mt_tables.specs.Reading.{AddsWords}
+use Rattle.mt_lexicon.specs.Reading.{AreWordsOf}
 use Rattle.mt_plain.specs.PlainMacros.{ascii_kind}
 use Rattle.mt_scaled.specs.declared.unit.Units.{Units}
 use Rattle.mt_plain.specs.CodeTables.{plain_codes}
@@ -32,16 +30,11 @@ word_same names w t e =
     let kind : kind_of names w.kind ≡ ascii_kind t.kind = sym (ascii_same (kind_of names w.kind) (ascii_of names w.kind w.ascii)) ∙ ap ascii_kind (sym e) in
     same_token (read_as names w) (word_token t) (ap (λ (k : TokenKind). let s : Spanned = record { kind = k; start = 0; end = 0 } in s) kind)
 
-words_same : (names : NameTable) (words : List Word) (list : List Spanned) → AreWordsOf names words list → map (read_as names) words ≡ map word_token list
+pub words_same : (names : NameTable) (words : List Word) (list : List Spanned) → AreWordsOf names words list → map (read_as names) words ≡ map word_token list
 words_same names [] [] h = refl
 words_same names [] (t ∷ ts) h = absurd h
 words_same names (w ∷ ws) [] h = absurd h
 words_same names (w ∷ ws) (t ∷ ts) h = ap (λ x. x ∷ map (read_as names) ws) (word_same names w t h.0.0) ∙ ap (λ xs. word_token t ∷ xs) (words_same names ws ts h.1)
-
--- the document of a source is that of its words
-pub words_document : (units : Units) (bytes : List ℕ) (names : NameTable) (words : List Word) → AddsWords names [] (source_tokens bytes) words (Ok []) → source_document units bytes ≡ document units plain_codes plain_words (map (read_as names) words)
-words_document units bytes names words h =
-    ap (document_by units) h.4 ∙ ap (document units plain_codes plain_words) (ap (map word_token) (append-nil h.1) ∙ (sym (words_same names h.0 h.1 h.3) ∙ ap (map (read_as names)) (sym h.2)))
 
 tested_lex : (b : Bool) (lexed : Answer) → b ≡ false → (if b then Err TooLong else lexed) ≡ lexed
 tested_lex true lexed e = absurd (true≢false e)
@@ -58,10 +51,3 @@ tested_long false lexed e = absurd (true≢false (sym e))
 -- a source that is too long is refused
 pub too_long : (units : Units) (bytes : List ℕ) → max_source < length bytes → source_document units bytes ≡ Err (NotLexed TooLong)
 too_long units bytes h = ap (document_by units) (tested_long (nat_lt max_source (length bytes)) (lex New 0 0 bytes) (grind (arith, nat_tests)))
-
--- the first fault of a source refuses its document
-pub fault_refuses : (units : Units) (bytes : List ℕ) (e : TokenError) → (e ≡ OutOfMemory → ⊥) → IsFault e (source_tokens bytes) (source_tokens bytes) → source_document units bytes ≡ Err (NotLexed e)
-fault_refuses units bytes OutOfMemory never f = absurd (never refl)
-fault_refuses units bytes TooLong never f = absurd f
-fault_refuses units bytes (NotAscii n) never f = ap (document_by units) f.0
-fault_refuses units bytes (BadByte n) never f = ap (document_by units) f.0

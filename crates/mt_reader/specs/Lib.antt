@@ -26,9 +26,15 @@ pub mod Lent
 pub mod DocumentTurns
 -- what contracts see of what has been read
 pub mod Views
--- documents that are read page by page, from items of any kind and from words
-pub mod ItemReading
+-- the faults of a source whose rest is read
+pub mod SourceFaults
+-- documents that are read page by page
+pub mod SourceReading
 pub mod PageReading
+-- a turn, whatever tokens are behind those that it is taken from
+pub mod AheadTurns
+-- how many items it leaves
+pub mod CountedTurns
 -- what counts no turns is read or at fault
 pub mod Answered
 -- formulas whose lists are in an arena

@@ -1,18 +1,13 @@
 -- The document of a source, in plain TeX's codes and macros (`source_document`).
-use Rattle.std.specs.Prelude.{◌≡◌, ℕ, List, map, Result, Ok, Err}
-use Rattle.std.specs.declared.vec.Vec.{Vec}
-use Rattle.std.specs.Global.{Global}
+use Rattle.std.specs.Prelude.{ℕ, List, map, Ok, Err}
 use Rattle.mt_scaled.specs.declared.unit.Units.{Units}
 use Rattle.mt_token.specs.declared.token.Token.{Token}
 use Rattle.mt_token.specs.Tokens.{Spanned, Answer, source_tokens}
 use Rattle.mt_macro.specs.Placeless.{placeless, placeless_table}
 use Rattle.mt_macro.specs.Table.{Table}
-use Rattle.mt_lexicon.specs.declared.word.Word.{Word}
 use Rattle.mt_plain.specs.CodeTables.{plain_codes}
 use Rattle.mt_plain.specs.PlainMacros.{plain_table, token_of}
-use Rattle.mt_reader.specs.declared.document_error.DocError.{DocError}
 use Rattle.mt_reader.specs.Documents.{DocumentAnswer, NotLexed, document}
-use Rattle.mt_reader.specs.Refusals.{IsRefusal}
 
 -- A document is read from tokens at no place: no definition of documents looks at where in the source, in bytes, a token is,
 -- and a fault has the index of its token.
@@ -32,8 +27,3 @@ document_by units (Err cause) = Err (NotLexed cause)
 -- the pages of a source, or why it has none; units are the em and the ex
 abbrev pub source_document : Units → List ℕ → DocumentAnswer
 source_document units bytes = document_by units (source_tokens bytes)
-
--- the document of the source is that of the tokens that these words are read as, or it has none for this error
-abbrev pub AreSourceWords : (Word → Token) → Units → List ℕ → Result (Vec Word Global) DocError → Type 0
-AreSourceWords token units bytes (Ok words) = source_document units bytes ≡ document units plain_codes plain_words (map token words.items)
-AreSourceWords token units bytes (Err e) = IsRefusal e (source_document units bytes)

@@ -73,6 +73,7 @@ pub fn assign_math_code<'a, T, K: DocumentTables<T>>(
         (math_code_assignment (K.codes tables.old) (map (K.token tables.old) tokens.now)) }
     ensures macros { K.macros tables.new ≡ K.macros tables.old }
     ensures tokens { K.token tables.new ≡ K.token tables.old }
+    ensures names { K.names tables.new ≡ K.names tables.old }
     ensures falls { IfOk result (λ rest. length rest.now ≤ length tokens.now) }
 {
     let character = number_to(&*tables, MAX_CHARACTER, tokens)?;
@@ -91,6 +92,7 @@ pub fn assign_delcode<'a, T, K: DocumentTables<T>>(
         (delcode_assignment (K.codes tables.old) (map (K.token tables.old) tokens.now)) }
     ensures macros { K.macros tables.new ≡ K.macros tables.old }
     ensures tokens { K.token tables.new ≡ K.token tables.old }
+    ensures names { K.names tables.new ≡ K.names tables.old }
     ensures falls { IfOk result (λ rest. length rest.now ≤ length tokens.now) }
 {
     let character = number_to(&*tables, MAX_CHARACTER, tokens)?;

@@ -1,7 +1,8 @@
 //! What has been read of a document.
 ghost use Rattle.std.specs.Prelude.{◌≡◌, ◌≤◌, ◌<◌, ◌+◌, ◌-◌, ◌^◌, ◌==◌, ◌&&◌, ◌↔◌};
-ghost use Rattle.std.specs.Prelude.{length, map, true, IfOk, OnOk, OnErr, IsTrue};
+ghost use Rattle.std.specs.Prelude.{[], length, map, true, false, IfErr, IfOk, OnOk, OnErr, IsTrue, Ok};
 ghost use Rattle.mt_scaled.specs.Number.{Within};
+ghost use Rattle.mt_token.specs.Tokens.{max_source};
 ghost use Rattle.mt_macro.specs.Definition.{define, Answers};
 ghost use Rattle.mt_macro.specs.Expansion.{Expanded, ExpandsTo, expansion};
 ghost use Rattle.mt_macro.specs.Table.{Table};
@@ -12,19 +13,24 @@ ghost use Rattle.mt_reader.specs.Documents.{start_state, is_page_limit};
 ghost use Rattle.mt_reader.specs.DocumentTurns.{AddsTo, state_of, SetsTables, TakesPage, changes_macros};
 ghost use Rattle.mt_reader.specs.Limits.{max_total_tokens};
 ghost use Rattle.mt_reader.specs.Naming.{control_name, is_control};
-ghost use Rattle.mt_reader.specs.Views.{state_view};
+ghost use Rattle.mt_reader.specs.SourceFaults.{IsFaultAhead};
+ghost use Rattle.mt_reader.specs.SourceReading.{IsLast, ReadsMore};
+ghost use Rattle.mt_reader.specs.Views.{held_view, source_view, state_view};
 ghost use Rattle.mt_macro.specs.Limits.{max_tokens};
 
 use crate::arena_page::ArenaPage;
 use crate::assignments::{assign_delcode, assign_math_code};
 use crate::definitions::MacroDefinition;
+use crate::document_error::DocError;
 use crate::document_tables::DocumentTables;
 use crate::expanded_items::ExpandedItems;
+use crate::word_source::WordSource;
 use mt_formula::ReadError;
 use mt_macro::items::expands_to_itself;
 use mt_macro::{ExpandError, MacroError};
 use mt_scaled::Units;
 use mt_scan::Fault;
+use mt_tables::Tables;
 use std::alloc::Global;
 use std::mem;
 
@@ -110,6 +116,7 @@ impl<K> DocumentState<K> {
         ensures others { state_of (state_view K.codes K.macros self.new)
             ≡ changes_macros (state_of (state_view K.codes K.macros self.old)) (K.macros self.new.tables) }
         ensures tokens { K.token self.new.tables ≡ K.token self.old.tables }
+        ensures names { K.names self.new.tables ≡ K.names self.old.tables }
         ensures ended { self.new.ended ≡ self.old.ended }
     {
         self.tables
@@ -124,6 +131,7 @@ impl<K> DocumentState<K> {
             (state_of (state_view K.codes K.macros self.new))
             (math_code_assignment (K.codes self.old.tables) (map (K.token self.old.tables) tokens.now)) }
         ensures ended { self.new.ended ≡ self.old.ended }
+        ensures names { K.names self.new.tables ≡ K.names self.old.tables }
         ensures falls { IfOk result (λ rest. length rest.now ≤ length tokens.now) }
     {
         assign_math_code(&mut self.tables, tokens)
@@ -137,6 +145,7 @@ impl<K> DocumentState<K> {
             (state_of (state_view K.codes K.macros self.new))
             (delcode_assignment (K.codes self.old.tables) (map (K.token self.old.tables) tokens.now)) }
         ensures ended { self.new.ended ≡ self.old.ended }
+        ensures names { K.names self.new.tables ≡ K.names self.old.tables }
         ensures falls { IfOk result (λ rest. length rest.now ≤ length tokens.now) }
     {
         assign_delcode(&mut self.tables, tokens)
@@ -207,5 +216,27 @@ impl<K> DocumentState<K> {
         self.count = number;
         self.total = total;
         Ok(())
+    }
+}
+
+impl DocumentState<Tables> {
+    /// Reads more words of a source by the tables, which get their names. The answer is whether one was left.
+    ///
+    /// # Errors
+    ///
+    /// Those of [`WordSource::more`].
+    pub fn read_more(&mut self, source: &mut WordSource<'_>) -> Result<bool, DocError>
+        requires { (source_view source.old).passed + length (source_view source.old).words ≤ max_source }
+        ensures is { OnOk result (ReadsMore self.old.tables.names self.new.tables.names
+            (source_view source.old) (source_view source.new)) }
+        ensures fault { IfErr result (λ e. IsFaultAhead e (source_view source.old).behind) }
+        ensures some { IfOk result (λ some. IsTrue some
+            → length (source_view source.old).words < length (source_view source.new).words) }
+        ensures none { IfOk result (λ some. some ≡ false → IsLast (source_view source.old) (source_view source.new)) }
+        ensures falls { IfOk result (λ some. IsTrue some
+            → (source_view source.new).unread < (source_view source.old).unread) }
+        ensures state { held_view self.new ≡ held_view self.old }
+    {
+        source.more(&mut self.tables)
     }
 }

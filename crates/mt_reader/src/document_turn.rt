@@ -8,6 +8,8 @@ ghost use Rattle.mt_reader.specs.Documents.{after_definition, after_assignment, 
 ghost use Rattle.mt_reader.specs.Documents.{after_expansion, formula_turn, is_page_limit, turn_by};
 ghost use Rattle.mt_macro.specs.Expansion.{Expanded, expansion};
 ghost use Rattle.mt_formula.specs.Formulas.{reading};
+ghost use Rattle.mt_reader.specs.AheadTurns.{IsFormulaFound, MeetsSome, SameWhereNone, SpendsSome};
+ghost use Rattle.mt_reader.specs.Dollars.{between_dollars};
 ghost use Rattle.mt_reader.specs.DocumentTurns.{state_of, MeetsTurn, Spends, ReadsOne};
 ghost use Rattle.mt_reader.specs.DocumentTurns.{ends_page, expand_error, read_error};
 ghost use Rattle.mt_reader.specs.Limits.{max_total_tokens};
@@ -41,6 +43,20 @@ pub enum AfterTurn<'a, T> {
     Ended,
 }
 
+impl<T> AfterTurn<'_, T> {
+    ghost use Rattle.mt_reader.specs.AheadTurns.{left_items};
+
+    /// How many items are left; `None` where the document ends.
+    pub fn left(self) -> Option<usize>
+        ensures { result ≡ left_items self.entry }
+    {
+        match self {
+            AfterTurn::Left(rest) => Some(rest.len()),
+            AfterTurn::Ended => None,
+        }
+    }
+}
+
 // A fault outside of formulas, where so many of the source's tokens are left.
 fn outside<K>(state: &DocumentState<K>, whole: usize, cause: OutsideCause, left: usize) -> DocError
     requires count { state.now.count < 2 ^ 32 - 1 }
@@ -54,7 +70,7 @@ fn outside<K>(state: &DocumentState<K>, whole: usize, cause: OutsideCause, left:
     }
 }
 
-// A fault at the token before these, which are the last of the source.
+// A fault at the token before these, where so many tokens of the source are read with these.
 fn outside_before<T, K>(
     state: &DocumentState<K>,
     whole: usize,
@@ -86,6 +102,7 @@ fn definition_turn<'a, T, K: DocumentTables<T>>(
         (definition_answered (map (K.token state.old.tables) tokens.now))) }
     ensures spends { Spends (K.token state.new.tables) result (state_view K.codes K.macros state.old)
         (state_view K.codes K.macros state.new) (map (K.token state.old.tables) tokens.now) }
+    ensures names { K.names state.new.tables ≡ K.names state.old.tables }
 {
     match macro_definition(state.tables(), tokens) {
         Ok(part) => match state.define(&part.value) {
@@ -114,6 +131,7 @@ fn math_code_turn<'a, T, K: DocumentTables<T>>(
         (math_code_answered (K.codes state.old.tables) (map (K.token state.old.tables) tokens.now))) }
     ensures spends { Spends (K.token state.new.tables) result (state_view K.codes K.macros state.old)
         (state_view K.codes K.macros state.new) (map (K.token state.old.tables) tokens.now) }
+    ensures names { K.names state.new.tables ≡ K.names state.old.tables }
 {
     match state.assign_math_code(tokens) {
         Ok(rest) => Ok(AfterTurn::Left(rest)),
@@ -138,6 +156,7 @@ fn delcode_turn<'a, T, K: DocumentTables<T>>(
         (delcode_answered (K.codes state.old.tables) (map (K.token state.old.tables) tokens.now))) }
     ensures spends { Spends (K.token state.new.tables) result (state_view K.codes K.macros state.old)
         (state_view K.codes K.macros state.new) (map (K.token state.old.tables) tokens.now) }
+    ensures names { K.names state.new.tables ≡ K.names state.old.tables }
 {
     match state.assign_delcode(tokens) {
         Ok(rest) => Ok(AfterTurn::Left(rest)),
@@ -186,6 +205,7 @@ fn read_expanded<'a, T, K: DocumentTables<T>>(
         (reading (K.codes state.old.tables) units display (map (K.token state.old.tables) list.now))) }
     ensures reads { ReadsOne (K.token state.new.tables) result (state_view K.codes K.macros state.old)
         (state_view K.codes K.macros state.new) display (map (K.token state.new.tables) rest.now) }
+    ensures names { K.names state.new.tables ≡ K.names state.old.tables }
 {
     let n = state.next_number();
     match state.add_formula(units, display, list, total) {
@@ -214,6 +234,7 @@ fn count_expanded<'a, T, K: DocumentTables<T>>(
         (Expanded (map (K.token state.old.tables) list.now))) }
     ensures reads { ReadsOne (K.token state.new.tables) result (state_view K.codes K.macros state.old)
         (state_view K.codes K.macros state.new) display (map (K.token state.new.tables) rest.now) }
+    ensures names { K.names state.new.tables ≡ K.names state.old.tables }
 {
     let total = state.total_with(list);
     if total > MAX_TOTAL_TOKENS {
@@ -244,6 +265,7 @@ fn formula_between<'a, T: Drop, K: DocumentTables<T>>(
         (expansion (K.macros state.old.tables) (map (K.token state.old.tables) taken.entry.argument.now))) }
     ensures reads { ReadsOne (K.token state.new.tables) result (state_view K.codes K.macros state.old)
         (state_view K.codes K.macros state.new) display (map (K.token state.new.tables) taken.entry.after.now) }
+    ensures names { K.names state.new.tables ≡ K.names state.old.tables }
 {
     if state.is_expanded(taken.argument) {
         return count_expanded(units, state, display, taken.argument, taken.after);
@@ -251,6 +273,42 @@ fn formula_between<'a, T: Drop, K: DocumentTables<T>>(
     match state.expand(expanded, taken.argument) {
         Ok(()) => count_expanded(units, state, display, expanded.items(), taken.after),
         Err(cause) => Err(expand_error(state.next_number(), cause)),
+    }
+}
+
+/// What becomes of `$` and the tokens after it; `None` where the formula does not end among them.
+pub fn formula_ahead<'a, T: Drop, K: DocumentTables<T>>(
+    units: Units,
+    state: &mut DocumentState<K>,
+    expanded: &mut ExpandedItems<T>,
+    tokens: &'a [T],
+) -> Result<Option<AfterTurn<'a, T>>, DocError>
+    requires em { Within (2 ^ 31) units.em }
+    requires ex { Within (2 ^ 31) units.ex }
+    requires count { state.old.count < 2 ^ 32 - 1 }
+    requires total { state.old.total ≤ max_total_tokens }
+    ensures is { (whole : ℕ) → MeetsSome (K.token state.new.tables) result
+        (state_view K.codes K.macros state.new) whole
+        (formula_turn units (state_of (state_view K.codes K.macros state.old))
+        (map (K.token state.old.tables) tokens.now)
+        (is_page_limit (state_of (state_view K.codes K.macros state.old)))) }
+    ensures found { IsFormulaFound result (is_page_limit (state_of (state_view K.codes K.macros state.old)))
+        (between_dollars (map (K.token state.old.tables) tokens.now)) }
+    ensures same { SameWhereNone result state.old state.new }
+    ensures spends { SpendsSome (K.token state.new.tables) result (state_view K.codes K.macros state.old)
+        (state_view K.codes K.macros state.new) (map (K.token state.old.tables) tokens.now) }
+    ensures names { K.names state.new.tables ≡ K.names state.old.tables }
+{
+    if state.is_page_limit() {
+        return Err(DocError::Pages(PAGE_TOO_MANY));
+    }
+    let display = begins_display(state.tables(), tokens);
+    match between_dollars(state.tables(), tokens) {
+        Some(taken) => match formula_between(units, state, expanded, display, taken) {
+            Ok(after) => Ok(Some(after)),
+            Err(error) => Err(error),
+        },
+        None => Ok(None),
     }
 }
 
@@ -275,19 +333,17 @@ fn formula_turn<'a, T: Drop, K: DocumentTables<T>>(
         (is_page_limit (state_of (state_view K.codes K.macros state.old)))) }
     ensures spends { Spends (K.token state.new.tables) result (state_view K.codes K.macros state.old)
         (state_view K.codes K.macros state.new) (map (K.token state.old.tables) tokens.now) }
+    ensures names { K.names state.new.tables ≡ K.names state.old.tables }
 {
-    if state.is_page_limit() {
-        return Err(DocError::Pages(PAGE_TOO_MANY));
-    }
-    let display = begins_display(state.tables(), tokens);
-    match between_dollars(state.tables(), tokens) {
-        Some(taken) => formula_between(units, state, expanded, display, taken),
-        None => Err(outside_before(state, whole, OutsideCause::OpenFormula, tokens)),
+    match formula_ahead(units, state, expanded, tokens) {
+        Ok(Some(after)) => Ok(after),
+        Ok(None) => Err(outside_before(state, whole, OutsideCause::OpenFormula, tokens)),
+        Err(error) => Err(error),
     }
 }
 
-/// What becomes of a token outside of formulas, by what it is, and of those after it, in a source of so many tokens.
-/// It ends no page.
+/// What becomes of a token outside of formulas, by what it is, and of those after it. So many tokens of the source are
+/// read with these. The token ends no page.
 pub fn document_turn<'a, T: Drop, K: DocumentTables<T>>(
     units: Units,
     state: &mut DocumentState<K>,
@@ -309,6 +365,7 @@ pub fn document_turn<'a, T: Drop, K: DocumentTables<T>>(
         (map (K.token state.old.tables) tokens.now) role) }
     ensures spends { Spends (K.token state.new.tables) result (state_view K.codes K.macros state.old)
         (state_view K.codes K.macros state.new) (map (K.token state.old.tables) tokens.now) }
+    ensures names { K.names state.new.tables ≡ K.names state.old.tables }
 {
     match role {
         OutsideRole::Passed => Ok(AfterTurn::Left(tokens)),

@@ -3,6 +3,7 @@
 
 mod arena_page;
 mod assignments;
+mod counted_turn;
 mod definitions;
 mod document_error;
 mod document_state;
@@ -12,23 +13,22 @@ mod documents;
 mod dollars;
 mod expanded_items;
 mod formula_search;
-mod item_reader;
 mod laws;
 mod outside_cause;
 mod outside_role;
 mod page_reader;
+mod source_faults;
 mod token_tables;
+mod turn_ahead;
+mod word_source;
 mod word_tables;
-mod words;
 
 pub use arena_page::{ArenaPage, PageFormula};
 pub use document_error::DocError;
 pub use document_tables::DocumentTables;
 pub use documents::read_document;
 pub use formula_search::{FormulaWanted, SourceFormula, find_formula};
-pub use item_reader::ItemReader;
 pub use laws::{tokens_are_a_document_or_refused, turns_of_a_document_are_enough};
 pub use mt_formula::{ReadError, read_formula};
 pub use outside_cause::OutsideCause;
 pub use page_reader::PageReader;
-pub use words::source_words;

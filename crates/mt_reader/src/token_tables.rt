@@ -63,6 +63,11 @@ impl Roles<Token> for TokenTables {
     }
 
     #[inline]
+    fn symbol_code(&self, item: &Token) -> Option<u16> {
+        self.codes.symbol_code(item)
+    }
+
+    #[inline]
     fn delcode(&self, c: u8) -> Option<u32> {
         self.codes.delcode(c)
     }
@@ -92,6 +97,10 @@ impl Bodies<Token> for TokenTables {
 }
 
 impl DocumentTables<Token> for TokenTables {
+    ghost use Rattle.std.specs.Prelude.{[]};
+
+    ghost names = { λ _. [] };
+
     fn define(&mut self, name: &Token, params: u8, body: &[Token]) -> Result<(), MacroError> {
         match &name.kind {
             TokenKind::Control(name) => self.macros.define(name, params, body),

@@ -5,6 +5,8 @@ use mt_macro::MacroError;
 use mt_tables::Tables;
 
 impl DocumentTables<Word> for Tables {
+    ghost names = { λ tables. tables.names };
+
     fn define(&mut self, name: &Word, params: u8, body: &[Word]) -> Result<(), MacroError> {
         Tables::define(self, *name, params, body)
     }
