@@ -34,8 +34,8 @@ unfoldable pub use Rattle.mt_plain.specs.CodeTables.{plain_codes}
 unfoldable pub use Rattle.mt_plain.specs.PlainMacros.{plain_table}
 pub use Rattle.mt_reader.specs.Documents.{DocumentAnswer, TooManyTokens, TooManyPages, DocumentState, DocumentTurn, Goes, Ends, Stops, StopsOutside, after_assignment, after_definition, after_expansion, after_reading, formula_in, formula_turn, is_page_limit, outside_role, start_state, turn_answer, turn_by, with_table, document}
 unfoldable pub use Rattle.mt_reader.specs.Documents.{pages_from}
-pub use Rattle.mt_reader.specs.PageReading.{CanGoOn, GoesOn, IsBounded, IsNextPage, IsReadOf, left_to_read, pages_ended, pages_view}
-pub use Rattle.mt_reader.specs.Views.{ReaderView}
+pub use Rattle.mt_reader.specs.PageReading.{CanGoOn, GoesOn, IsBounded, IsNextPage, IsReadOf, left_to_read, pages_ended}
+pub use Rattle.mt_reader.specs.Views.{ReaderView, pages_view}
 pub use Rattle.mt_reader.specs.Sources.{plain_words, word_token}
 pub use Rattle.mt_reader.specs.Weights.{formula_weight, page_weight, HasModestLists}
 pub use Rattle.mt_rules.specs.DisplayRows.{EquationLayout, centred_row, equation_row, equation_rows, equations_axis, margin, number_place, stacked_rows}

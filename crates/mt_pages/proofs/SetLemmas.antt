@@ -1,18 +1,26 @@
 -- Pages that are set and placed one after another, with the first fault held back.
-use Rattle.std.proofs.Common.{◌≡◌, ℕ, ◌+◌, ◌≤◌, false, List, [], ◌∷◌, ◌++◌, length, refl, sym, ◌∙◌, ap, subst, arith, ℤ, Option, Some, None, Result, Ok, Err, All, IfSome, nat_lt}
-use Rattle.mt_pages.proofs.Common.{All-append, All-cons, All-nil, append-nil, count_by-le-length, ◌>>=◌, Token, SetValue, units_of, Place, max_dvi_pages, max_places, IsWritable, all_places, plain_codes, plain_words, Formula, document, CanGoOn, GoesOn, IsBounded, IsNextPage, IsReadOf, left_to_read, pages_ended, pages_view, ReaderView, document_from, document_of, document_pages, source_pages, is_glyph_place, is_rule_place, IsPure, Origin, PureBy, Status, pure_err}
+use Rattle.std.proofs.Common.{◌≡◌, ℕ, ◌+◌, ◌≤◌, false, List, [], ◌∷◌, ◌++◌, length, map, refl, sym, ◌∙◌, ap, subst, arith, ℤ, Option, Some, None, Result, Ok, Err, All, IfSome, nat_lt}
+use Rattle.mt_pages.proofs.Common.{All-append, All-cons, All-nil, append-nil, count_by-le-length, ◌>>=◌, Token, SetValue, units_of, Place, max_dvi_pages, max_places, IsWritable, all_places, Formula, CanGoOn, GoesOn, IsBounded, IsNextPage, IsReadOf, left_to_read, pages_ended, pages_view, ReaderView, document_from, document_of, document_pages, source_pages, is_glyph_place, is_rule_place, IsPure, Origin, PureBy, Status, pure_err}
 use Rattle.std.proofs.lemmas.Bool.Decides.{nat_tests}
 use Rattle.std.proofs.lemmas.List.{append_assoc, length-append}
 use Rattle.mt_dvi.specs.FileOf.{CanTake, IsFileOf}
 use Rattle.mt_dvi.specs.Refusal.{refusal_of}
 use Rattle.mt_dvi.specs.declared.file.DviFile.{DviFile}
 use Rattle.mt_scaled.specs.declared.unit.Units.{Units}
-use Rattle.mt_reader.specs.ItemReading as reading
+use Rattle.mt_reader.specs.PageReading.{IsBeforeFault, fault_ahead}
+use Rattle.mt_reader.specs.Refusals.{IsRefusal}
+use Rattle.mt_reader.specs.SourceReading as reading
+use Rattle.mt_reader.specs.Sources.{document_by, word_token}
+use Rattle.mt_reader.specs.Documents.{NotLexed}
+use Rattle.mt_reader.specs.declared.document_error.DocError.{DocError}
+use Rattle.mt_reader.specs.declared.document_error.DocError.TheVariants.{Source, Outside, Expand, Read, Total, Pages, OutOfMemory as NoDocumentMemory}
+use Rattle.mt_token.specs.Tokens.{Answer, Spanned, fault_of, source_tokens}
+use Rattle.mt_token.specs.declared.token.TokenError.{TokenError}
 use Rattle.mt_reader.specs.declared.page_reader.PageReader.{PageReader}
 use Rattle.mt_pages.specs.inner.Texts.{AreCountsOf, HasRoom}
 use Rattle.mt_pages.specs.declared.summaries.Counts.{Counts}
 use Rattle.mt_pages.specs.inner.Added.{AreFit, CanAdd}
-use Rattle.mt_pages.specs.inner.SetPages.{AreFormulasOf, ArePagesOf, AreTokensOf, GoesOnAfter, IsNextOf, SetsPage, IsTold, KeepsPlaces, count_places, end_of, rest_after, rest_pages, append_page}
+use Rattle.mt_pages.specs.inner.SetPages.{AreFormulasOf, ArePagesOf, GoesOnAfter, IsNextOf, IsReadAs, IsReadFrom, SetsPage, IsTold, KeepsPlaces, count_places, end_of, rest_after, rest_pages, append_page}
 use Rattle.mt_pages.specs.declared.pages.FirstFault.{FirstFault}
 use Rattle.mt_pages.specs.declared.pages.FirstFault.TheVariants.{Nothing, Place as HeldPlace, Setting as HeldSetting}
 use Rattle.mt_pages.specs.declared.pages.PageSetter.{PageSetter}
@@ -23,10 +31,8 @@ use Rattle.mt_pages.proofs.PageLemmas.{all_places_length}
 
 module _ (set : SetValue) (width : ℤ) (source : List ℕ) where
   -- nothing is read
-  pub are_none : (tokens : List Token) (s : PageSetter) → AreTokensOf set source tokens → IsReadOf (units_of set) tokens [] s.reader → s.room ≡ max_places → s.held ≡ Nothing → ArePagesOf set width source [] s
-  are_none tokens s same reader room held = record {
-    tokens = tokens;
-    same = same;
+  pub are_none : (s : PageSetter) → IsReadFrom set source [] s.reader → s.room ≡ max_places → s.held ≡ Nothing → ArePagesOf set width source [] s
+  are_none s reader room held = record {
     read = [];
     reader = reader;
     is = λ rest.
@@ -46,15 +52,13 @@ module _ (set : SetValue) (width : ℤ) (source : List ℕ) where
   with_room pages (Some places) room new full less = omega (arith, full, less, all_places_length pages places)
 
   -- one page more
-  pub are_more : (tokens : List Token) (pages : List (List Place)) (read : List (List Formula)) (page : List Formula) (old mid new : PageSetter) (places : Option (List Place)) → AreTokensOf set source tokens
+  pub are_more : (pages : List (List Place)) (read : List (List Formula)) (page : List Formula) (old mid new : PageSetter) (places : Option (List Place))
       → ((rest : List (List Formula)) → document_pages set width (read ++ rest) ≡ rest_after set width pages old.room old.held rest) → IsTold old.held → length pages ≤ pages_ended old.reader → length (all_places pages) + old.room ≡ max_places
-      → IsReadOf (units_of set) tokens (read ++ page ∷ []) mid.reader → pages_ended mid.reader ≡ pages_ended old.reader + 1 → KeepsPlaces old mid → SetsPage set width page mid new places → pages_view new.reader ≡ pages_view mid.reader
+      → IsReadFrom set source (read ++ page ∷ []) mid.reader → pages_ended mid.reader ≡ pages_ended old.reader + 1 → KeepsPlaces old mid → SetsPage set width page mid new places → pages_view new.reader ≡ pages_view mid.reader
       → ArePagesOf set width source (append_page pages places) new
-  are_more tokens pages read page old mid new places same is told few room reader ended keeps done kept = record {
-    tokens = tokens;
-    same = same;
+  are_more pages read page old mid new places is told few room reader ended keeps done kept = record {
     read = read ++ page ∷ [];
-    reader = subst (λ (v : ReaderView). reading.IsReadOf (units_of set) tokens (read ++ page ∷ []) v) (sym kept) reader;
+    reader = subst (λ (v : ReaderView). IsReadAs (units_of set) (source_tokens source) (read ++ page ∷ []) v) (sym kept) reader;
     is = λ rest.
         ap (document_pages set width) (append_assoc read (page ∷ []) rest)
         ∙ (is (page ∷ rest)
@@ -66,11 +70,11 @@ module _ (set : SetValue) (width : ℤ) (source : List ℕ) where
   }
 
   -- no page more
-  pub are_all : (pages : List (List Place)) (s : PageSetter) (are : ArePagesOf set width source pages s) → document (units_of set) plain_codes plain_words are.tokens ≡ Ok are.read
+  pub are_all : (pages : List (List Place)) (s : PageSetter) (are : ArePagesOf set width source pages s) → document_of set source ≡ Ok are.read
       → source_pages set width source ≡ rest_after set width pages s.room s.held []
   unfolding source_pages
   are_all pages s are all =
-      ap (λ (d : Result (List (List Formula)) Status). d >>= document_pages set width) (are.same ∙ ap document_from all)
+      ap (λ (d : Result (List (List Formula)) Status). d >>= document_pages set width) all
       ∙ (ap (document_pages set width) (sym (append-nil are.read)) ∙ are.is [])
 
   end_by : (pages : List (List Place)) (room : ℕ) (held : FirstFault) (new : PageSetter) → IsTold held → source_pages set width source ≡ rest_after set width pages room held [] → IsNextOf set width source pages new (end_of held)
@@ -79,26 +83,55 @@ module _ (set : SetValue) (width : ℤ) (source : List ℕ) where
   end_by pages room (HeldSetting status) new told is = subst (λ (o : Origin). PureBy o (source_pages set width source ≡ Err status)) (sym told) is
 
   -- the end, or the fault that was held back
-  pub next_end : (pages : List (List Place)) (s new : PageSetter) (result : Result (Option (List Place)) Status) (are : ArePagesOf set width source pages s) → document (units_of set) plain_codes plain_words are.tokens ≡ Ok are.read
+  pub next_end : (pages : List (List Place)) (s new : PageSetter) (result : Result (Option (List Place)) Status) (are : ArePagesOf set width source pages s) → document_of set source ≡ Ok are.read
       → result ≡ end_of s.held → IsNextOf set width source pages new result
   next_end pages s new result are all ends = subst (λ (r : Result (Option (List Place)) Status). IsNextOf set width source pages new r) (sym ends) (end_by pages s.room s.held new are.told (are_all pages s are all))
 
-  -- the document is refused
-  pub next_err : (pages : List (List Place)) (s : PageSetter) (status : Status) (are : ArePagesOf set width source pages s) → IsPure (document_from (document (units_of set) plain_codes plain_words are.tokens)) (Err status)
-      → IsPure (source_pages set width source) (Err status)
-  unfolding source_pages
-  next_err pages s status are is =
-      pure_err (document_of set source) (document_pages set width) status (subst (λ (d : Result (List (List Formula)) Status). IsPure d (Err status)) (sym are.same) is)
+-- ---- the formulas of the next page
 
-formulas_ok_by : (set : SetValue) (tokens : List Token) (read : List (List Formula)) (new : PageSetter) (page : Option (List Formula)) → IsNextPage (units_of set) tokens read new.reader (Ok page) → AreFormulasOf set tokens read new (Ok page)
-formulas_ok_by set tokens read new (Some page) is = is
-formulas_ok_by set tokens read new None is = is.0
+-- where nothing is read
+pub start_read : (units : Units) (answer : Answer) (r : ReaderView) → ((list : List Spanned) → answer ≡ Ok list → reading.IsReadOf units (map word_token list) [] r) → reading.fault_ahead r ≡ fault_of answer → IsReadAs units answer [] r
+start_read units (Ok list) r is fault = is list refl
+start_read units (Err cause) r is fault = fault
 
-pub formulas_ok : (set : SetValue) (units : Units) (tokens : List Token) (read : List (List Formula)) (old new : PageSetter) (reader : PageReader) (page : Option (List Formula)) → units ≡ units_of set → reader ≡ new.reader
-    → (IsReadOf units tokens read old.reader → IsNextPage units tokens read reader (Ok page)) → IsReadOf (units_of set) tokens read old.reader → AreFormulasOf set tokens read new (Ok page)
-formulas_ok set units tokens read old new reader page same kept is r =
-    let at : IsReadOf (units_of set) tokens read old.reader → IsNextPage (units_of set) tokens read reader (Ok page) = subst (λ (u : Units). IsReadOf u tokens read old.reader → IsNextPage u tokens read reader (Ok page)) same is in
-    formulas_ok_by set tokens read new page (subst (λ (x : PageReader). IsNextPage (units_of set) tokens read x (Ok page)) kept (at r))
+-- a page more, or the document is read
+abbrev IsNextRead : Units → Answer → List (List Formula) → ReaderView → Option (List Formula) → Type 0
+IsNextRead units answer read new (Some page) = IsReadAs units answer (read ++ page ∷ []) new
+IsNextRead units answer read new None = document_by units answer ≡ Ok read
+
+next_read : (units : Units) (answer : Answer) (read : List (List Formula)) (old new : ReaderView) (page : Option (List Formula)) → ((tokens : List Token) → (read : List (List Formula)) → reading.IsReadOf units tokens read old → reading.IsNextPage units tokens read new (Ok page))
+    → ((cause : TokenError) → reading.fault_ahead old ≡ Some cause → reading.IsBeforeFault cause new (Ok page)) → IsReadAs units answer read old → IsNextRead units answer read new page
+next_read units (Ok list) read old new (Some page) is fault r = is (map word_token list) read r
+next_read units (Ok list) read old new None is fault r = (is (map word_token list) read r).0
+next_read units (Err cause) read old new (Some page) is fault r = fault cause r
+next_read units (Err cause) read old new None is fault r = absurd (fault cause r)
+
+formulas_by : (set : SetValue) (source : List ℕ) (read : List (List Formula)) (new : PageSetter) (page : Option (List Formula)) → IsNextRead (units_of set) (source_tokens source) read (pages_view new.reader) page → AreFormulasOf set source read new (Ok page)
+formulas_by set source read new (Some page) is = is
+formulas_by set source read new None is = ap document_from is
+
+pub formulas_ok : (set : SetValue) (units : Units) (source : List ℕ) (read : List (List Formula)) (old new : PageSetter) (reader : PageReader) (page : Option (List Formula)) → units ≡ units_of set → reader ≡ new.reader
+    → ((tokens : List Token) → (read : List (List Formula)) → IsReadOf units tokens read old.reader → IsNextPage units tokens read reader (Ok page))
+    → ((cause : TokenError) → fault_ahead old.reader ≡ Some cause → IsBeforeFault cause reader (Ok page)) → IsReadFrom set source read old.reader → AreFormulasOf set source read new (Ok page)
+formulas_ok set units source read old new reader page same kept is fault r =
+    let at : (tokens : List Token) → (read : List (List Formula)) → IsReadOf (units_of set) tokens read old.reader → IsNextPage (units_of set) tokens read reader (Ok page) = subst (λ (u : Units). (tokens : List Token) → (read : List (List Formula)) → IsReadOf u tokens read old.reader → IsNextPage u tokens read reader (Ok page)) same is in
+    formulas_by set source read new page
+    (subst (λ (x : PageReader). IsNextRead (units_of set) (source_tokens source) read (pages_view x) page) kept (next_read (units_of set) (source_tokens source) read (pages_view old.reader) (pages_view reader) page at fault r))
+
+fault_refused : (cause : TokenError) (e : DocError) → reading.IsFaultOf cause e → IsRefusal e (Err (NotLexed cause))
+fault_refused cause (Source x) same = ap (λ (c : TokenError). Err (NotLexed c)) (sym same)
+fault_refused cause (Outside n place x) same = absurd same
+fault_refused cause (Expand n x) same = absurd same
+fault_refused cause (Read n x) same = absurd same
+fault_refused cause (Total n count) same = absurd same
+fault_refused cause (Pages count) same = absurd same
+fault_refused cause NoDocumentMemory same = tt
+
+-- the document is refused
+pub refused_read : (units : Units) (answer : Answer) (read : List (List Formula)) (old new : ReaderView) (e : DocError) → ((tokens : List Token) → (read : List (List Formula)) → reading.IsReadOf units tokens read old → reading.IsNextPage units tokens read new (Err e))
+    → ((cause : TokenError) → reading.fault_ahead old ≡ Some cause → reading.IsBeforeFault cause new (Err e)) → IsReadAs units answer read old → IsRefusal e (document_by units answer)
+refused_read units (Ok list) read old new e is fault r = is (map word_token list) read r
+refused_read units (Err cause) read old new e is fault r = fault_refused cause e (fault cause r)
 
 pub kept_at : (set : SetValue) (w v : ℤ) (old new : PageSetter) → w ≡ v → ((source : List ℕ) → (pages : List (List Place)) → ArePagesOf set w source pages old → ArePagesOf set w source pages new)
     → (source : List ℕ) → (pages : List (List Place)) → ArePagesOf set v source pages old → ArePagesOf set v source pages new
@@ -106,13 +139,13 @@ kept_at set w v old new e is = subst (λ (x : ℤ). (source : List ℕ) → (pag
 
 -- a page is read and set
 pub are_set : (set : SetValue) (w v : ℤ) (source : List ℕ) (pages : List (List Place)) (page : List Formula) (old mid new : PageSetter) (found : Option (List Formula)) (got places : Option (List Place)) → w ≡ v
-    → ArePagesOf set v source pages old → found ≡ Some page → ((tokens : List Token) → (read : List (List Formula)) → IsReadOf (units_of set) tokens read old.reader → AreFormulasOf set tokens read mid (Ok found))
+    → ArePagesOf set v source pages old → found ≡ Some page → ((source : List ℕ) → (read : List (List Formula)) → IsReadFrom set source read old.reader → AreFormulasOf set source read mid (Ok found))
     → GoesOn old.reader mid.reader (Ok found) → KeepsPlaces old mid → SetsPage set w page mid new got → got ≡ places → pages_view new.reader ≡ pages_view mid.reader → ArePagesOf set v source (append_page pages places) new
 are_set set w v source pages page old mid new found got places e are some formulas more keeps done is kept =
-    let reader : IsReadOf (units_of set) are.tokens (are.read ++ page ∷ []) mid.reader = subst (λ (o : Option (List Formula)). AreFormulasOf set are.tokens are.read mid (Ok o)) some (formulas are.tokens are.read are.reader) in
+    let reader : IsReadFrom set source (are.read ++ page ∷ []) mid.reader = subst (λ (o : Option (List Formula)). AreFormulasOf set source are.read mid (Ok o)) some (formulas source are.read are.reader) in
     let bounded : IsBounded old.reader mid.reader page = subst (λ (o : Option (List Formula)). GoesOn old.reader mid.reader (Ok o)) some more in
     let at : SetsPage set v page mid new places = subst (λ (x : ℤ). SetsPage set x page mid new places) e (subst (λ (o : Option (List Place)). SetsPage set w page mid new o) is done) in
-    are_more set v source are.tokens pages are.read page old mid new places are.same are.is are.told are.few are.room reader bounded.ended keeps at kept
+    are_more set v source pages are.read page old mid new places are.is are.told are.few are.room reader bounded.ended keeps at kept
 
 pub record GoesOnIn (first new : PageSetter) : Type 0 where
   pub more : CanGoOn new.reader

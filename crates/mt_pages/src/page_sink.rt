@@ -6,12 +6,12 @@ ghost use Rattle.mt_pages.specs.LineWidth.{IsLineWidth};
 ghost use Rattle.mt_pages.specs.Pages.{source_pages};
 ghost use Rattle.mt_pages.specs.inner.Added.{AddsPages, CanAdd};
 
-use crate::document::words_of;
 use crate::pages::PageSetter;
 use mt_box::PlaceList;
 use mt_family::FontSet;
 use mt_status::Status;
 use mt_tables::Tables;
+use mt_token::MAX_SOURCE;
 use std::alloc::{AllocError, Global};
 
 /// What is made of pages that are added one after another.
@@ -30,7 +30,7 @@ pub trait PageSink {
 ///
 /// # Errors
 ///
-/// The first fault of the source, as [`words_of`] and [`PageSetter::next_page`] say.
+/// The first fault of the source, as [`PageSetter::next_page`] says.
 pub fn add_pages<S: PageSink>(
     sink: &mut S,
     alloc: Global,
@@ -42,11 +42,14 @@ pub fn add_pages<S: PageSink>(
     requires none { S.HasPages fonts.now [] sink.old }
     ensures { AddsPages fonts.now (S.HasPages fonts.now) (source_pages fonts.now width source.now) result sink.new }
 {
-    let Ok(mut tables) = Tables::plain(alloc) else {
+    // Never: a source is no longer than its fetch allows.
+    if source.len() > MAX_SOURCE {
+        return Err(Status::OutOfMemory);
+    }
+    let Ok(tables) = Tables::plain(alloc) else {
         return Err(Status::OutOfMemory);
     };
-    let words = words_of(alloc, &mut tables, source)?;
-    let mut setter = PageSetter::new(alloc, tables, words.as_slice())?;
+    let mut setter = PageSetter::new(alloc, tables, source)?;
     while let Some(page) = setter.next_page(alloc, fonts, width)? {
         sink.add(fonts, page)?;
     }

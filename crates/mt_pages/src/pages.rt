@@ -1,22 +1,20 @@
 //! The pages of a source, one after another.
-ghost use Rattle.std.specs.Prelude.{◌≡◌, ◌≤◌, ◌^◌, [], All, IfOk, IfSome, List, Ok, Option, Result, length, map, ℕ, ℤ};
+ghost use Rattle.std.specs.Prelude.{◌≡◌, ◌≤◌, ◌^◌, [], All, IfOk, IfSome, List, Ok, Option, Result, length, ℕ, ℤ};
 ghost use Rattle.mt_family.specs.SetValue.{SetValue};
 ghost use Rattle.mt_box.specs.declared.place.Place.{Place as PlaceFields};
 ghost use Rattle.mt_dvi.specs.Writable.{IsWritable};
-ghost use Rattle.mt_family.specs.Sets.{units_of};
 ghost use Rattle.mt_token.specs.Tokens.{max_source};
-ghost use Rattle.mt_token.specs.declared.token.Token.{Token as TokenFields};
 ghost use Rattle.mt_plain.specs.CodeTables.{plain_codes};
-ghost use Rattle.mt_tables.specs.Held.{held_token};
 ghost use Rattle.mt_rules.specs.declared.document.Formula.{Formula};
-ghost use Rattle.mt_reader.specs.PageReading.{CanGoOn, GoesOn, IsReadOf, pages_view};
+ghost use Rattle.mt_reader.specs.PageReading.{CanGoOn, GoesOn};
 ghost use Rattle.mt_reader.specs.Sources.{plain_words};
+ghost use Rattle.mt_reader.specs.Views.{pages_view};
 ghost use Rattle.mt_reader.specs.Weights.{HasModestLists, page_weight};
 ghost use Rattle.mt_pages.specs.Pages.{PageLinesValue, no_lines, page_lines, page_places, stack_refusal};
 ghost use Rattle.mt_pages.specs.LineWidth.{IsLineWidth};
 ghost use Rattle.mt_pages.specs.inner.Lines.{IsPage, IsStackable, LinesHold};
 ghost use Rattle.mt_pages.specs.inner.Placed.{IsToldAnswer};
-ghost use Rattle.mt_pages.specs.inner.SetPages.{AreFormulasOf, ArePagesOf, AreTokensOf, GoesOnAfter, IsNextOf};
+ghost use Rattle.mt_pages.specs.inner.SetPages.{AreFormulasOf, ArePagesOf, GoesOnAfter, IsNextOf, IsReadFrom};
 ghost use Rattle.mt_pages.specs.inner.SetPages.{SetsPage, KeepsPlaces, end_of, is_nothing, is_setting};
 
 use crate::document::document_refusal;
@@ -25,7 +23,6 @@ use mt_box::PlaceList;
 use mt_display::StackError;
 use mt_dvi::MAX_PLACES;
 use mt_family::FontSet;
-use mt_lexicon::Word;
 use mt_reader::{ArenaPage, PageReader};
 use mt_status::{Much, Status};
 use mt_tables::Tables;
@@ -107,7 +104,7 @@ pub struct PageSetter<'a> {
 }
 
 impl<'a> PageSetter<'a> {
-    /// The pages that these words make under plain TeX's tables. None of them is read yet.
+    /// The pages of a source of at most 4,194,304 bytes, under plain TeX's tables. None of them is read yet.
     ///
     /// # Errors
     ///
@@ -115,17 +112,17 @@ impl<'a> PageSetter<'a> {
     pub fn new(
         alloc: Global,
         tables: Tables,
-        words: &'a [Word],
+        source: &'a [u8],
     ) -> Result<PageSetter<'a>, AllocError>
         requires codes { tables.codes ≡ plain_codes }
         requires macros { tables.macros ≡ plain_words }
-        requires few { length words.now ≤ max_source }
-        ensures is { IfOk result (λ setter. (fonts : SetValue) → (width : ℤ) → (source : List ℕ)
-            → AreTokensOf fonts source (map (held_token tables) words.now) → ArePagesOf fonts width source [] setter) }
+        requires few { length source.now ≤ max_source }
+        ensures is { IfOk result (λ setter. (fonts : SetValue) → (width : ℤ)
+            → ArePagesOf fonts width source.now [] setter) }
         ensures more { IfOk result (λ setter. CanGoOn setter.reader) }
     {
         Ok(PageSetter {
-            reader: PageReader::new(alloc, tables, words),
+            reader: PageReader::new(alloc, tables, source),
             room: MAX_PLACES,
             held: FirstFault::Nothing,
             lines: PageLines::new(alloc)?,
@@ -208,9 +205,9 @@ impl<'a> PageSetter<'a> {
     // The formulas of the next page.
     fn formulas(&mut self, alloc: Global, fonts: &FontSet) -> Result<Option<ArenaPage>, Status>
         requires more { CanGoOn self.old.reader }
-        ensures is { (tokens : List TokenFields) → (read : List (List Formula))
-            → IsReadOf (units_of fonts.now) tokens read self.old.reader
-            → AreFormulasOf fonts.now tokens read self.new result }
+        ensures is { (source : List ℕ) → (read : List (List Formula))
+            → IsReadFrom fonts.now source read self.old.reader
+            → AreFormulasOf fonts.now source read self.new result }
         ensures keeps { KeepsPlaces self.old self.new }
         ensures more { IfOk result (λ (page : Option (List Formula)). GoesOn self.old.reader self.new.reader (Ok page)) }
     {
@@ -236,13 +233,15 @@ impl<'a> PageSetter<'a> {
     ///
     /// # Errors
     ///
-    /// The first fault of the document, in the order of the source: `BadFormula` for a token outside of formulas (causes
-    /// 31 to 36), a macro of a formula without an argument (21) and a token at which a formula cannot be read on (1 to 10
-    /// and 13); `Budget` for a formula whose macros do not come to an end, and where the formulas have too many tokens
-    /// together; `TooDeep` where too many groups of a formula are open; `TooMuch` pages, at the formula that would begin
-    /// one. Where all formulas are read, the first fault of setting them, as [`page_lines`] says. Where all are set, the
-    /// first of these, page by page and in the order of the places: `Overflow` with a coordinate that is out of range,
-    /// and the number of its formula; `TooMuch` at place 2,000,001. `OutOfMemory` where memory ran out.
+    /// `BadSource` at the first byte of the source that is not ASCII (cause 1) or is not allowed where it is (cause 2),
+    /// wherever that is; pages before it may come first. Where there is none, the first fault of the document, in the
+    /// order of the source: `BadFormula` for a token outside of formulas (causes 31 to 36), a macro of a formula
+    /// without an argument (21) and a token at which a formula cannot be read on (1 to 10 and 13); `Budget` for a
+    /// formula whose macros do not come to an end, and where the formulas have too many tokens together; `TooDeep`
+    /// where too many groups of a formula are open; `TooMuch` pages, at the formula that would begin one. Where all
+    /// formulas are read, the first fault of setting them, as [`page_lines`] says. Where all are set, the first of
+    /// these, page by page and in the order of the places: `Overflow` with a coordinate that is out of range, and the
+    /// number of its formula; `TooMuch` at place 2,000,001. `OutOfMemory` where memory ran out.
     pub fn next_page(
         &mut self,
         alloc: Global,

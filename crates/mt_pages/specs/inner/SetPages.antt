@@ -1,24 +1,22 @@
 -- Pages that are read, set and placed one after another (`ArePagesOf`), with the first fault held back.
 use Rattle.std.specs.Prelude.{◌≡◌, ℕ, ◌+◌, ◌≤◌, ◌<◌, ℤ, List, [], ◌∷◌, ◌++◌, length, map, All, Option, Some, None, Result, Ok, Err, ⊤, Bool, true, false}
-use Rattle.std.specs.declared.vec.Vec.{Vec}
-use Rattle.std.specs.Global.{Global}
 use Rattle.mt_scaled.specs.Results.{◌>>=◌}
-use Rattle.mt_token.specs.declared.token.Token.{Token}
+use Rattle.mt_scaled.specs.declared.unit.Units.{Units}
+use Rattle.mt_token.specs.Tokens.{Answer, source_tokens}
 use Rattle.mt_family.specs.SetValue.{SetValue}
 use Rattle.mt_family.specs.Sets.{units_of}
 use Rattle.mt_box.specs.declared.place.Place.{Place}
 use Rattle.mt_dvi.specs.Limits.{max_places}
 use Rattle.mt_dvi.specs.Writable.{IsWritable}
 use Rattle.mt_dvi.specs.WrittenPlaces.{all_places}
-use Rattle.mt_lexicon.specs.declared.word.Word.{Word}
-use Rattle.mt_plain.specs.CodeTables.{plain_codes}
-use Rattle.mt_tables.specs.Held.{Held, held_token}
 use Rattle.mt_rules.specs.declared.document.Formula.{Formula}
-use Rattle.mt_reader.specs.Documents.{document}
 use Rattle.mt_reader.specs.Limits.{max_document_pages}
-use Rattle.mt_reader.specs.PageReading.{CanGoOn, IsReadOf, left_to_read, pages_ended}
-use Rattle.mt_reader.specs.Sources.{plain_words}
-use Rattle.mt_pages.specs.Documents.{document_from, document_of}
+use Rattle.mt_reader.specs.PageReading.{CanGoOn, left_to_read, pages_ended}
+use Rattle.mt_reader.specs.SourceReading as reading
+use Rattle.mt_reader.specs.Sources.{word_token}
+use Rattle.mt_reader.specs.Views.{ReaderView, pages_view}
+use Rattle.mt_reader.specs.declared.page_reader.PageReader.{PageReader}
+use Rattle.mt_pages.specs.Documents.{document_of}
 use Rattle.mt_pages.specs.Pages.{document_lines, document_pages, source_pages}
 use Rattle.mt_pages.specs.inner.Placed.{PlacedValue, place_rest}
 use Rattle.mt_pages.specs.declared.pages.FirstFault.{FirstFault}
@@ -47,15 +45,14 @@ end_of Nothing = Ok None
 end_of (HeldPlace status) = Err status
 end_of (HeldSetting status) = Err status
 
--- the document of the source is that of these tokens
-abbrev pub AreTokensOf : SetValue → List ℕ → List Token → Type 0
-AreTokensOf fonts source tokens =
-    document_of fonts source ≡ document_from (document (units_of fonts) plain_codes plain_words tokens)
+-- these pages of the document of a source of these tokens were handed out; or the source has this fault of a token, which is ahead
+abbrev pub IsReadAs : Units → Answer → List (List Formula) → ReaderView → Type 0
+IsReadAs units (Ok list) read r = reading.IsReadOf units (map word_token list) read r
+IsReadAs units (Err cause) read r = reading.fault_ahead r ≡ Some cause
 
--- the document of the source is that of the tokens that these words are read as, or it has none
-abbrev pub AreWordsOf : SetValue → List ℕ → Held → Result (Vec Word Global) Status → Type 0
-AreWordsOf fonts source tables (Ok words) = AreTokensOf fonts source (map (held_token tables) words.items)
-AreWordsOf fonts source tables (Err status) = IsPure (document_of fonts source) (Err status)
+-- the same of the source
+abbrev pub IsReadFrom : SetValue → List ℕ → List (List Formula) → PageReader → Type 0
+IsReadFrom fonts source read r = IsReadAs (units_of fonts) (source_tokens source) read (pages_view r)
 
 -- the pages of a document that are left, after those that are placed
 abbrev pub rest_pages : SetValue → ℤ → Result PlacedValue Status → List (List Formula) → Result (List (List Place)) Status
@@ -67,22 +64,20 @@ rest_after set width pages room Nothing rest = rest_pages set width (Ok (record 
 rest_after set width pages room (HeldPlace status) rest = rest_pages set width (Err status) rest
 rest_after set width pages room (HeldSetting status) rest = Err status
 
--- these pages of the source were handed out
+-- these pages of the source were handed out; where it has a fault of a token, that is ahead
 pub record ArePagesOf (fonts : SetValue) (width : ℤ) (source : List ℕ) (pages : List (List Place)) (s : PageSetter) : Type 0 where
-  pub tokens : List Token
-  pub same : AreTokensOf fonts source tokens
   pub read : List (List Formula)
-  pub reader : IsReadOf (units_of fonts) tokens read s.reader
+  pub reader : IsReadFrom fonts source read s.reader
   pub is : (rest : List (List Formula)) → document_pages fonts width (read ++ rest) ≡ rest_after fonts width pages s.room s.held rest
   pub told : IsTold s.held
   pub few : length pages ≤ pages_ended s.reader
   pub room : length (all_places pages) + s.room ≡ max_places
 
 -- what a reader's next page is, or the refusal of the document
-abbrev pub AreFormulasOf : SetValue → List Token → List (List Formula) → PageSetter → Result (Option (List Formula)) Status → Type 0
-AreFormulasOf fonts tokens read new (Ok (Some page)) = IsReadOf (units_of fonts) tokens (read ++ page ∷ []) new.reader
-AreFormulasOf fonts tokens read new (Ok None) = document (units_of fonts) plain_codes plain_words tokens ≡ Ok read
-AreFormulasOf fonts tokens read new (Err status) = IsPure (document_from (document (units_of fonts) plain_codes plain_words tokens)) (Err status)
+abbrev pub AreFormulasOf : SetValue → List ℕ → List (List Formula) → PageSetter → Result (Option (List Formula)) Status → Type 0
+AreFormulasOf fonts source read new (Ok (Some page)) = IsReadFrom fonts source (read ++ page ∷ []) new.reader
+AreFormulasOf fonts source read new (Ok None) = document_of fonts source ≡ Ok read
+AreFormulasOf fonts source read new (Err status) = IsPure (document_of fonts source) (Err status)
 
 -- nothing but the reader changes
 pub record KeepsPlaces (old new : PageSetter) : Type 0 where

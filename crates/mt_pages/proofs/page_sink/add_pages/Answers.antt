@@ -1,16 +1,13 @@
-use Rattle.std.proofs.Common.{List, [], map, subst, sym, to_z-of_z, ◌∷◌, ◌++◌}
-use Rattle.mt_lexicon.specs.declared.word.Word.{Word}
-use Rattle.mt_tables.specs.Held.{held_token}
+use Rattle.std.proofs.Common.{[], to_z-of_z, ◌∷◌, ◌++◌}
 use Rattle.mt_pages.proofs.Common.{err_from_is_err_and}
-use Rattle.mt_pages.specs.inner.SetPages.{AreTokensOf}
-use Rattle.mt_pages.proofs.SetLemmas.{handed_out, next_none, next_refused, none_fit, source_err}
+use Rattle.mt_pages.proofs.SetLemmas.{handed_out, next_none, next_refused, none_fit}
 use Rattle.mt_pages.proofs.page_sink.add_pages.Goals as goal
 
 pub loop-setter-init : goal.loop-setter-init
 loop-setter-init g c = record {
   so_far = record {
     pages = [];
-    are = c.in_ok-setter.ensures.is c.args.fonts.now _ c.args.source.now (subst (λ (l : List Word). AreTokensOf c.args.fonts.now c.args.source.now (map (held_token c.words_of.new.tables) l)) (sym c.as_slice.ensures.value) (c.in_ok-words.ensures.is c.args.fonts.now));
+    are = c.in_ok-setter.ensures.is c.args.fonts.now _;
     fit = none_fit c.args.fonts.now;
     has = c.requires.none;
   };
@@ -22,11 +19,6 @@ add-requires g c =
     let so = c.loop-setter.invariant.so_far in
     let out = handed_out c.args.fonts.now _ c.args.source.now so.pages c.in-Some.page c.loop-setter.setter c.next_page.new.self c.in_ok-page.field-0 c.in-Some.is so.fit (c.in_ok-page.ensures.is c.args.source.now so.pages so.are) c.in_ok-page.ensures.more in
     record { pages = so.pages; has = so.has; writable = out.writable; fit = out.fit }
-
-pub returns-in_err-words : goal.returns-in_err-words
-returns-in_err-words g c =
-    let p = err_from_is_err_and c.from_residual.result c.from_residual.ensures.1 in
-    rw (p.1, p.2) (source_err c.args.fonts.now c.args.width c.args.source.now c.in_err-words.field-0.0 (c.in_err-words.ensures.is c.args.fonts.now))
 
 pub returns-in_err-page : goal.returns-in_err-page
 returns-in_err-page g c =

@@ -1,7 +1,7 @@
 use Rattle.std.proofs.Common.{ap, refl, subst, to_z-of_z, ◌∙◌, List, Option, Some, None, Ok}
 use Rattle.mt_pages.proofs.Common.{err_from_is_err_and, Formula}
 use Rattle.mt_pages.specs.inner.SetPages.{AreFormulasOf, end_of}
-use Rattle.mt_pages.proofs.SetLemmas.{are_set, go_set, kept_at, next_end, next_err}
+use Rattle.mt_pages.proofs.SetLemmas.{are_set, go_set, kept_at, next_end, source_err}
 use Rattle.mt_pages.proofs.pages.PageSetter.next_page.Goals as goal
 
 pub returns-in_err-page-clause-is : goal.returns-in_err-page-clause-is
@@ -9,7 +9,7 @@ returns-in_err-page-clause-is c =
     λ source pages are.
     let a = kept_at c.args.fonts.now _ c.args.width c.args.self.now c.loop-page.self (to_z-of_z c.ranges.width) c.loop-page.invariant.is source pages are in
     let p = err_from_is_err_and c.from_residual.result c.from_residual.ensures.1 in
-    rw (p.1, p.2) (next_err c.args.fonts.now c.args.width source pages c.loop-page.self c.in_err-page.field-0.0 a (c.in_err-page.ensures.is a.tokens a.read a.reader))
+    rw (p.1, p.2) (source_err c.args.fonts.now c.args.width source c.in_err-page.field-0.0 (c.in_err-page.ensures.is source a.read a.reader))
 
 pub returns-in-Some-2-clause-is : goal.returns-in-Some-2-clause-is
 returns-in-Some-2-clause-is c =
@@ -34,5 +34,5 @@ returns-clause-is c =
     λ source pages are.
     let a = kept_at c.args.fonts.now _ c.args.width c.args.self.now c.loop-page.self (to_z-of_z c.ranges.width) c.loop-page.invariant.is source pages are in
     next_end c.args.fonts.now c.args.width source pages c.loop-page.self _ c.end.result a
-    (subst (λ (o : Option (List Formula)). AreFormulasOf c.args.fonts.now a.tokens a.read c.formulas.new.self (Ok o)) c.in_default.is (c.in_ok-page.ensures.is a.tokens a.read a.reader))
+    (subst (λ (o : Option (List Formula)). AreFormulasOf c.args.fonts.now source a.read c.formulas.new.self (Ok o)) c.in_default.is (c.in_ok-page.ensures.is source a.read a.reader))
     (c.end.ensures ∙ ap end_of c.in_ok-page.ensures.keeps.held)
