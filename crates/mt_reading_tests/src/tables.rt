@@ -3,7 +3,7 @@ use mt_macro::{Bodies, Expander, MacroError};
 use mt_plain::Codes;
 use mt_scan::{Role, Roles};
 use mt_tables::Tables;
-use mt_token::{LentKind, Lexer, Lexicon};
+use mt_token::{LentKind, Lexer, Lexicon, TokenError};
 use std::alloc::Global;
 use std::test::Fail;
 
@@ -12,12 +12,7 @@ fn words_in(tables: &mut Tables, alloc: Global, source: &[u8]) -> Result<Vec<Wor
     let mut list = Vec::new(alloc);
     if source.len() < 100 {
         let mut lexer = Lexer::new(source);
-        for _ in 0..100 {
-            match tables.next_word(&mut lexer)? {
-                Some(word) => list.push(word)?,
-                None => return Ok(list),
-            }
-        }
+        tables.read_words(&mut lexer, &mut list, 100)?;
     }
     Ok(list)
 }
@@ -52,6 +47,26 @@ fn words_are_read_by_names(rt: HostRuntime) -> Result<(), Fail> {
     assert!(rt; words[1].kind == WordKind::Char(b'x'));
     assert!(rt; words[2].kind == WordKind::Name(0, 1));
     assert_eq!(rt; name_number(1, 2), 65_538);
+    Ok(())
+}
+
+#[test]
+fn words_are_read_in_parts(rt: HostRuntime) -> Result<(), Fail> {
+    let alloc = rt.alloc();
+    let mut tables = Tables::new(alloc, Codes::plain(alloc)?);
+    let mut lexer = Lexer::new(b"a\\b c^d%\n~");
+    let mut words = Vec::new(alloc);
+    tables.read_words(&mut lexer, &mut words, 3)?;
+    assert_eq!(rt; words.len(), 3);
+    assert_eq!(rt; lexer.offset(), 5);
+    assert!(rt; words[1].kind == WordKind::Name(0, 0));
+    tables.read_words(&mut lexer, &mut words, 2)?;
+    assert_eq!(rt; words.len(), 5);
+    assert!(rt; words[3].kind == WordKind::Char(b'^'));
+    assert!(rt; words[4].kind == WordKind::Char(b'd'));
+    let fault = tables.read_words(&mut lexer, &mut words, 1).err();
+    assert_eq!(rt; fault, Some(TokenError::BadByte(9)));
+    assert!(rt; tables.next_word(&mut lexer).is_err());
     Ok(())
 }
 

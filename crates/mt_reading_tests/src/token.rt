@@ -104,6 +104,17 @@ fn repeats_a_fault(rt: HostRuntime) -> Result<(), Fail> {
 }
 
 #[test]
+fn reads_plain_characters(rt: HostRuntime) -> Result<(), Fail> {
+    let mut lexer = Lexer::new(b"x^2^^");
+    assert_eq!(rt; lexer.plain_character(), Some(b'x'));
+    assert_eq!(rt; lexer.plain_character(), Some(b'^'));
+    assert_eq!(rt; lexer.plain_character(), Some(b'2'));
+    assert_eq!(rt; lexer.plain_character(), None);
+    assert_eq!(rt; lexer.offset(), 3);
+    Ok(())
+}
+
+#[test]
 fn reads_tokens_as_themselves(rt: HostRuntime) -> Result<(), Fail> {
     let alloc = rt.alloc();
     let list = tokens(alloc, b"\\alpha x ")?;
