@@ -129,20 +129,9 @@ pub too_long : (table : Table) (list : List Token) → max_tokens < length list
 too_long table list h =
     (λ f. absurd (true≢false (sym f)), λ e. let i = itself table list e in absurd (omega (arith, h, i.few)))
 
-pub with_macro : (table : Table) (list : List Token) (b : Bool) → b ≡ list_any (names_macro table) list → b ≡ true
-    → IsTrue (not b) ↔ (expansion table list ≡ Expanded list)
-with_macro table list true h e =
+pub by_macros : (table : Table) (list : List Token) (b : Bool) → length list ≤ max_tokens → first_unmatched 0 list ≡ None
+    → b ≡ list_any (names_macro table) list → IsTrue (not b) ↔ (expansion table list ≡ Expanded list)
+by_macros table list true few partners h =
     (λ f. absurd (true≢false (sym f)), λ g. let i = itself table list g in absurd (true≢false (h ∙ i.plain)))
-with_macro table list false h e = absurd (true≢false (sym e))
-
-pub by_braces : (table : Table) (list : List Token) (o : Option ℕ) (b : Bool) → length list ≤ max_tokens
-    → list_any (names_macro table) list ≡ false → o ≡ first_unmatched 0 list → is_some o ≡ not b
-    → IsTrue b ↔ (expansion table list ≡ Expanded list)
-by_braces table list None true few plain e k =
-    (λ t. to_itself table list (record { few = few; partners = sym e; plain = plain }), λ h. refl)
-by_braces table list None false few plain e k = absurd (true≢false (sym k))
-by_braces table list (Some index) true few plain e k = absurd (true≢false k)
-by_braces table list (Some index) false few plain e k = (
-  λ f. absurd (true≢false (sym f)),
-  λ h. let i = itself table list h in let no : Some index ≡ None = e ∙ i.partners in cc,
-)
+by_macros table list false few partners h =
+    (λ t. to_itself table list (record { few = few; partners = partners; plain = sym h }), λ g. refl)

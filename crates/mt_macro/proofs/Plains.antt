@@ -1,23 +1,20 @@
 -- Items that name no macro.
-use Rattle.std.proofs.Common.{◌≡◌, ℕ, zero, suc, ◌+◌, ◌-◌, ◌≤◌, Bool, true, false, List, [], ◌∷◌, ◌++◌, length, take, drop, map, get_or, refl, sym, ap, subst, ◌∙◌, arith, append_assoc, length-append}
-use Rattle.std.specs.Prelude.{Option, Some, None, is_some}
+use Rattle.std.proofs.Common.{◌≡◌, ℕ, zero, suc, ◌+◌, ◌-◌, ◌<◌, ◌≤◌, List, [], ◌∷◌, ◌++◌, length, take, drop, map, get_or, refl, sym, ap, subst, ◌∙◌, arith, append_assoc, length-append}
+use Rattle.std.specs.Prelude.{Some, None}
 use Rattle.std.proofs.lemmas.List.{append-nil}
 use Rattle.mt_token.specs.declared.token.Token.{Token}
-use Rattle.mt_macro.specs.declared.table.Macro.{Macro}
+use Rattle.mt_macro.specs.declared.bodies.Found.{Found}
+use Rattle.mt_macro.specs.declared.passing.PlainFront.{PlainFront}
 use Rattle.mt_macro.specs.declared.run.Run.{Run}
 use Rattle.mt_macro.specs.declared.stack.Rest.{Rest}
 use Rattle.mt_macro.specs.Table.{Table, macro_at}
-use Rattle.mt_macro.specs.Naming.{names_macro}
-use Rattle.mt_macro.specs.inner.Passing.{Plain, PushesPlain, PassesPlain}
+use Rattle.mt_macro.specs.Naming.{IsMacro}
+use Rattle.mt_macro.specs.inner.Passing.{Plain, StopsAt, PushesPlain, PassesPlain, PassesTo}
 use Rattle.mt_macro.specs.inner.Lengths.{IsBasic}
-use Rattle.mt_macro.specs.inner.Runs.{Sources, part, meanings, left, left_of, place_tokens, AreRuns, AreLeft, GivesRun}
+use Rattle.mt_macro.specs.inner.Runs.{Sources, part, run_tokens, meanings, left_of, place_tokens, AreLeft, GivesRun}
 use Rattle.mt_macro.proofs.Stacks.{basic_tokens, basic_bounds, part_split, part_size}
 use Rattle.mt_macro.proofs.Mapped.{mapped_front}
 use Rattle.mt_macro.proofs.Balances.{part_mapped}
-
-no_macro : (o : Option Macro) → is_some o ≡ false → o ≡ None
-no_macro None e = refl
-no_macro (Some m) e = absurd (let f : true ≡ false = e in cc)
 
 -- so many tokens are pushed, and these are left
 pub record Pushing (table : Table) (tokens : List Token) (count : ℕ) (rest out out' : List Token) : Type 0 where
@@ -34,74 +31,135 @@ plain_one : (table : Table) (ts : List Token) (t : Token) → Plain table ts →
 plain_one table [] t h e = (e, tt)
 plain_one table (u ∷ ts) t h e = (h.0, plain_one table ts t h.1 e)
 
-pub pushing_more : {T : Type 0} (f : T → Token) (table : Table) (tokens : List Token) (count : ℕ) (rest : List T) (x : T) (out out' out2 : List Token) (b : Bool)
-    → Pushing table tokens count (map f rest) out out' → 1 ≤ length rest → x ≡ get_or rest 0 x → b ≡ names_macro table (f x) → b ≡ false → out2 ≡ out' ++ f x ∷ []
+pub pushing_more : {T : Type 0} (f : T → Token) (table : Table) (tokens : List Token) (count : ℕ) (rest : List T) (x : T) (out out' out2 : List Token)
+    → Pushing table tokens count (map f rest) out out' → 1 ≤ length rest → x ≡ get_or rest 0 x → macro_at table (f x) ≡ None → out2 ≡ out' ++ f x ∷ []
     → Pushing table tokens (count + 1) (map f (take (length rest - 1) (drop 1 rest))) out out2
-pushing_more f table tokens count rest x out out' out2 b g h k n c o = record {
+pushing_more f table tokens count rest x out out' out2 g h k n o = record {
   pushed = g.pushed ++ f x ∷ [];
-  plain = plain_one table g.pushed (f x) g.plain (no_macro (macro_at table (f x)) (sym n ∙ c));
+  plain = plain_one table g.pushed (f x) g.plain n;
   is = o ∙ (ap (λ (ys : List Token). ys ++ f x ∷ []) g.is ∙ append_assoc out g.pushed (f x ∷ []));
   cut = g.cut ∙ (ap (λ (ys : List Token). g.pushed ++ ys) (mapped_front f rest x h k) ∙ sym (append_assoc g.pushed (f x ∷ []) _));
   size = omega (arith, g.size, length-append g.pushed (f x ∷ []));
 }
 
-take_front : (xs ys : List Token) (n : ℕ) → n ≡ length xs → take n (xs ++ ys) ≡ xs
-take_front [] ys zero h = refl
-take_front [] ys (suc n) h = absurd (omega (arith, h))
-take_front (x ∷ xs) ys zero h = absurd (omega (arith, h))
-take_front (x ∷ xs) ys (suc n) h = ap (λ (zs : List Token). x ∷ zs) (take_front xs ys n (omega (arith, h)))
+-- a macro is in front of those that are left
+pub pushing_stop : {T : Type 0} (f : T → Token) (table : Table) (body : ℕ → List Token) (tokens : List Token) (count : ℕ) (rest : List T) (x : T) (out out' : List Token) (found : Found)
+    → Pushing table tokens count (map f rest) out out' → 1 ≤ length rest → x ≡ get_or rest 0 x → IsMacro (macro_at table (f x)) found.params (body found.body)
+    → PushesPlain table body tokens (record { count = count; stop = Some found }) out out'
+pushing_stop f table body tokens count rest x out out' found g h k i = record {
+  pushed = g.pushed;
+  behind = f x ∷ map f (take (length rest - 1) (drop 1 rest));
+  plain = g.plain;
+  is = g.is;
+  cut = g.cut ∙ ap (λ (ys : List Token). g.pushed ++ ys) (mapped_front f rest x h k);
+  size = g.size;
+  stops = i;
+}
 
-pub pushing_end : (table : Table) (tokens : List Token) (count : ℕ) (rest out out' : List Token) → Pushing table tokens count rest out out' → PushesPlain table tokens count out out'
-pushing_end table tokens count rest out out' g =
-    let front : take count tokens ≡ g.pushed = ap (take count) g.cut ∙ take_front g.pushed rest count g.size in
-    record {
-      few = omega (arith, g.size, ap length g.cut, length-append g.pushed rest);
-      plain = subst (Plain table) (sym front) g.plain;
-      is = g.is ∙ ap (λ (ys : List Token). out ++ ys) (sym front);
-    }
+-- none is left
+pub pushing_end : (table : Table) (body : ℕ → List Token) (tokens : List Token) (count : ℕ) (rest out out' : List Token) → Pushing table tokens count rest out out' → rest ≡ []
+    → PushesPlain table body tokens (record { count = count; stop = None }) out out'
+pushing_end table body tokens count rest out out' g e = record {
+  pushed = g.pushed;
+  behind = rest;
+  plain = g.plain;
+  is = g.is;
+  cut = g.cut;
+  size = g.size;
+  stops = e;
+}
 
-take_twice : (i n : ℕ) (xs : List Token) → i ≤ n → take i (take n xs) ≡ take i xs
-take_twice zero n xs h = refl
-take_twice (suc i) zero xs h = absurd (omega (arith, h))
-take_twice (suc i) (suc n) [] h = refl
-take_twice (suc i) (suc n) (x ∷ xs) h = ap (λ (ys : List Token). x ∷ ys) (take_twice i n xs (omega (arith, h)))
+plain_both : (table : Table) (ts us : List Token) → Plain table ts → Plain table us → Plain table (ts ++ us)
+plain_both table [] us h k = k
+plain_both table (t ∷ ts) us h k = (h.0, plain_both table ts us h.1 k)
 
--- the tokens of a run up to the first macro are passed
-pub passes_run : {T : Type 0} (f : T → Token) (table : Table) (src : Sources) (parts : List Run) (before middle rest : Rest) (r : Run) (items all : List T) (count from : ℕ) (out out' : List Token)
+pub passes_none : (table : Table) (before out : List Token) → PassesPlain table before before out out
+passes_none table before out = record { passed = []; plain = tt; left = refl; is = sym (append-nil out) }
+
+-- more tokens are passed
+pub passes_more : (table : Table) (before middle after out out' out2 pushed : List Token) → PassesPlain table before middle out out' → Plain table pushed
+    → middle ≡ pushed ++ after → out2 ≡ out' ++ pushed → PassesPlain table before after out out2
+passes_more table before middle after out out' out2 pushed p h e o = record {
+  passed = p.passed ++ pushed;
+  plain = plain_both table p.passed pushed p.plain h;
+  left = p.left ∙ (ap (λ (x : List Token). p.passed ++ x) e ∙ sym (append_assoc p.passed pushed after));
+  is = o ∙ (ap (λ (x : List Token). x ++ pushed) p.is ∙ append_assoc out p.passed pushed);
+}
+
+-- the items of a run, and what is left after it
+pub run_items : {T : Type 0} (f : T → Token) (src : Sources) (parts : List Run) (before middle : Rest) (r : Run) (items all : List T)
     → GivesRun src parts before middle r → IsBasic r.place → map f all ≡ place_tokens src r.place → items ≡ part r.start r.end all
-    → PushesPlain table (map f items) count out out' → from ≡ r.start + count
-    → left_of src parts rest ≡ part from r.end (place_tokens src r.place) ++ left_of src parts middle
-    → PassesPlain table (left_of src parts before) (left_of src parts rest) out out'
-passes_run f table src parts before middle rest r items all count from out out' v b m i p z e =
+    → (map f items ≡ part r.start r.end (place_tokens src r.place)) × (left_of src parts before ≡ map f items ++ left_of src parts middle)
+run_items f src parts before middle r items all v b m i =
+    let tokens : map f items ≡ part r.start r.end (place_tokens src r.place) = ap (map f) i ∙ (part_mapped f r.start r.end all ∙ ap (part r.start r.end) m) in
+    (tokens, v.is ∙ ap (λ (x : List Token). x ++ left_of src parts middle) (basic_tokens src (meanings src parts) r b ∙ sym tokens))
+
+-- no macro is in a run
+pub passes_run : {T : Type 0} (f : T → Token) (table : Table) (src : Sources) (parts : List Run) (start before middle : Rest) (r : Run) (items all : List T) (front : PlainFront) (out out' out2 : List Token)
+    → PassesPlain table (left_of src parts start) (left_of src parts before) out out' → GivesRun src parts before middle r → IsBasic r.place
+    → map f all ≡ place_tokens src r.place → items ≡ part r.start r.end all → PushesPlain table src.body (map f items) front out' out2 → front.stop ≡ None
+    → PassesPlain table (left_of src parts start) (left_of src parts middle) out out2
+passes_run f table src parts start before middle r items all front out out' out2 g v b m i p n =
+    let run = run_items f src parts before middle r items all v b m i in
+    let none : p.behind ≡ [] = subst (StopsAt table src.body p.behind) n p.stops in
+    let cut : map f items ≡ p.pushed = p.cut ∙ (ap (λ (x : List Token). p.pushed ++ x) none ∙ append-nil p.pushed) in
+    passes_more table _ _ _ out out' out2 p.pushed g p.plain (run.1 ∙ ap (λ (x : List Token). x ++ left_of src parts middle) cut) p.is
+
+drop_front : (xs ys : List Token) (n : ℕ) → n ≡ length xs → drop n (xs ++ ys) ≡ ys
+drop_front [] ys zero h = refl
+drop_front [] ys (suc n) h = absurd (omega (arith, h))
+drop_front (x ∷ xs) ys zero h = absurd (omega (arith, h))
+drop_front (x ∷ xs) ys (suc n) h = drop_front xs ys n (omega (arith, h))
+
+-- a macro that begins tokens, and those after it
+pub record Begins (table : Table) (params : ℕ) (body behind : List Token) : Type 0 where
+  pub first : Token
+  pub after : List Token
+  pub cut : behind ≡ first ∷ after
+  pub is : IsMacro (macro_at table first) params body
+
+begins : (table : Table) (body : ℕ → List Token) (behind : List Token) (found : Found) → StopsAt table body behind (Some found) → Begins table found.params (body found.body) behind
+begins table body [] found h = absurd h
+begins table body (t ∷ ts) found h = record { first = t; after = ts; cut = refl; is = h }
+
+-- a macro in a run is taken
+pub takes_macro : {T : Type 0} (f : T → Token) (table : Table) (src : Sources) (parts : List Run) (start before middle rest : Rest) (r : Run) (items all : List T) (front : PlainFront) (found : Found) (from : ℕ) (out out' out2 : List Token)
+    → PassesPlain table (left_of src parts start) (left_of src parts before) out out' → GivesRun src parts before middle r → IsBasic r.place
+    → map f all ≡ place_tokens src r.place → items ≡ part r.start r.end all → PushesPlain table src.body (map f items) front out' out2 → front.stop ≡ Some found
+    → from ≡ r.start + front.count + 1 → left_of src parts rest ≡ part from r.end (place_tokens src r.place) ++ left_of src parts middle → AreLeft src parts rest
+    → PassesTo table src parts start rest out out2 found
+takes_macro f table src parts start before middle rest r items all front found from out out' out2 g v b m i p n z e l =
     let place = place_tokens src r.place in
     let bounds = basic_bounds src (meanings src parts) r b v.known in
-    let tokens : map f items ≡ part r.start r.end place = ap (map f) i ∙ (part_mapped f r.start r.end all ∙ ap (part r.start r.end) m) in
-    let size : length (map f items) ≡ r.end - r.start = ap length tokens ∙ part_size r.start r.end place (omega (arith, bounds.0)) bounds.1 in
-    let within : from ≤ r.end = omega (arith, z, p.few, size, bounds.0) in
-    let front : take count (map f items) ≡ part r.start from place = ap (take count) tokens ∙ (take_twice count (r.end - r.start) (drop r.start place) (omega (arith, p.few, size)) ∙ ap (λ n. take n (drop r.start place)) (let y : count ≡ from - r.start = omega (arith, z) in y)) in
+    let run = run_items f src parts before middle r items all v b m i in
+    let at = begins table src.body p.behind found (subst (StopsAt table src.body p.behind) n p.stops) in
+    let cut : map f items ≡ p.pushed ++ (at.first ∷ at.after) = p.cut ∙ ap (λ (x : List Token). p.pushed ++ x) at.cut in
+    let size : length (map f items) ≡ r.end - r.start = ap length run.0 ∙ part_size r.start r.end place (omega (arith, bounds.0)) bounds.1 in
+    let within : from ≤ r.end = omega (arith, z, p.size, size, ap length cut, length-append p.pushed (at.first ∷ at.after), bounds.0) in
+    let split : map f items ≡ part r.start from place ++ part from r.end place = run.0 ∙ part_split r.start from r.end place (omega (arith, z)) within bounds.1 in
+    let short : front.count + 1 ≡ length (part r.start from place) = omega (arith, z, part_size r.start from place (omega (arith, z)) (omega (arith, within, bounds.1))) in
+    let more : part from r.end place ≡ at.after =
+    sym (drop_front (part r.start from place) (part from r.end place) (front.count + 1) short)
+    ∙ (ap (drop (front.count + 1)) (sym split ∙ (cut ∙ sym (append_assoc p.pushed (at.first ∷ []) at.after)))
+    ∙ drop_front (p.pushed ++ at.first ∷ []) at.after (front.count + 1) (omega (arith, p.size, length-append p.pushed (at.first ∷ [])))) in
+    let left : left_of src parts rest ≡ at.after ++ left_of src parts middle = e ∙ ap (λ (x : List Token). x ++ left_of src parts middle) more in
     record {
-      passed = take count (map f items);
-      plain = p.plain;
-      left = v.is ∙ (ap (λ (x : List Token). x ++ left_of src parts middle) (basic_tokens src (meanings src parts) r b ∙ (part_split r.start from r.end place (omega (arith, z)) within bounds.1
-          ∙ ap (λ (x : List Token). x ++ part from r.end place) (sym front)))
-          ∙ (append_assoc (take count (map f items)) (part from r.end place) (left_of src parts middle) ∙ ap (λ (x : List Token). take count (map f items) ++ x) (sym e)));
-      is = p.is;
+      first = at.first;
+      passes = passes_more table _ _ _ out out' out2 p.pushed g p.plain
+          (run.1 ∙ (ap (λ (x : List Token). x ++ left_of src parts middle) cut ∙ (append_assoc p.pushed (at.first ∷ at.after) (left_of src parts middle)
+          ∙ ap (λ (x : List Token). p.pushed ++ (at.first ∷ x)) (sym left)))) p.is;
+      is = at.is;
+      below = l;
     }
 
--- nothing is left
-pub nothing_left : (src : Sources) (parts : List Run) (before rest : Rest) → AreLeft src parts before → rest.runs.items ≡ [] → rest.count ≡ 0 → AreLeft src parts rest
-nothing_left src parts before rest l e c =
-    let none : left_of src parts rest ≡ [] = ap (left src (meanings src parts)) e in
-    record {
-      parts_are = l.parts_are;
-      runs = subst (AreRuns src (meanings src parts)) (sym e) tt;
-      counted = omega (arith, c, ap length none);
-    }
+-- a run has tokens
+pub run_falls : (src : Sources) (parts : List Run) (before middle : Rest) (r : Run) → GivesRun src parts before middle r → IsBasic r.place
+    → length (left_of src parts middle) < length (left_of src parts before)
+run_falls src parts before middle r v b =
+    let place = place_tokens src r.place in
+    let bounds = basic_bounds src (meanings src parts) r b v.known in
+    omega (arith, bounds.0, ap length v.is, length-append (run_tokens src (meanings src parts) r) (left_of src parts middle), ap length (basic_tokens src (meanings src parts) r b), part_size r.start r.end place (omega (arith, bounds.0)) bounds.1)
 
-pub passes_none : (table : Table) (src : Sources) (parts : List Run) (before rest : Rest) (out : List Token) → left_of src parts before ≡ [] → rest.runs.items ≡ [] → PassesPlain table (left_of src parts before) (left_of src parts rest) out out
-passes_none table src parts before rest out n e = record {
-  passed = [];
-  plain = tt;
-  left = n ∙ sym (ap (left src (meanings src parts)) e);
-  is = sym (append-nil out);
-}
+-- tokens that are left are no more than those before
+pub passes_fewer : (table : Table) (before after out out' : List Token) → PassesPlain table before after out out' → length after ≤ length before
+passes_fewer table before after out out' p = omega (arith, ap length p.left, length-append p.passed after)

@@ -16,11 +16,6 @@ use Rattle.mt_macro.specs.Expansion.{NoArgument, at_last, further, within_budget
 use Rattle.mt_macro.specs.inner.Passing.{Plain}
 use Rattle.mt_macro.specs.inner.Replacing.{ExceedsBudget, FitsBudget}
 
-plain_more : (table : Table) (ts : List Token) (t : Token) → Plain table ts → macro_at table t ≡ None
-    → Plain table (ts ++ t ∷ [])
-plain_more table [] t h e = (e, tt)
-plain_more table (u ∷ ts) t h e = (h.0, plain_more table ts t h.1 e)
-
 past_all : List Token → MacroStep → MacroStep
 past_all [] s = s
 past_all (t ∷ ts) s = past t (past_all ts s)
@@ -69,17 +64,6 @@ pub record Going (whole : Expansion) (table : Table) (left steps : ℕ) (out res
 pub going_start : (table : Table) (left : ℕ) (list : List Token) → left ≡ max_steps → length list ≤ max_tokens
     → Going (run table left 0 list) table left 0 [] list
 going_start table left list e h = record { is = refl; plain = tt; small = omega (arith, h); count = omega (arith, e) }
-
-pub going_pass : (whole : Expansion) (table : Table) (left steps : ℕ) (out out' rest rest' : List Token) (t : Token)
-    → Going whole table left steps out rest → rest ≡ t ∷ rest' → macro_at table t ≡ None → out' ≡ out ++ t ∷ []
-    → Going whole table left steps out' rest'
-going_pass whole table left steps out out' rest rest' t g e f o = record {
-  is = g.is ∙ ap (run table left steps) (ap (λ r. out ++ r) e
-      ∙ (sym (append_assoc out (t ∷ []) rest') ∙ ap (λ x. x ++ rest') (sym o)));
-  plain = subst (Plain table) (sym o) (plain_more table out t g.plain f);
-  small = omega (arith, g.small, ap length e, ap length o, length-append out (t ∷ []));
-  count = g.count;
-}
 
 plain_all : (table : Table) (ts us : List Token) → Plain table ts → Plain table us → Plain table (ts ++ us)
 plain_all table [] us h k = k

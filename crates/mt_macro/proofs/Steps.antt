@@ -3,6 +3,7 @@ use Rattle.std.proofs.Common.{◌≡◌, ℕ, ◌+◌, ◌-◌, ◌<◌, ◌≤�
 use Rattle.std.specs.Prelude.{Option, Some, None}
 use Rattle.mt_token.specs.declared.token.Token.{Token}
 use Rattle.mt_macro.specs.declared.table.Macro.{Macro}
+use Rattle.mt_macro.specs.declared.bodies.Found.{Found}
 use Rattle.mt_macro.specs.declared.run.Run.{Run}
 use Rattle.mt_macro.specs.declared.stack.Rest.{Rest}
 use Rattle.mt_macro.specs.declared.expander.Replacement.TheVariants.{NoArgument, TooLong, Done}
@@ -12,11 +13,11 @@ use Rattle.mt_macro.specs.Arguments.{Arguments, arguments}
 use Rattle.mt_macro.specs.Expansion.{Expansion, Expanded, OverBudget, replacement, NoArgument as MissesArgument, run}
 use Rattle.mt_macro.specs.inner.Ends.{joined}
 use Rattle.mt_macro.specs.Naming.{IsMacro}
-use Rattle.mt_macro.specs.inner.Runs.{Sources, all_tokens, meanings, left_of, AreLeft, GivesToken, GainsAll, TakesRuns}
-use Rattle.mt_macro.specs.inner.Passing.{PassesPlain}
+use Rattle.mt_macro.specs.inner.Runs.{Sources, all_tokens, meanings, left_of, AreLeft, GainsAll, TakesRuns}
+use Rattle.mt_macro.specs.inner.Passing.{PassesPlain, PassesTo}
 use Rattle.mt_macro.specs.inner.Fillings.{Fills}
 use Rattle.mt_macro.specs.inner.Replacing.{Replaces}
-use Rattle.mt_macro.proofs.Running.{Going, going_start, going_pass, going_plain, going_end, going_last, going_missing, going_on, going_over, fits_budget, exceeds_budget}
+use Rattle.mt_macro.proofs.Running.{Going, going_start, going_plain, going_end, going_last, going_missing, going_on, going_over, fits_budget, exceeds_budget}
 
 -- what became of a macro
 pub replaced_none : (passed params : ℕ) (body before : List Token) (src : Sources) (parts : List Run) (rest : Rest) → arguments params before ≡ None
@@ -65,25 +66,28 @@ stepping_start table src list out parts rest l e h o = record {
   below = l;
 }
 
-pub stepping_pass : (whole : Expansion) (table : Table) (src : Sources) (steps : ℕ) (out out' : List Token) (parts : List Run) (rest rest' : Rest) (t : Token) (r : Run)
-    → Stepping whole table src steps out parts rest → GivesToken src parts rest rest' t r → macro_at table t ≡ None → out' ≡ out ++ t ∷ []
-    → Stepping whole table src steps out' parts rest'
-stepping_pass whole table src steps out out' parts rest rest' t r g v n o = record {
-  going = going_pass whole table _ steps out out' _ _ t g.going v.is n o;
-  below = v.below;
-}
+-- all tokens are passed
+pub stepping_end : (whole : Expansion) (table : Table) (src : Sources) (steps : ℕ) (out out' : List Token) (parts : List Run) (rest : Rest) → Stepping whole table src steps out parts rest
+    → PassesPlain table (left_of src parts rest) [] out out' → whole ≡ Expanded out'
+stepping_end whole table src steps out out' parts rest g p =
+    going_end whole table _ steps out' [] (going_plain whole table _ steps out out' _ [] p.passed g.going p.left p.plain p.is) refl
 
-pub stepping_plain : (whole : Expansion) (table : Table) (src : Sources) (steps : ℕ) (out out' : List Token) (parts : List Run) (rest rest' : Rest)
-    → Stepping whole table src steps out parts rest → AreLeft src parts rest' → PassesPlain table (left_of src parts rest) (left_of src parts rest') out out'
-    → Stepping whole table src steps out' parts rest'
-stepping_plain whole table src steps out out' parts rest rest' g l p = record {
-  going = going_plain whole table _ steps out out' _ _ p.passed g.going p.left p.plain p.is;
-  below = l;
-}
+-- a macro is next, and these tokens are left after it
+pub record AtMacro (whole : Expansion) (table : Table) (src : Sources) (steps : ℕ) (out : List Token) (parts : List Run) (rest : Rest) (params : ℕ) (body : List Token) : Type 0 where
+  pub first : Token
+  pub going : Going whole table (max_steps - steps) steps out (first ∷ left_of src parts rest)
+  pub below : AreLeft src parts rest
+  pub is : IsMacro (macro_at table first) params body
 
-pub stepping_end : (whole : Expansion) (table : Table) (src : Sources) (steps : ℕ) (out : List Token) (parts : List Run) (rest : Rest) → Stepping whole table src steps out parts rest
-    → left_of src parts rest ≡ [] → whole ≡ Expanded out
-stepping_end whole table src steps out parts rest g e = going_end whole table _ steps out _ g.going e
+pub at_macro : (whole : Expansion) (table : Table) (src : Sources) (steps : ℕ) (out out' : List Token) (parts : List Run) (rest rest' : Rest) (found : Found)
+    → Stepping whole table src steps out parts rest → PassesTo table src parts rest rest' out out' found
+    → AtMacro whole table src steps out' parts rest' found.params (src.body found.body)
+at_macro whole table src steps out out' parts rest rest' found g p = record {
+  first = p.first;
+  going = going_plain whole table _ steps out out' _ _ p.passes.passed g.going p.passes.left p.passes.plain p.passes.is;
+  below = p.below;
+  is = p.is;
+}
 
 pub record TheMacro (o : Option Macro) (params : ℕ) (body : List Token) : Type 0 where
   pub found : Macro
@@ -95,38 +99,37 @@ the_macro : (o : Option Macro) (params : ℕ) (body : List Token) → IsMacro o 
 the_macro None params body h = absurd h
 the_macro (Some m) params body h = record { found = m; is = refl; params_are = h.0; body_is = h.1 }
 
-pub stepping_last : (whole : Expansion) (table : Table) (src : Sources) (steps n params : ℕ) (body out : List Token) (parts : List Run) (rest rest' : Rest) (t : Token) (r : Run)
-    → Stepping whole table src steps out parts rest → GivesToken src parts rest rest' t r → IsMacro (macro_at table t) params body → steps ≡ max_steps
-    → n ≡ length out + rest'.count + 1 → whole ≡ OverBudget steps n
-stepping_last whole table src steps n params body out parts rest rest' t r g v i e k =
-    let m = the_macro (macro_at table t) params body i in
-    going_last whole table _ steps n out _ (left_of src parts rest') t m.found g.going v.is m.is (omega (arith, e)) (omega (arith, k, v.below.counted))
+pub stepping_last : (whole : Expansion) (table : Table) (src : Sources) (steps n params : ℕ) (body out : List Token) (parts : List Run) (rest : Rest)
+    → AtMacro whole table src steps out parts rest params body → steps ≡ max_steps → n ≡ length out + rest.count + 1 → whole ≡ OverBudget steps n
+stepping_last whole table src steps n params body out parts rest a e k =
+    let m = the_macro (macro_at table a.first) params body a.is in
+    going_last whole table _ steps n out _ (left_of src parts rest) a.first m.found a.going refl m.is (omega (arith, e)) (omega (arith, k, a.below.counted))
 
 -- so many tokens are passed where the macro is
-pub stepping_short : (whole : Expansion) (table : Table) (src : Sources) (steps passed : ℕ) (out : List Token) (parts : List Run) (rest rest' : Rest) (t : Token) (r : Run)
-    → Stepping whole table src steps out parts rest → GivesToken src parts rest rest' t r → passed ≡ length out → passed + length (left_of src parts rest') ≤ max_tokens
-stepping_short whole table src steps passed out parts rest rest' t r g v p = omega (arith, g.going.small, ap length v.is, p)
+pub stepping_short : (whole : Expansion) (table : Table) (src : Sources) (steps passed params : ℕ) (body out : List Token) (parts : List Run) (rest : Rest)
+    → AtMacro whole table src steps out parts rest params body → passed ≡ length out → passed + length (left_of src parts rest) ≤ max_tokens
+stepping_short whole table src steps passed params body out parts rest a p = omega (arith, a.going.small, p)
 
-pub stepping_missing : (whole : Expansion) (table : Table) (src : Sources) (steps passed params : ℕ) (body out : List Token) (parts parts2 : List Run) (rest rest' rest2 : Rest) (t : Token) (r : Run)
-    → Stepping whole table src steps out parts rest → GivesToken src parts rest rest' t r → IsMacro (macro_at table t) params body → (steps ≡ max_steps → ⊥)
-    → Replaces passed NoArgument params body (left_of src parts rest') src parts2 rest2 → whole ≡ MissesArgument (length out)
-stepping_missing whole table src steps passed params body out parts parts2 rest rest' rest2 t r g v i e d =
-    let m = the_macro (macro_at table t) params body i in
-    going_missing whole table _ steps out _ (left_of src parts rest') t m.found g.going v.is m.is (omega (arith, g.going.count, e)) (d.is m.found m.params_are m.body_is)
+pub stepping_missing : (whole : Expansion) (table : Table) (src : Sources) (steps passed params : ℕ) (body out : List Token) (parts parts2 : List Run) (rest rest2 : Rest)
+    → AtMacro whole table src steps out parts rest params body → (steps ≡ max_steps → ⊥)
+    → Replaces passed NoArgument params body (left_of src parts rest) src parts2 rest2 → whole ≡ MissesArgument (length out)
+stepping_missing whole table src steps passed params body out parts parts2 rest rest2 a e d =
+    let m = the_macro (macro_at table a.first) params body a.is in
+    going_missing whole table _ steps out _ (left_of src parts rest) a.first m.found a.going refl m.is (omega (arith, a.going.count, e)) (d.is m.found m.params_are m.body_is)
 
-pub stepping_over : (whole : Expansion) (table : Table) (src : Sources) (steps n passed params : ℕ) (body out : List Token) (parts parts2 : List Run) (rest rest' rest2 : Rest) (t : Token) (r : Run)
-    → Stepping whole table src steps out parts rest → GivesToken src parts rest rest' t r → IsMacro (macro_at table t) params body → (steps ≡ max_steps → ⊥) → passed ≡ length out
-    → Replaces passed (TooLong n) params body (left_of src parts rest') src parts2 rest2 → whole ≡ OverBudget (steps + 1) n
-stepping_over whole table src steps n passed params body out parts parts2 rest rest' rest2 t r g v i e p d =
-    let m = the_macro (macro_at table t) params body i in
-    going_over whole table _ (max_steps - (steps + 1)) steps n passed out _ (left_of src parts rest') t m.found g.going v.is m.is (omega (arith, g.going.count, e)) p (d.is m.found m.params_are m.body_is)
+pub stepping_over : (whole : Expansion) (table : Table) (src : Sources) (steps n passed params : ℕ) (body out : List Token) (parts parts2 : List Run) (rest rest2 : Rest)
+    → AtMacro whole table src steps out parts rest params body → (steps ≡ max_steps → ⊥) → passed ≡ length out
+    → Replaces passed (TooLong n) params body (left_of src parts rest) src parts2 rest2 → whole ≡ OverBudget (steps + 1) n
+stepping_over whole table src steps n passed params body out parts parts2 rest rest2 a e p d =
+    let m = the_macro (macro_at table a.first) params body a.is in
+    going_over whole table _ (max_steps - (steps + 1)) steps n passed out _ (left_of src parts rest) a.first m.found a.going refl m.is (omega (arith, a.going.count, e)) p (d.is m.found m.params_are m.body_is)
 
-pub stepping_on : (whole : Expansion) (table : Table) (src : Sources) (steps passed params : ℕ) (body out : List Token) (parts parts2 : List Run) (rest rest' rest2 : Rest) (t : Token) (r : Run)
-    → Stepping whole table src steps out parts rest → GivesToken src parts rest rest' t r → IsMacro (macro_at table t) params body → (steps ≡ max_steps → ⊥) → passed ≡ length out
-    → Replaces passed Done params body (left_of src parts rest') src parts2 rest2 → Stepping whole table src (steps + 1) out parts2 rest2
-stepping_on whole table src steps passed params body out parts parts2 rest rest' rest2 t r g v i e p d =
-    let m = the_macro (macro_at table t) params body i in
+pub stepping_on : (whole : Expansion) (table : Table) (src : Sources) (steps passed params : ℕ) (body out : List Token) (parts parts2 : List Run) (rest rest2 : Rest)
+    → AtMacro whole table src steps out parts rest params body → (steps ≡ max_steps → ⊥) → passed ≡ length out
+    → Replaces passed Done params body (left_of src parts rest) src parts2 rest2 → Stepping whole table src (steps + 1) out parts2 rest2
+stepping_on whole table src steps passed params body out parts parts2 rest rest2 a e p d =
+    let m = the_macro (macro_at table a.first) params body a.is in
     record {
-      going = going_on whole table _ (max_steps - (steps + 1)) steps passed out _ (left_of src parts rest') _ t m.found g.going v.is m.is (omega (arith, g.going.count, e)) p (d.is m.found m.params_are m.body_is);
+      going = going_on whole table _ (max_steps - (steps + 1)) steps passed out _ (left_of src parts rest) _ a.first m.found a.going refl m.is (omega (arith, a.going.count, e)) p (d.is m.found m.params_are m.body_is);
       below = d.below;
     }

@@ -15,9 +15,9 @@ use crate::ends::known_ends;
 use crate::expansion::ExpandError;
 use crate::filling::{fill, put_filled};
 use crate::parts::bound_parts;
-use crate::passing::{pass_plain, push_again};
+use crate::passing::next_macro;
 use crate::run::{Place, Run};
-use crate::stack::{Parts, Rest, next_token};
+use crate::stack::{Parts, Rest};
 use std::alloc::{AllocError, Global};
 
 /// The greatest number of tokens that a list has, before and after each step.
@@ -88,6 +88,28 @@ impl Expander {
         if let Some(index) = first_unmatched(tables, list) {
             return Err(ExpandError::Unbalanced(index as u32));
         }
+        self.expand_matched(tables, list, out)
+    }
+
+    /// The same of a list in which each brace has its partner.
+    ///
+    /// # Errors
+    ///
+    /// Those of [`crate::expand`]. What is in `out` after an error is not said.
+    pub fn expand_matched<T: Drop, B: Bodies<T>>(
+        &mut self,
+        tables: &B,
+        list: &[T],
+        out: &mut Vec<T>,
+    ) -> Result<(), ExpandError>
+        requires { first_unmatched 0 (map (B.token tables.now) list.now) ≡ None }
+        ensures is { ExpandsTo result (map (B.token tables.now) out.new.items)
+            (expansion (B.macros tables.now) (map (B.token tables.now) list.now)) }
+        ensures memory { result ≡ Err OutOfMemory → length list.now ≤ max_tokens }
+    {
+        if list.len() > MAX_TOKENS {
+            return Err(ExpandError::TooLong);
+        }
         let ends = known_ends(self.alloc, tables, list)?;
         self.run_steps(tables, list, ends.as_slice(), out)
     }
@@ -109,12 +131,14 @@ impl Expander {
         out.reserve(list.len())?;
         start(tables, list, &mut self.parts, &mut self.rest)?;
         let mut steps = 0;
-        while let Some(one) = next_token(tables, list, &self.parts, &mut self.rest)? {
-            let Some(found) = tables.macro_at(one.item) else {
-                push_again(tables, self.alloc, one.item, out)?;
-                pass_plain(tables, self.alloc, list, &self.parts, &mut self.rest, out)?;
-                continue;
-            };
+        while let Some(found) = next_macro(
+            tables,
+            self.alloc,
+            list,
+            &self.parts,
+            &mut self.rest,
+            out,
+        )? {
             if steps == MAX_STEPS {
                 let length = (out.len() + self.rest.count + 1) as u64;
                 return Err(ExpandError::Budget { steps, length });

@@ -100,8 +100,17 @@ pub fn expands_to_itself<T, B: Bodies<T>>(tables: &B, list: &[T]) -> bool
     ensures { IsTrue result ↔ (expansion (B.macros tables.now) (map (B.token tables.now) list.now)
         ≡ Expanded (map (B.token tables.now) list.now)) }
 {
+    first_unmatched(tables, list).is_none() && matched_expands_to_itself(tables, list)
+}
+
+/// Whether a list in which each brace has its partner expands to itself: it has at most 50,000 tokens, and no macro.
+pub fn matched_expands_to_itself<T, B: Bodies<T>>(tables: &B, list: &[T]) -> bool
+    requires { first_unmatched 0 (map (B.token tables.now) list.now) ≡ None }
+    ensures { IsTrue result ↔ (expansion (B.macros tables.now) (map (B.token tables.now) list.now)
+        ≡ Expanded (map (B.token tables.now) list.now)) }
+{
     if list.len() > MAX_TOKENS {
         return false;
     }
-    !has_macro(tables, list) && first_unmatched(tables, list).is_none()
+    !has_macro(tables, list)
 }

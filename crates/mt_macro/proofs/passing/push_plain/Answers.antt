@@ -1,4 +1,4 @@
-use Rattle.mt_macro.proofs.Plains.{pushing_start, pushing_more, pushing_end}
+use Rattle.mt_macro.proofs.Plains.{pushing_start, pushing_more}
 use Rattle.mt_macro.proofs.passing.push_plain.Goals as goal
 
 pub loop-rest-init : goal.loop-rest-init
@@ -6,10 +6,4 @@ loop-rest-init g c = pushing_start _ _ _
 
 pub loop-rest-preserved : goal.loop-rest-preserved
 loop-rest-preserved g c =
-    pushing_more (g.B.Lexicon.token c.args.tables.now) _ _ _ c.loop-rest.rest.now c.item-item.result _ _ _ _ c.loop-rest.invariant c.in-len1-up.len_at_least c.item-item.is c.names_macro.ensures c.if-names_macro.false c.in_ok-push_again.ensures
-
-pub returns-then-names_macro : goal.returns-then-names_macro
-returns-then-names_macro g c = pushing_end _ _ _ _ _ _ c.loop-rest.invariant
-
-pub returns : goal.returns
-returns g c = pushing_end _ _ _ _ _ _ c.loop-rest.invariant
+    pushing_more (g.B.Lexicon.token c.args.tables.now) _ _ _ c.loop-rest.rest.now c.item-item.result _ _ _ c.loop-rest.invariant c.in-len1-up.len_at_least c.item-item.is c.in_default-macro_at.ensures c.in_ok-push_again.ensures
