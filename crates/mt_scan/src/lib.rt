@@ -20,7 +20,8 @@ pub use delimiters::MAX_DELIMITER;
 pub use fault::{Fault, ReadCause};
 pub use numbers::MAX_MATH_CHAR;
 pub use role::{
-    Amount, Bar, FieldKind, Preamble, Role, Side, Simple, character_role, name_role, role_of,
+    Amount, Bar, FieldKind, NamedItem, Preamble, Role, Side, Simple, character_role, name_role,
+    role_of,
 };
 pub use roles::Roles;
 pub use scanned::Scanned;

@@ -1,7 +1,7 @@
 //! What a token is in a formula.
 ghost use Rattle.std.specs.Prelude.{◌≡◌, ◌<◌};
 ghost use Rattle.mt_plain.specs.Names.{control};
-ghost use Rattle.mt_scan.specs.Role.{role_of, command_role, meaning_role, code_role, character_role, mu_space};
+ghost use Rattle.mt_scan.specs.Role.{role_of, command_role, meaning_role, code_role, character_role, mu_space, named_item};
 ghost use Rattle.mt_scan.specs.Role.{big_class, role_code, veil};
 
 use mt_plain::{Codes, Command, MAX_MATH_CODE, Meaning};
@@ -56,6 +56,39 @@ pub enum Simple {
     Kern(i64),
     /// `\nonscript`
     Nonscript,
+}
+
+/// An item that a name is by itself.
+#[derive(Clone, Copy, Debug, PartialEq, Eq)]
+pub enum NamedItem {
+    /// A style.
+    Style(Style),
+    /// `\,`
+    Thin,
+    /// `\>`
+    Medium,
+    /// `\;`
+    Thick,
+    /// `\!`
+    NegativeThin,
+    /// `\nonscript`
+    Nonscript,
+}
+
+impl NamedItem {
+    /// The item. Amounts are in 65536ths of a math unit (The TeXbook, chapter 18: 3, 4, 5 and -3 mu).
+    pub fn item(self) -> Simple
+        ensures { result ≡ named_item self }
+    {
+        match self {
+            NamedItem::Style(style) => Simple::Style(style),
+            NamedItem::Thin => mu_space(196_608, 0),
+            NamedItem::Medium => mu_space(262_144, 262_144),
+            NamedItem::Thick => mu_space(327_680, 0),
+            NamedItem::NegativeThin => mu_space(-196_608, 0),
+            NamedItem::Nonscript => Simple::Nonscript,
+        }
+    }
 }
 
 /// The kind of an atom that takes a field as its nucleus.
@@ -160,7 +193,7 @@ pub enum Role {
     /// A space or a kern.
     AmountWord(Amount),
     /// A word that is an item by itself.
-    ItemWord(Simple),
+    ItemWord(NamedItem),
     /// `\fam`
     FamilyWord,
     /// `\eqno`, or, at the left, `\leqno`.
@@ -182,10 +215,10 @@ impl Role {
     }
 }
 
-fn mu_space(width: i64, shrink: i64) -> Role
+fn mu_space(width: i64, shrink: i64) -> Simple
     ensures { result ≡ mu_space width shrink }
 {
-    Role::ItemWord(Simple::MuSpace(Glue { width, shrink }))
+    Simple::MuSpace(Glue { width, shrink })
 }
 
 fn veil(width: bool, height: bool, marks: bool) -> Role
@@ -243,20 +276,20 @@ fn command_role(command: Command) -> Role
         Command::OverWithDelims => Role::FractionWord(true, Bar::Own),
         Command::AtopWithDelims => Role::FractionWord(true, Bar::None),
         Command::AboveWithDelims => Role::FractionWord(true, Bar::Given),
-        Command::DisplayStyle => Role::ItemWord(Simple::Style(Style::D)),
-        Command::TextStyle => Role::ItemWord(Simple::Style(Style::T)),
-        Command::ScriptStyle => Role::ItemWord(Simple::Style(Style::S)),
-        Command::ScriptScriptStyle => Role::ItemWord(Simple::Style(Style::Ss)),
+        Command::DisplayStyle => Role::ItemWord(NamedItem::Style(Style::D)),
+        Command::TextStyle => Role::ItemWord(NamedItem::Style(Style::T)),
+        Command::ScriptStyle => Role::ItemWord(NamedItem::Style(Style::S)),
+        Command::ScriptScriptStyle => Role::ItemWord(NamedItem::Style(Style::Ss)),
         Command::MathChoice => Role::ChoiceWord,
         Command::MSkip => Role::AmountWord(Amount::MuSkip),
         Command::MKern => Role::AmountWord(Amount::MuKern),
         Command::HSkip => Role::AmountWord(Amount::Skip),
         Command::Kern => Role::AmountWord(Amount::Kern),
-        Command::NonScript => Role::ItemWord(Simple::Nonscript),
-        Command::Thin => mu_space(196_608, 0),
-        Command::Medium => mu_space(262_144, 262_144),
-        Command::Thick => mu_space(327_680, 0),
-        Command::NegativeThin => mu_space(-196_608, 0),
+        Command::NonScript => Role::ItemWord(NamedItem::Nonscript),
+        Command::Thin => Role::ItemWord(NamedItem::Thin),
+        Command::Medium => Role::ItemWord(NamedItem::Medium),
+        Command::Thick => Role::ItemWord(NamedItem::Thick),
+        Command::NegativeThin => Role::ItemWord(NamedItem::NegativeThin),
         Command::Fam => Role::FamilyWord,
         Command::EqNo => Role::NumberWord(false),
         Command::LeqNo => Role::NumberWord(true),
