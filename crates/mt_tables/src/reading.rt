@@ -27,12 +27,17 @@ fn read_plain(lexer: &mut Lexer<'_>, words: &mut Vec<Word>, limit: usize) -> Res
     ensures forward { offset lexer.old ≤ offset lexer.new }
     ensures bytes { source lexer.new ≡ source lexer.old }
 {
+    let mut here = *lexer;
     while words.len() < limit {
-        match lexer.plain_character() {
+        match here.plain_character() {
             Some(c) => push_word(words, Word::character(c))?,
-            None => return Ok(()),
+            None => {
+                *lexer = here;
+                return Ok(());
+            }
         }
     }
+    *lexer = here;
     Ok(())
 }
 

@@ -1,5 +1,5 @@
 //! What words mean.
-ghost use Rattle.std.specs.Prelude.{◌≡◌, ◌<◌, ◌≤◌, true, [], IfOk};
+ghost use Rattle.std.specs.Prelude.{◌≡◌, ◌<◌, ◌≤◌, IsTrue, true, [], IfOk};
 ghost use Rattle.mt_token.specs.declared.token.TokenKind.TheVariants.{Control};
 ghost use Rattle.mt_lexicon.specs.Meaning.{kind_of, Known, Extends};
 ghost use Rattle.mt_plain.specs.Limits.{max_math_code};
@@ -8,11 +8,15 @@ ghost use Rattle.mt_tables.specs.Held.{Held};
 
 use crate::kept::WordMacros;
 use crate::name_roles::add_role;
-use mt_lexicon::{Names, Word};
+use mt_lexicon::{Names, Word, WordKind, name_number};
 use mt_plain::Codes;
 use mt_scan::Role;
+use mt_token::name_hash;
 use std::alloc::{AllocError, Global};
 use std::marker::Model;
+
+/// How many slots there are for names that were read.
+const SLOTS: usize = 256;
 
 /// What words mean: the names that were read, by their numbers, what they are in a formula, their
 /// macros, and the codes of characters.
@@ -23,6 +27,8 @@ pub struct Tables {
     pub(crate) roles: Vec<Role>,
     pub(crate) macros: WordMacros,
     pub(crate) own_names: usize,
+    // words of names, each in the slot of its name
+    pub(crate) recent: [Word; SLOTS],
     pub(crate) alloc: Global,
 }
 
@@ -46,6 +52,26 @@ impl Model for Tables {
         × (t.own_names ≡ own_count (table_of t.names t.macros.kept.items t.macros.order.items)) };
 }
 
+// The slot of a name.
+fn slot_of(name: &[u8]) -> usize
+    ensures { result < 256 }
+{
+    name_hash(name) % SLOTS
+}
+
+// Whether a word is this name.
+fn is_word_of(names: &Names, word: Word, name: &[u8]) -> bool
+    ensures { IsTrue result → (kind_of names.now word.kind ≡ Control name.now) × Known names.now word }
+{
+    match word.kind {
+        WordKind::Name(high, low) => match names.name(name_number(high, low)) {
+            Some(known) => known == name,
+            None => false,
+        },
+        _ => false,
+    }
+}
+
 impl Tables {
     /// Tables without names and macros. What is added later is kept by this allocator.
     pub fn new(alloc: Global, codes: Codes) -> Tables
@@ -57,6 +83,7 @@ impl Tables {
             roles: Vec::new(alloc),
             macros: WordMacros::empty(alloc),
             own_names: 0,
+            recent: [Word::space(); SLOTS],
             alloc,
         }
     }
@@ -73,9 +100,16 @@ impl Tables {
         ensures codes { self.new.codes ≡ self.old.codes }
         ensures macros { self.new.macros ≡ self.old.macros }
     {
+        let slot = slot_of(name);
+        let recent = self.recent[slot];
+        if is_word_of(&self.names, recent, name) {
+            return Ok(recent);
+        }
         let number = self.names.number(name)?;
         add_role(&self.codes, &self.names, &mut self.roles, number as usize)?;
-        Ok(Word::name(number))
+        let word = Word::name(number);
+        self.recent[slot] = word;
+        Ok(word)
     }
 
     /// Gives a character another math code.

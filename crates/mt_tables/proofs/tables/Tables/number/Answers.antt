@@ -34,7 +34,7 @@ invariant_of-self-2 c =
     (c.in_ok-add_role.ensures, macros_kept _ _ _ _ e.keeps e.distinct h.1, h.2 ∙ ap own_count (sym (table_kept _ _ _ _ e.keeps h.1)))
 
 pub returns-clause-known : goal.returns-clause-known
-returns-clause-known c = (named _ _ _ _ c.name.ensures c.in_ok-number.ensures.is).1
+returns-clause-known c = (named _ _ _ _ c.name-word.ensures c.in_ok-number.ensures.is).1
 
 pub returns-clause-macros : goal.returns-clause-macros
 returns-clause-macros c = table_kept _ _ _ _ c.in_ok-number.ensures.keeps c.self.invariant.1 ∙ ap (λ (t : Held). t.macros) c.self.view_is
