@@ -1,5 +1,5 @@
 -- Kerns and spaces put between pieces: they have no layers, so the layers stay.
-use Rattle.std.proofs.Common.{◌≡◌, ℕ, ◌+◌, ◌-◌, ◌≤◌, ◌<◌, get_or, min, List, [], ◌∷◌, ◌++◌, Result, Ok, Err, OnOk, OnErr, length, length-append, reverse, take, drop, append_assoc, refl, arith, sym, ◌∙◌, ap, subst}
+use Rattle.std.proofs.Common.{◌≡◌, ℕ, ◌+◌, ◌-◌, ◌≤◌, ◌<◌, get_or, min, true, List, [], ◌∷◌, ◌++◌, Result, Ok, Err, OnOk, length, length-append, reverse, take, drop, append_assoc, refl, arith, sym, ◌∙◌, ap, subst}
 use Rattle.std.specs.Prelude.{⊤}
 use Rattle.std.specs.declared.alloc.AllocError.{AllocError}
 use Rattle.std.proofs.lemmas.List.{append-nil, drop_at, drop_min, drop-drop, get_or_append_left, get_or-drop, length-drop, length-reverse, length-take, reverse-append, take_at, take_min, take_more, take-append-drop, take-append-le, drop-append-le}
@@ -10,7 +10,8 @@ use Rattle.mt_pieces.specs.declared.gaps.Gap.{Gap}
 use Rattle.mt_pieces.specs.declared.gaps.Gap.TheVariants as gap
 use Rattle.mt_pieces.specs.declared.gaps.Run.{Run}
 use Rattle.mt_pieces.specs.Gaps.{gap_pieces, with_gaps, GapFits, AllRunsFit}
-use Rattle.mt_pieces.specs.inner.GapParts.{gap_parts}
+use Rattle.mt_pieces.specs.inner.GapParts.{gap_parts, is_no_gap}
+use Rattle.std.proofs.Math.Seq.{take-add}
 use Rattle.mt_pieces.specs.inner.View.{AreLaid, pieces_back}
 use Rattle.mt_pieces.proofs.Laid.{length_back}
 use Rattle.mt_pieces.proofs.Moved.{under_all, whole_under}
@@ -118,6 +119,52 @@ spread_from runs first ps ls now fit h v =
     (ap (λ z. pieces_back (reverse z) ls) e ∙ (v ∙ sym (take-append-drop first now)))
     (omega (arith, many, length-take first now, length-take first ps))
 
+-- ---- the runs before the first gap
+
+no_gap : (g : Gap) → is_no_gap g ≡ true → g ≡ gap.None
+no_gap gap.None e = refl
+no_gap (gap.Kern w) e = absurd (cc)
+no_gap (gap.Space s) e = absurd (cc)
+
+-- they stay where they are
+lead_more : (parts : List RowPart) (rest rest' : List Run) (run : Run) (from from' end : ℕ) → rest ≡ run ∷ rest' → run.gap ≡ gap.None → end ≡ length parts → from' ≡ min (from + run.count) end
+    → take from parts ++ with_gaps gap_parts rest (drop from parts) ≡ take from' parts ++ with_gaps gap_parts rest' (drop from' parts)
+lead_more parts rest rest' run from from' end e g m k =
+    let own = take run.count (drop from parts) in
+    let after = with_gaps gap_parts rest' (drop run.count (drop from parts)) in
+    let next : min (from + run.count) (length parts) ≡ from' = omega (arith, k, m) in
+    let behind : drop run.count (drop from parts) ≡ drop from' parts = drop-drop run.count from parts ∙ (sym (drop_min (from + run.count) parts) ∙ ap (λ j. drop j parts) next) in
+    let before : take from parts ++ own ≡ take from' parts = sym (take-add from run.count parts) ∙ (sym (take_min (from + run.count) parts) ∙ ap (λ j. take j parts) next) in
+    ap (λ rs. take from parts ++ with_gaps gap_parts rs (drop from parts)) e
+    ∙ (ap (λ x. take from parts ++ (gap_parts x ++ (own ++ after))) g
+    ∙ (sym (append_assoc (take from parts) own after) ∙ (ap (λ z. z ++ after) before ∙ ap (λ z. take from' parts ++ with_gaps gap_parts rest' z) behind)))
+
+-- the runs from a number on, where the parts before theirs stay
+pub record LeadSoFar (runs : List Run) (first end : ℕ) (rest : List Run) (start : ℕ) : Type 0 where
+  pub low : start ≤ end
+  pub is : (parts : List RowPart) → end ≡ length parts → take first parts ++ with_gaps gap_parts runs (drop first parts) ≡ take start parts ++ with_gaps gap_parts rest (drop start parts)
+
+pub lead_start : (runs : List Run) (first end start : ℕ) → start ≡ min first end → LeadSoFar runs first end runs start
+lead_start runs first end start e = record {
+  low = omega (arith, e);
+  is = λ parts m.
+      let k : min first (length parts) ≡ start = omega (arith, e, m) in
+      ap (λ z. z ++ with_gaps gap_parts runs (drop first parts)) (sym (take_min first parts))
+      ∙ (ap (λ z. take (min first (length parts)) parts ++ with_gaps gap_parts runs z) (sym (drop_min first parts)) ∙ ap (λ j. take j parts ++ with_gaps gap_parts runs (drop j parts)) k);
+}
+
+pub lead_step : (runs : List Run) (first end : ℕ) (rest rest' : List Run) (run : Run) (start start' : ℕ) → LeadSoFar runs first end rest start → rest ≡ run ∷ rest' → is_no_gap run.gap ≡ true → start' ≡ min (start + run.count) end → LeadSoFar runs first end rest' start'
+lead_step runs first end rest rest' run start start' s e g k = record {
+  low = omega (arith, k);
+  is = λ parts m. s.is parts m ∙ lead_more parts rest rest' run start start' end e (no_gap run.gap g) m k;
+}
+
+-- what the call that puts the others answers
+pub lead_put : (r : Result ⊤ AllocError) (runs rest : List Run) (first start end count : ℕ) (old new : List RowPart) → ((parts : List RowPart) → end ≡ length parts → take first parts ++ with_gaps gap_parts runs (drop first parts) ≡ take start parts ++ with_gaps gap_parts (drop count runs) (drop start parts))
+    → end ≡ length old → rest ≡ drop count runs → OnOk r (new ≡ take start old ++ with_gaps gap_parts rest (drop start old)) → OnOk r (new ≡ take first old ++ with_gaps gap_parts runs (drop first old))
+lead_put (Ok u) runs rest first start end count old new is m e n = n ∙ (ap (λ rs. take start old ++ with_gaps gap_parts rs (drop start old)) e ∙ sym (is old m))
+lead_put (Err fault) runs rest first start end count old new is m e n = tt
+
 -- ---- run after run, behind all parts
 
 -- what is behind the old parts does not change which these are
@@ -165,20 +212,17 @@ spread_step runs start old now now' rest rest' run from from' end s e m n k =
     }
 
 -- all runs are put, and the parts that were there go
-pub spread_end : (runs : List Run) (first start end : ℕ) (old now last new : List RowPart) (rest : List Run) (from : ℕ) → SpreadSoFar runs start old now rest from → rest ≡ [] → end ≡ length old → start ≡ min first end
-    → last ≡ now ++ take (end - from) (drop from now) → new ≡ take start last ++ drop end last → new ≡ take first old ++ with_gaps gap_parts runs (drop first old)
-spread_end runs first start end old now last new rest from s e m f l n =
+pub spread_end : (runs : List Run) (start end : ℕ) (old now last new : List RowPart) (rest : List Run) (from : ℕ) → SpreadSoFar runs start old now rest from → rest ≡ [] → end ≡ length old → start ≤ end
+    → last ≡ now ++ take (end - from) (drop from now) → new ≡ take start last ++ drop end last → new ≡ take start old ++ with_gaps gap_parts runs (drop start old)
+spread_end runs start end old now last new rest from s e m le l n =
     let taken : take (end - from) (drop from now) ≡ drop from old = ap (λ z. take (end - from) (drop from z)) s.stays ∙ behind_same old s.done from end (omega (arith, s.low, m)) m in
     let all : with_gaps gap_parts runs (drop start old) ≡ s.done ++ drop from old = s.whole ∙ ap (λ r. s.done ++ with_gaps gap_parts r (drop from old)) e in
     let last_is : last ≡ old ++ with_gaps gap_parts runs (drop start old) =
     l ∙ (ap (λ z. now ++ z) taken ∙ (ap (λ z. z ++ drop from old) s.stays ∙ (append_assoc old s.done (drop from old) ∙ ap (λ z. old ++ z) (sym all)))) in
-    let begins : start ≡ min first (length old) = omega (arith, f, m) in
     n
     ∙ (ap (λ z. take start z ++ drop end z) last_is
-    ∙ (ap (λ z. z ++ drop end (old ++ with_gaps gap_parts runs (drop start old))) (take-append-le start old (with_gaps gap_parts runs (drop start old)) (omega (arith, begins)))
-    ∙ (ap (λ z. take start old ++ z) (drop_at old (with_gaps gap_parts runs (drop start old)) end (sym m))
-    ∙ (ap (λ k. take k old ++ with_gaps gap_parts runs (drop k old)) begins
-    ∙ (ap (λ z. z ++ with_gaps gap_parts runs (drop (min first (length old)) old)) (take_min first old) ∙ ap (λ z. take first old ++ with_gaps gap_parts runs z) (drop_min first old))))))
+    ∙ (ap (λ z. z ++ drop end (old ++ with_gaps gap_parts runs (drop start old))) (take-append-le start old (with_gaps gap_parts runs (drop start old)) (omega (arith, le, m)))
+    ∙ ap (λ z. take start old ++ z) (drop_at old (with_gaps gap_parts runs (drop start old)) end (sym m))))
 
 -- what is seen of them, or none after a fault
 pub gaps_view : (r : Result ⊤ AllocError) (ps' qs : List RowPart) (ms' ls : List (List Place)) (all : List PieceValue) → OnOk r (ps' ≡ qs) → OnOk r (ms' ≡ ls) → pieces_back (reverse qs) ls ≡ all → OnOk r (pieces_back (reverse ps') ms' ≡ all)

@@ -1,9 +1,11 @@
 //! Kerns and spaces put between pieces that are there.
-ghost use Rattle.std.specs.Prelude.{◌≡◌, ◌≤◌, ◌+◌, ◌-◌, ◌++◌, IfOk, OnOk, OnErr, [], drop, length, min, take};
+ghost use Rattle.std.specs.Prelude.{◌≡◌, ◌≤◌, ◌+◌, ◌-◌, ◌++◌, IfOk, List, OnOk, OnErr, [], drop, length, min, take};
+ghost use Rattle.mt_box.specs.declared.marks.row.RowPart.{RowPart};
 ghost use Rattle.mt_pieces.specs.Gaps.{gap_pieces, with_gaps, AllRunsFit};
-ghost use Rattle.mt_pieces.specs.inner.GapParts.{gap_parts};
+ghost use Rattle.mt_pieces.specs.inner.GapParts.{gap_parts, is_no_gap};
 
 use crate::pieces::{Pieces, Space};
+use crate::runs::end_of_run;
 use mt_box::{Marks, RowPart, cut};
 use mt_scaled::Length;
 use std::alloc::{AllocError, Global};
@@ -72,13 +74,64 @@ fn put_between(
     put
 }
 
-// The parts from number `first` on with the gaps of the runs.
+// The parts from number `first` on with the gaps of the runs. Those before the first gap stay where they are.
 fn spread(parts: &mut Vec<RowPart>, first: usize, runs: &[Run]) -> Result<(), AllocError>
     ensures { OnOk result (parts.new.items
         ≡ take first parts.old.items ++ with_gaps gap_parts runs.now (drop first parts.old.items)) }
 {
+    let lead = lead_of(runs, first, parts.len());
+    spread_from(parts, lead.start, &runs[lead.runs..])
+}
+
+// The runs before the first gap.
+#[derive(Clone, Copy)]
+struct Lead {
+    // how many there are
+    runs: usize,
+    // where the parts after them begin
+    start: usize,
+}
+
+// The runs before the first gap, where there are so many parts and those of the runs begin with number `first`.
+fn lead_of(runs: &[Run], first: usize, end: usize) -> Lead
+    ensures runs { result.runs ≤ length runs.now }
+    ensures start { result.start ≤ end }
+    ensures is { (parts : List RowPart) → end ≡ length parts
+        → take first parts ++ with_gaps gap_parts runs.now (drop first parts)
+        ≡ take result.start parts ++ with_gaps gap_parts (drop result.runs runs.now) (drop result.start parts) }
+{
+    let mut lead = Lead {
+        runs: 0,
+        start: first.min(end),
+    };
+    for run in runs {
+        if !is_none(run.gap) {
+            return lead;
+        }
+        lead = Lead {
+            runs: lead.runs + 1,
+            start: end_of_run(lead.start, run.count, end),
+        };
+    }
+    lead
+}
+
+fn is_none(gap: Gap) -> bool
+    ensures { result ≡ is_no_gap gap }
+{
+    matches!(gap, Gap::None)
+}
+
+// The parts from number `start` on with the gaps of the runs.
+fn spread_from(parts: &mut Vec<RowPart>, start: usize, runs: &[Run]) -> Result<(), AllocError>
+    requires { start ≤ length parts.old.items }
+    ensures { OnOk result (parts.new.items
+        ≡ take start parts.old.items ++ with_gaps gap_parts runs.now (drop start parts.old.items)) }
+{
+    if runs.is_empty() {
+        return Ok(());
+    }
     let end = parts.len();
-    let start = first.min(end);
     let mut from = start;
     for run in runs {
         from = put_run(parts, *run, from, end)?;
@@ -98,7 +151,7 @@ fn put_run(parts: &mut Vec<RowPart>, run: Run, from: usize, end: usize) -> Resul
     ensures after { IfOk result (λ n. n ≡ min (from + run.count) end) }
 {
     put_gap(parts, run.gap)?;
-    let after = from.saturating_add(run.count).min(end);
+    let after = end_of_run(from, run.count, end);
     copy_parts(parts, from, after)?;
     Ok(after)
 }

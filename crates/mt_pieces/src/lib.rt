@@ -2,6 +2,7 @@
 #![tactic(auto)]
 
 mod gaps;
+mod items;
 mod last;
 mod limits;
 mod lines;
@@ -18,6 +19,7 @@ mod tables;
 mod tests;
 
 pub use gaps::{Gap, Run};
+pub use items::PlacedItem;
 pub use pieces::{Pieces, Space};
 pub use runs::PieceAt;
 pub use scripts::Scripts;

@@ -6,6 +6,7 @@ ghost use Rattle.mt_box.specs.Rows.{PieceGlyph, PieceBox, PieceKern, PieceSpace}
 ghost use Rattle.mt_rules.specs.Setting.{empty_layout};
 
 use crate::gaps::Run;
+use crate::items::PlacedItem;
 use crate::putting::{box_part, put_part};
 use mt_box::{Extents, Marks, RowPart};
 use mt_scaled::Length;
@@ -22,6 +23,8 @@ pub struct Pieces {
     pub(crate) parts: Vec<RowPart>,
     // memory for the runs of lists that are joined
     pub(crate) runs: Vec<Run>,
+    // memory for the items of lists that are set
+    pub(crate) items: Vec<Vec<PlacedItem>>,
 }
 
 impl Model for Pieces {
@@ -55,6 +58,7 @@ impl Pieces {
             marks: Marks::new(alloc),
             parts: Vec::new(alloc),
             runs: Vec::new(alloc),
+            items: Vec::new(alloc),
         }
     }
 
@@ -66,6 +70,7 @@ impl Pieces {
             marks: Marks::with_capacity(alloc, pieces, pieces)?,
             parts: Vec::with_capacity(alloc, pieces)?,
             runs: Vec::new(alloc),
+            items: Vec::new(alloc),
         })
     }
 

@@ -47,7 +47,7 @@ impl Pieces {
         ensures at { IsAt result self.now }
         ensures piece { result.piece ≡ min (at.piece + count) (length self.now) }
     {
-        let end = end_of_run(&self.parts, at.piece, count);
+        let end = end_of_run(at.piece, count, self.parts.len());
         let layers = count_layers(parts_between(&self.parts, at.piece, end));
         PieceAt {
             piece: end,
@@ -97,7 +97,7 @@ impl Pieces {
         ensures { self.new ≡ take first self.old ++ drop (first + count) self.old }
     {
         let first = first.min(self.parts.len());
-        let end = first.saturating_add(count).min(self.parts.len());
+        let end = end_of_run(first, count, self.parts.len());
         let above = count_layers(parts_from(&self.parts, end));
         let gone = count_layers(&self.parts[first..end]);
         self.marks.remove(above, gone);
@@ -118,11 +118,11 @@ fn count_layers(parts: &[RowPart]) -> usize
     parts.iter().filter(|part| has_layer(part)).count()
 }
 
-// Where so many parts from `start` on end, or all of them.
-fn end_of_run(parts: &[RowPart], start: usize, count: usize) -> usize
-    ensures { result ≡ min (start + count) (length parts.now) }
+// Where so many parts from `start` on end, or all parts, whose number is `len`.
+pub(crate) fn end_of_run(start: usize, count: usize, len: usize) -> usize
+    ensures { result ≡ min (start + count) len }
 {
-    start.saturating_add(count).min(parts.len())
+    start.saturating_add(count).min(len)
 }
 
 // The parts from `start` on before `end`.

@@ -1,6 +1,6 @@
 ghost use Rattle.std.specs.Prelude.{◌≡◌, length, IfOk};
 
-use crate::{Pieces, Space};
+use crate::{Pieces, PlacedItem, Space};
 use mt_box::{Extents, Piece, Place, PlaceError, glyph_box, places};
 use mt_scaled::Length;
 use std::alloc::{AllocError, Global};
@@ -128,5 +128,19 @@ fn leaves_a_lone_box_as_it_is(rt: HostRuntime) -> Result<(), Fail> {
     pieces.clean(0).expect(&rt, "a box");
     // a packed box has no height below 0
     assert!(rt; pieces.last_extents().height == -2000);
+    Ok(())
+}
+
+#[test]
+fn keeps_the_memory_of_a_list_of_items(rt: HostRuntime) -> Result<(), Fail> {
+    let alloc = rt.alloc();
+    let mut pieces = three_pieces(alloc)?;
+    let mut items = pieces.take_items(alloc);
+    items.push(PlacedItem::Kern(1000))?;
+    let room = items.capacity();
+    pieces.keep_items(items)?;
+    let again = pieces.take_items(alloc);
+    assert!(rt; again.is_empty() && again.capacity() == room);
+    assert_eq!(rt; pieces.len(), 3);
     Ok(())
 }

@@ -1,5 +1,5 @@
 -- The parts of what comes between pieces.
-use Rattle.std.specs.Prelude.{List, [], ◌∷◌}
+use Rattle.std.specs.Prelude.{Bool, true, false, List, [], ◌∷◌}
 use Rattle.mt_box.specs.declared.marks.row.RowPart.{RowPart}
 use Rattle.mt_box.specs.declared.marks.row.RowPart.TheVariants as part
 use Rattle.mt_pieces.specs.declared.gaps.Gap.{Gap}
@@ -9,3 +9,8 @@ abbrev pub gap_parts : Gap → List RowPart
 gap_parts gap.None = []
 gap_parts (gap.Kern width) = part.Gap width.sp ∷ []
 gap_parts (gap.Space space) = part.Space space.width space.shrink ∷ []
+
+abbrev pub is_no_gap : Gap → Bool
+is_no_gap gap.None = true
+is_no_gap (gap.Kern width) = false
+is_no_gap (gap.Space space) = false
