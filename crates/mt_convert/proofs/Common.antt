@@ -78,5 +78,5 @@ pub use Rattle.mt_convert.specs.SecondPass.{second_pass_of, all_pieces, boundary
 pub use Rattle.mt_convert.specs.declared.fault.SetFault.{SetFault}
 pub use Rattle.mt_convert.specs.declared.flat.current.Current.{Current}
 pub use Rattle.mt_convert.specs.declared.flat.joining.SymbolPair.{SymbolPair}
-pub use Rattle.mt_convert.specs.declared.placed.PlacedHalf.{PlacedHalf}
+pub use Rattle.mt_pieces.specs.declared.items.PlacedItem.{PlacedItem}
 pub use Rattle.mt_convert.specs.declared.placed.PlacedHalves.{PlacedHalves}

@@ -1,8 +1,8 @@
 -- How many pieces the row of a list has at most (`all_few`).
 use Rattle.std.proofs.Common.{◌≡◌, ℕ, ◌≤◌, ◌+◌, ◌*◌, List, [], ◌∷◌, ◌++◌, length, take, drop, ap, refl, arith, ℤ, length-append, length-take, Ok, Err, Option, Some, None}
-use Rattle.mt_convert.proofs.Common.{Size, SetValue, PieceValue, Class, Open, Close, Style, math_unit, Setting, ◌>>=◌, Current, PlacedHalf, all_pieces, boundary_piece, current_after_half, half_pieces, pieces_between, space_before, spacing_pieces}
+use Rattle.mt_convert.proofs.Common.{Size, SetValue, PieceValue, Class, Open, Close, Style, math_unit, Setting, ◌>>=◌, Current, PlacedItem, all_pieces, boundary_piece, current_after_half, half_pieces, pieces_between, space_before, spacing_pieces}
 use Rattle.mt_rules.specs.Spaces.{Spacing, NoSpacing, spacing}
-use Rattle.mt_convert.specs.declared.placed.PlacedHalf.TheVariants as placed
+use Rattle.mt_pieces.specs.declared.items.PlacedItem.TheVariants as placed
 use Rattle.mt_convert.specs.inner.Placed.{placed_value, placed_values, placed_length, placed_count}
 
 ok_is : (x y : List PieceValue) → ◌≡◌ {A = Setting (List PieceValue)} (Ok x) (Ok y) → x ≡ y
@@ -23,7 +23,7 @@ boundary_few : (space : List PieceValue) (s : Setting PieceValue) (ps : List Pie
 boundary_few space (Ok m) ps few e = omega (arith, few, length-append space (m ∷ []), ap length (ok_is (space ++ m ∷ []) ps e))
 boundary_few space (Err f) ps few e = absurd (cc)
 
-half_few : (fonts : SetValue) (size : Size) (wanted : ℤ) (current : Current) (h : PlacedHalf) (row ps : List PieceValue) → half_pieces fonts size wanted current (placed_value h row) ≡ Ok ps → length ps ≤ placed_length h + 2
+half_few : (fonts : SetValue) (size : Size) (wanted : ℤ) (current : Current) (h : PlacedItem) (row ps : List PieceValue) → half_pieces fonts size wanted current (placed_value h row) ≡ Ok ps → length ps ≤ placed_length h + 2
 half_few fonts size wanted current (placed.Set c n) row ps e =
     omega (arith, space_few fonts current c, length-append (space_before fonts current c) (take n row), length-take n row, ap length (ok_is (space_before fonts current c ++ take n row) ps e))
 half_few fonts size wanted current (placed.Left d) row ps e = boundary_few (space_before fonts current Open) (boundary_piece fonts size wanted d) ps (space_few fonts current Open) e
@@ -37,7 +37,7 @@ both_few a b (Ok xs) (Ok ys) ps f g e = omega (arith, f xs refl, g ys refl, leng
 both_few a b (Ok xs) (Err f') ps f g e = absurd (cc)
 both_few a b (Err f') t ps f g e = absurd (cc)
 
-pub all_few : (fonts : SetValue) (size : Size) (wanted : ℤ) (current : Current) (hs : List PlacedHalf) (row ps : List PieceValue) → all_pieces fonts size wanted current (placed_values hs row) ≡ Ok ps → length ps ≤ placed_count hs + 2 * length hs
+pub all_few : (fonts : SetValue) (size : Size) (wanted : ℤ) (current : Current) (hs : List PlacedItem) (row ps : List PieceValue) → all_pieces fonts size wanted current (placed_values hs row) ≡ Ok ps → length ps ≤ placed_count hs + 2 * length hs
 all_few fonts size wanted current [] row ps e = omega (arith, ap length (ok_is [] ps e))
 all_few fonts size wanted current (h ∷ hs) row ps e =
     let half = placed_value h row in

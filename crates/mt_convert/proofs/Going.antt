@@ -1,19 +1,17 @@
 -- How far the first pass has set a list (`Going`).
-use Rattle.std.proofs.Common.{◌≡◌, ℕ, zero, suc, ◌<◌, ◌≤◌, ◌+◌, ◌*◌, ◌^◌, ◌≤ℤ◌, ℤ, pos, List, [], ◌∷◌, ◌++◌, length, drop, ap, sym, ◌∙◌, refl, arith, subst, append_assoc, length-append, Option, Some, None, Bool, true, false, if◌then◌else◌, Ok, Err, IfSome}
-use Rattle.mt_convert.proofs.Common.{current_after_half, ints, clamps, nil_from_length, take_all, int_max, Within, is_in_range, max_dimen, PieceValue, row_height, row_depth, SetValue, Style, IsModestList, list_items, element_items, list_nesting, ListAmounts, Sequence, Element, End, More, AtomElement, sequence_size, element_size, Setting, Overflow, ◌>>=◌, test_value, in_range, Current, SetFault, PlacedHalf, PlacedHalves, Thing, Held, value_in, is_item, more_of, SetFails, opening, set_item, set_items, flat, flat_by, current_after_items, HalfValue, half_height, half_depth, greatest_height, greatest_depth, settle, items_of}
+use Rattle.std.proofs.Common.{◌≡◌, ℕ, zero, suc, ◌<◌, ◌≤◌, ◌+◌, ◌*◌, ◌^◌, ◌≤ℤ◌, ℤ, pos, List, [], ◌∷◌, ◌++◌, length, ap, sym, ◌∙◌, refl, arith, subst, append_assoc, length-append, Option, Some, None, Bool, true, false, if◌then◌else◌, Ok, Err}
+use Rattle.mt_convert.proofs.Common.{KeptItem, current_after_half, ints, clamps, int_max, Within, is_in_range, max_dimen, PieceValue, SetValue, Style, IsModestList, list_items, element_items, list_nesting, ListAmounts, Sequence, Element, End, More, AtomElement, sequence_size, element_size, Setting, Overflow, ◌>>=◌, test_value, in_range, Current, SetFault, PlacedItem, Thing, Held, value_in, is_item, more_of, SetFails, opening, set_item, set_items, flat, flat_by, current_after_items, HalfValue, half_height, half_depth, greatest_height, greatest_depth, settle, items_of}
 use Rattle.std.specs.Prelude.{⊤}
 use Rattle.mt_rules.specs.Facts.{IsMathList}
-use Rattle.mt_convert.specs.declared.placed.PlacedHalf.TheVariants as placed
-use Rattle.mt_convert.specs.declared.set.settle.Reach.{Reach}
-use Rattle.mt_convert.specs.declared.flat.passed.Passed.{Passed as CodePassed}
+use Rattle.mt_convert.specs.declared.flat.passed.Joined.{Joined}
 use Rattle.mt_convert.specs.inner.OnPieces.{HalfOn}
-use Rattle.mt_convert.specs.inner.Placed.{AllPlacedFit, HalvesOn, PlacedFits, placed_count, placed_length, placed_value, placed_values}
+use Rattle.mt_convert.specs.inner.Placed.{AllPlacedFit, ItemsOn, PlacedFits, placed_count, placed_length, placed_value, placed_values, reaching}
 use Rattle.mt_convert.specs.inner.Settling.{CanFinish, Finishes}
 use Rattle.mt_convert.specs.inner.Appending.{appended_to}
 use Rattle.mt_convert.specs.inner.Boundaries.{Remains, RestOfList, LeavesBy}
 use Rattle.mt_convert.specs.inner.Lengths.{kern_halves, test_kern}
 use Rattle.mt_convert.specs.inner.Modest.{IsModestElement}
-use Rattle.mt_convert.specs.inner.Spans.{KeptPassed, ModestPassed, passed_in, turn_of_held}
+use Rattle.mt_convert.specs.inner.Spans.{ModestPassed, passed_in, turn_of_held}
 use Rattle.mt_convert.specs.inner.Turns.{PassedElement, ListTurn, PassesOne, RewritesTo, element_of_passed, turn_of, turned_by, turn_meaning, flat_item, flat_items, kern_of}
 use Rattle.mt_convert.proofs.Appending.{appended_nil, appended_end, fails_on}
 use Rattle.mt_convert.proofs.Following.{FollowSoFar, follow_start, follow_step, item_follows}
@@ -22,14 +20,14 @@ use Rattle.mt_convert.proofs.ItemsSet.{after_set}
 use Rattle.mt_convert.proofs.InOrder.{items_set, items_fail, item_err, kern_err, kern_values}
 use Rattle.mt_convert.proofs.Remaining.{remains_start, remains_again, remains_pass, remains_end}
 use Rattle.mt_convert.proofs.Settling.{height_low, depth_low}
-use Rattle.mt_convert.proofs.Behind.{nil_right, row_behind}
+use Rattle.mt_convert.proofs.Behind.{nil_right}
 use Rattle.mt_convert.proofs.PlacedValues.{count_append, fits_append, values_append}
 use Rattle.mt_convert.proofs.Turning.{positive, element_positive, TurnKeeps, turn_keeps, same_turn}
 use Rattle.mt_convert.specs.ListRow.{halves_of}
 use Rattle.mt_convert.specs.FirstPass.{first_pass_of}
 
 -- The items of the whole list are those so far, and then those of the rest. An item makes at most itself and a kern, and at most 4 pieces.
-pub record Going (fonts : SetValue) (first : Style) (whole : Sequence) (current : Current) (rest : Sequence) (items : List PlacedHalf) (reach : Reach) (old new : List PieceValue) : Type 0 where
+pub record Going (fonts : SetValue) (first : Style) (whole : Sequence) (current : Current) (rest : Sequence) (items : List PlacedItem) (old new : List PieceValue) : Type 0 where
   pub row : List PieceValue
   pub stays : new ≡ old ++ row
   pub count : placed_count items ≡ length row
@@ -42,16 +40,14 @@ pub record Going (fonts : SetValue) (first : Style) (whole : Sequence) (current 
   pub nesting : list_nesting rest ≤ list_nesting whole
   pub amounts : ListAmounts rest
   pub fits : AllPlacedFit items
-  pub height_is : reach.height.sp ≡ greatest_height (placed_values items row)
-  pub depth_is : reach.depth.sp ≡ greatest_depth (placed_values items row)
-  pub height : reach.height.sp ≤ℤ pos max_dimen
-  pub depth : reach.depth.sp ≤ℤ pos max_dimen
+  pub height : greatest_height (placed_values items row) ≤ℤ pos max_dimen
+  pub depth : greatest_depth (placed_values items row) ≤ℤ pos max_dimen
   pub follow : FollowSoFar current.last (placed_values items row)
   pub remains : Remains (placed_values items row) rest
   pub modest : IsModestList whole
 
-pub going_start : (fonts : SetValue) (style : Style) (whole : Sequence) (current : Current) (rest : Sequence) (items : List PlacedHalf) (reach : Reach) (old : List PieceValue) → IsModestList whole → IsMathList whole → current ≡ opening style → rest ≡ whole → items ≡ [] → reach.height.sp ≡ pos 0 → reach.depth.sp ≡ pos 0 → Going fonts style whole current rest items reach old old
-going_start fonts style whole current rest items reach old m i c e f h d = rw (c, e, f) (record {
+pub going_start : (fonts : SetValue) (style : Style) (whole : Sequence) (current : Current) (rest : Sequence) (items : List PlacedItem) (old : List PieceValue) → IsModestList whole → IsMathList whole → current ≡ opening style → rest ≡ whole → items ≡ [] → Going fonts style whole current rest items old old
+going_start fonts style whole current rest items old m i c e f = rw (c, e, f) (record {
   row = [];
   stays = nil_right old;
   count = refl;
@@ -64,10 +60,8 @@ going_start fonts style whole current rest items reach old m i c e f h d = rw (c
   nesting = omega arith;
   amounts = m.amounts;
   fits = tt;
-  height_is = h;
-  depth_is = d;
-  height = omega (arith, ints, h);
-  depth = omega (arith, ints, d);
+  height = omega (arith, ints);
+  depth = omega (arith, ints);
   follow = follow_start;
   remains = remains_start whole i;
   modest = m;
@@ -86,8 +80,8 @@ turns_left fonts current f s (suc t) h = record { left = t; is = refl; first_tur
 
 -- ---- the front was rewritten
 
-going_rewritten : (fonts : SetValue) (first : Style) (whole : Sequence) (current : Current) (f : Element) (s : Sequence) (items : List PlacedHalf) (reach : Reach) (old new : List PieceValue) (rest' : Sequence) → Going fonts first whole current (More f s) items reach old new → turn_of fonts current f s ≡ RewritesTo rest' → ((enclosed : Bool) → RestOfList enclosed (More f s) → RestOfList enclosed rest') → Going fonts first whole current rest' items reach old new
-going_rewritten fonts first whole current f s items reach old new rest' g e l =
+going_rewritten : (fonts : SetValue) (first : Style) (whole : Sequence) (current : Current) (f : Element) (s : Sequence) (items : List PlacedItem) (old new : List PieceValue) (rest' : Sequence) → Going fonts first whole current (More f s) items old new → turn_of fonts current f s ≡ RewritesTo rest' → ((enclosed : Bool) → RestOfList enclosed (More f s) → RestOfList enclosed rest') → Going fonts first whole current rest' items old new
+going_rewritten fonts first whole current f s items old new rest' g e l =
     let k : TurnKeeps f s (RewritesTo rest') = subst (TurnKeeps f s) e (turn_keeps fonts current f s) in
     let t = turns_left fonts current f s g.turns g.enough in
     let done = placed_values items g.row in
@@ -104,8 +98,6 @@ going_rewritten fonts first whole current f s items reach old new rest' g e l =
       nesting = omega (arith, g.nesting, k.nesting);
       amounts = k.amounts g.amounts.0 g.amounts.1;
       fits = g.fits;
-      height_is = g.height_is;
-      depth_is = g.depth_is;
       height = g.height;
       depth = g.depth;
       follow = g.follow;
@@ -113,9 +105,9 @@ going_rewritten fonts first whole current f s items reach old new rest' g e l =
       modest = g.modest;
     }
 
-pub going_again : (fonts : SetValue) (first : Style) (whole : Sequence) (current : Current) (rest : Sequence) (items : List PlacedHalf) (reach : Reach) (old new : List PieceValue) (f : Element) (s rest' : Sequence) → Going fonts first whole current rest items reach old new → rest ≡ More f s → RewritesTo rest' ≡ turn_of fonts current f s → ((enclosed : Bool) → RestOfList enclosed (More f s) → RestOfList enclosed rest') → Going fonts first whole current rest' items reach old new
-going_again fonts first whole current rest items reach old new f s rest' g e u l =
-    going_rewritten fonts first whole current f s items reach old new rest' (subst (λ r. Going fonts first whole current r items reach old new) e g) (sym u) l
+pub going_again : (fonts : SetValue) (first : Style) (whole : Sequence) (current : Current) (rest : Sequence) (items : List PlacedItem) (old new : List PieceValue) (f : Element) (s rest' : Sequence) → Going fonts first whole current rest items old new → rest ≡ More f s → RewritesTo rest' ≡ turn_of fonts current f s → ((enclosed : Bool) → RestOfList enclosed (More f s) → RestOfList enclosed rest') → Going fonts first whole current rest' items old new
+going_again fonts first whole current rest items old new f s rest' g e u l =
+    going_rewritten fonts first whole current f s items old new rest' (subst (λ r. Going fonts first whole current r items old new) e g) (sym u) l
 
 again_smaller : (fonts : SetValue) (current : Current) (f : Element) (s rest' : Sequence) → RewritesTo rest' ≡ turn_of fonts current f s → sequence_size rest' < sequence_size (More f s)
 again_smaller fonts current f s rest' u =
@@ -133,8 +125,8 @@ pub record NextFits (whole : Sequence) (e : Element) (rest rest' : Sequence) : T
   pub smaller : element_size e < sequence_size whole
   pub falls : sequence_size rest' < sequence_size rest
 
-next_of : (fonts : SetValue) (first : Style) (whole : Sequence) (current : Current) (f : Element) (s : Sequence) (items : List PlacedHalf) (reach : Reach) (old new : List PieceValue) (p : PassedElement) (rest' : Sequence) → Going fonts first whole current (More f s) items reach old new → PassesOne p rest' ≡ turn_of fonts current f s → NextFits whole (element_of_passed p) (More f s) rest'
-next_of fonts first whole current f s items reach old new p rest' g u =
+next_of : (fonts : SetValue) (first : Style) (whole : Sequence) (current : Current) (f : Element) (s : Sequence) (items : List PlacedItem) (old new : List PieceValue) (p : PassedElement) (rest' : Sequence) → Going fonts first whole current (More f s) items old new → PassesOne p rest' ≡ turn_of fonts current f s → NextFits whole (element_of_passed p) (More f s) rest'
+next_of fonts first whole current f s items old new p rest' g u =
     let k : TurnKeeps f s (PassesOne p rest') = subst (TurnKeeps f s) (sym u) (turn_keeps fonts current f s) in
     record {
       modest = record {
@@ -146,9 +138,9 @@ next_of fonts first whole current f s items reach old new p rest' g u =
       falls = omega (arith, k.size, element_positive (element_of_passed p));
     }
 
-pub next_fits : (fonts : SetValue) (first : Style) (whole : Sequence) (current : Current) (rest : Sequence) (items : List PlacedHalf) (reach : Reach) (old new : List PieceValue) (f : Element) (s : Sequence) (p : PassedElement) (rest' : Sequence) → Going fonts first whole current rest items reach old new → rest ≡ More f s → PassesOne p rest' ≡ turn_of fonts current f s → NextFits whole (element_of_passed p) rest rest'
-next_fits fonts first whole current rest items reach old new f s p rest' g is u =
-    subst (λ r. NextFits whole (element_of_passed p) r rest') (sym is) (next_of fonts first whole current f s items reach old new p rest' (subst (λ r. Going fonts first whole current r items reach old new) is g) u)
+pub next_fits : (fonts : SetValue) (first : Style) (whole : Sequence) (current : Current) (rest : Sequence) (items : List PlacedItem) (old new : List PieceValue) (f : Element) (s : Sequence) (p : PassedElement) (rest' : Sequence) → Going fonts first whole current rest items old new → rest ≡ More f s → PassesOne p rest' ≡ turn_of fonts current f s → NextFits whole (element_of_passed p) rest rest'
+next_fits fonts first whole current rest items old new f s p rest' g is u =
+    subst (λ r. NextFits whole (element_of_passed p) r rest') (sym is) (next_of fonts first whole current f s items old new p rest' (subst (λ r. Going fonts first whole current r items old new) is g) u)
 
 -- ---- what is put after the items so far
 
@@ -161,10 +153,6 @@ both_low a b n h k = omega (arith, ints, clamps, h, k)
 
 max_joined : (a b c : ℤ) → int_max a (int_max b c) ≡ int_max (int_max a b) c
 max_joined a b c = omega (arith, ints, clamps)
-
--- the greatest of an item after those so far
-with_last : (best now next : ℤ) → pos 0 ≤ℤ best → now ≡ int_max best next → now ≡ int_max best (int_max next (pos 0))
-with_last best now next low e = omega (arith, ints, clamps, low, e)
 
 height_append : (hs ks : List HalfValue) → greatest_height (hs ++ ks) ≡ int_max (greatest_height hs) (greatest_height ks)
 height_append [] ks = let low = height_low ks in omega (arith, ints, clamps, low)
@@ -182,14 +170,18 @@ kern_depth : (kern : Option ℤ) → greatest_depth (kern_values kern) ≡ pos 0
 kern_depth None = refl
 kern_depth (Some k) = omega (arith, ints, clamps)
 
--- the row of the pieces that were put for an item reaches as far as the item
-piece_height : (h : PlacedHalf) (row : List PieceValue) → placed_length h ≡ length row → half_height (placed_value h row) ≡ row_height row
-piece_height (placed.Set class count) row e = ap row_height (take_all count row (omega (arith, e)))
-piece_height _ row e = ap row_height (sym (nil_from_length row (sym e)))
+-- an item and the kern after it, behind those so far
+more_high : (done : List HalfValue) (h : HalfValue) (kern : Option ℤ) → greatest_height done ≤ℤ pos max_dimen → half_height h ≤ℤ pos max_dimen → greatest_height (done ++ h ∷ kern_values kern) ≤ℤ pos max_dimen
+more_high done h kern d e =
+    let k : greatest_height (kern_values kern) ≤ℤ pos max_dimen = subst (λ x. x ≤ℤ pos max_dimen) (sym (kern_height kern)) (omega (arith, ints)) in
+    subst (λ x. x ≤ℤ pos max_dimen) (sym (height_append done (h ∷ kern_values kern)))
+    (both_low (greatest_height done) (greatest_height (h ∷ kern_values kern)) (pos max_dimen) d (both_low (half_height h) (greatest_height (kern_values kern)) (pos max_dimen) e k))
 
-piece_depth : (h : PlacedHalf) (row : List PieceValue) → placed_length h ≡ length row → half_depth (placed_value h row) ≡ row_depth row
-piece_depth (placed.Set class count) row e = ap row_depth (take_all count row (omega (arith, e)))
-piece_depth _ row e = ap row_depth (sym (nil_from_length row (sym e)))
+more_deep : (done : List HalfValue) (h : HalfValue) (kern : Option ℤ) → greatest_depth done ≤ℤ pos max_dimen → half_depth h ≤ℤ pos max_dimen → greatest_depth (done ++ h ∷ kern_values kern) ≤ℤ pos max_dimen
+more_deep done h kern d e =
+    let k : greatest_depth (kern_values kern) ≤ℤ pos max_dimen = subst (λ x. x ≤ℤ pos max_dimen) (sym (kern_depth kern)) (omega (arith, ints)) in
+    subst (λ x. x ≤ℤ pos max_dimen) (sym (depth_append done (h ∷ kern_values kern)))
+    (both_low (greatest_depth done) (greatest_depth (h ∷ kern_values kern)) (pos max_dimen) d (both_low (half_depth h) (greatest_depth (kern_values kern)) (pos max_dimen) e k))
 
 wide : (x : ℤ) → Within max_dimen x → Within (2 ^ 40) x
 wide x h = record { low = omega (arith, ints, h.low); high = omega (arith, ints, h.high) }
@@ -202,50 +194,32 @@ kern_fits : (x : ℤ) → test_value x ≡ Ok tt → Within (2 ^ 40) x
 kern_fits x e = wide x (in_range x (test_passes (is_in_range x) x e))
 
 -- an item with the kern after it
-record Pushes (hs : List PlacedHalf) (h : PlacedHalf) (kern : Option ℤ) (row : List PieceValue) : Type 0 where
+record Pushes (hs : List PlacedItem) (h : PlacedItem) (kern : Option ℤ) (row : List PieceValue) : Type 0 where
   pub count : length hs ≤ 2
   pub total : placed_count hs ≡ length row
   pub fits : AllPlacedFit hs
   pub are : placed_values hs row ≡ placed_value h row ∷ kern_values kern
 
-pushes : (h : PlacedHalf) (kern : Option ℤ) (row : List PieceValue) → PlacedFits h → placed_length h ≡ length row → test_kern kern ≡ Ok tt → Pushes (h ∷ kern_halves kern) h kern row
+pushes : (h : PlacedItem) (kern : Option ℤ) (row : List PieceValue) → PlacedFits h → placed_length h ≡ length row → test_kern kern ≡ Ok tt → Pushes (h ∷ kern_halves kern) h kern row
 pushes h None row fits e t = record { count = omega arith; total = omega (arith, e); fits = (fits, tt); are = refl }
 pushes h (Some k) row fits e t = record { count = omega arith; total = omega (arith, e); fits = (fits, (kern_fits k t, tt)); are = refl }
 
 -- an item that was set, and the kern after it
-pub record WasSet (fonts : SetValue) (current : Current) (p : PassedElement) (h : PlacedHalf) (between : Option ℤ) (old new : List PieceValue) : Type 0 where
+pub record WasSet (fonts : SetValue) (current : Current) (p : PassedElement) (h : PlacedItem) (between : Option ℤ) (old new : List PieceValue) : Type 0 where
   pub half : HalfOn h old new (set_item fonts current (flat_item fonts p))
   pub kern : test_kern between ≡ Ok tt
 
--- how far the atoms reach by now
-pub record ReachesOn (reach reach' : Reach) (old new : List PieceValue) : Type 0 where
-  pub height : reach'.height.sp ≡ int_max reach.height.sp (row_height (drop (length old) new))
-  pub depth : reach'.depth.sp ≡ int_max reach.depth.sp (row_depth (drop (length old) new))
-
-pub reaches_on : (first : ℕ) (reach reach' : Reach) (old new : List PieceValue) → first ≡ length old → reach'.height.sp ≡ int_max reach.height.sp (row_height (drop first new)) → reach'.depth.sp ≡ int_max reach.depth.sp (row_depth (drop first new)) → ReachesOn reach reach' old new
-reaches_on first reach reach' old new e h d = record {
-  height = subst (λ n. reach'.height.sp ≡ int_max reach.height.sp (row_height (drop n new))) e h;
-  depth = subst (λ n. reach'.depth.sp ≡ int_max reach.depth.sp (row_depth (drop n new))) e d;
-}
-
-going_set : (fonts : SetValue) (first : Style) (whole : Sequence) (current : Current) (f : Element) (s : Sequence) (items : List PlacedHalf) (reach reach' : Reach) (old mid new : List PieceValue) (p : PassedElement) (rest' : Sequence) (h : PlacedHalf) → Going fonts first whole current (More f s) items reach old mid → PassesOne p rest' ≡ turn_of fonts current f s → ((enclosed : Bool) → RestOfList enclosed (More f s) → RestOfList enclosed (More (element_of_passed p) rest')) → (w : WasSet fonts current p h (kern_of p) mid new) → ReachesOn reach reach' mid new → Going fonts first whole (current_after_half current (placed_value h w.half.row)) rest' (items ++ h ∷ kern_halves (kern_of p)) reach' old new
-going_set fonts first whole current f s items reach reach' old mid new p rest' h g u l w r =
+going_set : (fonts : SetValue) (first : Style) (whole : Sequence) (current : Current) (f : Element) (s : Sequence) (items : List PlacedItem) (old mid new : List PieceValue) (p : PassedElement) (rest' : Sequence) (h : PlacedItem) → Going fonts first whole current (More f s) items old mid → PassesOne p rest' ≡ turn_of fonts current f s → ((enclosed : Bool) → RestOfList enclosed (More f s) → RestOfList enclosed (More (element_of_passed p) rest')) → (w : WasSet fonts current p h (kern_of p) mid new) → Going fonts first whole (current_after_half current (placed_value h w.half.row)) rest' (items ++ h ∷ kern_halves (kern_of p)) old new
+going_set fonts first whole current f s items old mid new p rest' h g u l w =
     let k : TurnKeeps f s (PassesOne p rest') = subst (TurnKeeps f s) (sym u) (turn_keeps fonts current f s) in
     let t = turns_left fonts current f s g.turns g.enough in
     let done = placed_values items g.row in
     let more = w.half.row in
     let value = placed_value h more in
-    let next : List PlacedHalf = h ∷ kern_halves (kern_of p) in
+    let next : List PlacedItem = h ∷ kern_halves (kern_of p) in
     let a = pushes h (kern_of p) more w.half.fits w.half.count w.kern in
     let now : placed_values (items ++ next) (g.row ++ more) ≡ done ++ value ∷ kern_values (kern_of p) =
     values_append items next g.row more g.count ∙ ap (λ xs. done ++ xs) a.are in
-    let behind : drop (length mid) new ≡ more = row_behind (length mid) mid more new refl w.half.stays in
-    let high : reach'.height.sp ≡ int_max reach.height.sp (half_height value) =
-    r.height ∙ ap (int_max reach.height.sp) (ap row_height behind ∙ sym (piece_height h more w.half.count)) in
-    let deep : reach'.depth.sp ≡ int_max reach.depth.sp (half_depth value) =
-    r.depth ∙ ap (int_max reach.depth.sp) (ap row_depth behind ∙ sym (piece_depth h more w.half.count)) in
-    let low_height : pos 0 ≤ℤ reach.height.sp = subst (λ x. pos 0 ≤ℤ x) (sym g.height_is) (height_low done) in
-    let low_depth : pos 0 ≤ℤ reach.depth.sp = subst (λ x. pos 0 ≤ℤ x) (sym g.depth_is) (depth_low done) in
     record {
       row = g.row ++ more;
       stays = w.half.stays ∙ (ap (λ x. x ++ more) g.stays ∙ append_assoc old g.row more);
@@ -264,33 +238,23 @@ going_set fonts first whole current f s items reach reach' old mid new p rest' h
       nesting = omega (arith, g.nesting, k.nesting);
       amounts = (k.amounts g.amounts.0 g.amounts.1).1;
       fits = fits_append items next g.fits a.fits;
-      height_is =
-          with_last reach.height.sp reach'.height.sp (half_height value) low_height high
-          ∙ (ap (λ x. int_max x (int_max (half_height value) (pos 0))) g.height_is
-          ∙ (ap (λ x. int_max (greatest_height done) (int_max (half_height value) x)) (sym (kern_height (kern_of p)))
-          ∙ (sym (height_append done (value ∷ kern_values (kern_of p))) ∙ ap greatest_height (sym now))));
-      depth_is =
-          with_last reach.depth.sp reach'.depth.sp (half_depth value) low_depth deep
-          ∙ (ap (λ x. int_max x (int_max (half_depth value) (pos 0))) g.depth_is
-          ∙ (ap (λ x. int_max (greatest_depth done) (int_max (half_depth value) x)) (sym (kern_depth (kern_of p)))
-          ∙ (sym (depth_append done (value ∷ kern_values (kern_of p))) ∙ ap greatest_depth (sym now))));
-      height = subst (λ x. x ≤ℤ pos max_dimen) (sym high) (both_low reach.height.sp (half_height value) (pos max_dimen) g.height w.half.height);
-      depth = subst (λ x. x ≤ℤ pos max_dimen) (sym deep) (both_low reach.depth.sp (half_depth value) (pos max_dimen) g.depth w.half.depth);
+      height = subst (λ xs. greatest_height xs ≤ℤ pos max_dimen) (sym now) (more_high done value (kern_of p) g.height w.half.height);
+      depth = subst (λ xs. greatest_depth xs ≤ℤ pos max_dimen) (sym now) (more_deep done value (kern_of p) g.depth w.half.depth);
       follow = subst (FollowSoFar (current_after_half current value).last) (sym now) (follow_step current.last done value (kern_of p) g.follow (item_follows fonts current p value w.half.is));
       remains = subst (λ xs. Remains xs rest') (sym now) (remains_pass fonts current done f s p rest' value g.remains u l w.half.is);
       modest = g.modest;
     }
 
-pub going_pass : (fonts : SetValue) (first : Style) (whole : Sequence) (current current' : Current) (rest : Sequence) (items items' : List PlacedHalf) (reach reach' : Reach) (old mid new : List PieceValue) (f : Element) (s : Sequence) (p : PassedElement) (rest' : Sequence) (h : PlacedHalf) (kern : Option ℤ) → Going fonts first whole current rest items reach old mid → rest ≡ More f s → PassesOne p rest' ≡ turn_of fonts current f s → ((enclosed : Bool) → RestOfList enclosed (More f s) → RestOfList enclosed (More (element_of_passed p) rest')) → kern ≡ kern_of p → WasSet fonts current p h kern mid new → ReachesOn reach reach' mid new → items' ≡ items ++ h ∷ kern_halves kern → ((row : List PieceValue) → current' ≡ current_after_half current (placed_value h row)) → Going fonts first whole current' rest' items' reach' old new
-going_pass fonts first whole current current' rest items items' reach reach' old mid new f s p rest' h kern g is u l k w r eq c =
+pub going_pass : (fonts : SetValue) (first : Style) (whole : Sequence) (current current' : Current) (rest : Sequence) (items items' : List PlacedItem) (old mid new : List PieceValue) (f : Element) (s : Sequence) (p : PassedElement) (rest' : Sequence) (h : PlacedItem) (kern : Option ℤ) → Going fonts first whole current rest items old mid → rest ≡ More f s → PassesOne p rest' ≡ turn_of fonts current f s → ((enclosed : Bool) → RestOfList enclosed (More f s) → RestOfList enclosed (More (element_of_passed p) rest')) → kern ≡ kern_of p → WasSet fonts current p h kern mid new → items' ≡ items ++ h ∷ kern_halves kern → ((row : List PieceValue) → current' ≡ current_after_half current (placed_value h row)) → Going fonts first whole current' rest' items' old new
+going_pass fonts first whole current current' rest items items' old mid new f s p rest' h kern g is u l k w eq c =
     let v : WasSet fonts current p h (kern_of p) mid new = record { half = w.half; kern = subst (λ x. test_kern x ≡ Ok tt) k w.kern } in
-    rw (eq, k, c w.half.row) (going_set fonts first whole current f s items reach reach' old mid new p rest' h (subst (λ r. Going fonts first whole current r items reach old mid) is g) u l v r)
+    rw (eq, k, c w.half.row) (going_set fonts first whole current f s items old mid new p rest' h (subst (λ r. Going fonts first whole current r items old mid) is g) u l v)
 
 -- ---- a fault of an item is the fault of the list
 
-err_set : (fonts : SetValue) (first : Style) (whole : Sequence) (current : Current) (f : Element) (s : Sequence) (items : List PlacedHalf) (reach : Reach) (old new : List PieceValue) (p : PassedElement) (rest' : Sequence) (fault : SetFault) → Going fonts first whole current (More f s) items reach old new → PassesOne p rest' ≡ turn_of fonts current f s → SetFails fault (set_items fonts current (flat_items fonts p)) → SetFails fault (halves_of fonts first whole)
+err_set : (fonts : SetValue) (first : Style) (whole : Sequence) (current : Current) (f : Element) (s : Sequence) (items : List PlacedItem) (old new : List PieceValue) (p : PassedElement) (rest' : Sequence) (fault : SetFault) → Going fonts first whole current (More f s) items old new → PassesOne p rest' ≡ turn_of fonts current f s → SetFails fault (set_items fonts current (flat_items fonts p)) → SetFails fault (halves_of fonts first whole)
 unfolding halves_of first_pass_of
-err_set fonts first whole current f s items reach old new p rest' fault g u h =
+err_set fonts first whole current f s items old new p rest' fault g u h =
     let t = turns_left fonts current f s g.turns g.enough in
     fails_on fault (set_items fonts current (flat_items fonts p)) (halves_of fonts first whole) h
     (λ x k. ap (λ a. a >>= (λ hs. Ok (settle hs)))
@@ -298,13 +262,13 @@ err_set fonts first whole current f s items reach old new p rest' fault g u h =
     ∙ (ap (λ xs. appended_to (placed_values items g.row) (set_items fonts current xs)) (t.first_turn ∙ ap (λ v. flat_by (flat fonts t.left) current (turn_meaning fonts v)) (sym u))
     ∙ items_fail fonts current (placed_values items g.row) p (flat fonts t.left (current_after_items current (flat_items fonts p)) (items_of fonts rest')) x k)))
 
-pub going_err : (fonts : SetValue) (first : Style) (whole : Sequence) (current : Current) (rest : Sequence) (items : List PlacedHalf) (reach : Reach) (old new : List PieceValue) (f : Element) (s : Sequence) (p : PassedElement) (rest' : Sequence) (fault : SetFault) → Going fonts first whole current rest items reach old new → rest ≡ More f s → PassesOne p rest' ≡ turn_of fonts current f s → SetFails fault (set_item fonts current (flat_item fonts p)) → SetFails fault (halves_of fonts first whole)
-going_err fonts first whole current rest items reach old new f s p rest' fault g is u h =
-    err_set fonts first whole current f s items reach old new p rest' fault (subst (λ r. Going fonts first whole current r items reach old new) is g) u (item_err fonts current p fault h)
+pub going_err : (fonts : SetValue) (first : Style) (whole : Sequence) (current : Current) (rest : Sequence) (items : List PlacedItem) (old new : List PieceValue) (f : Element) (s : Sequence) (p : PassedElement) (rest' : Sequence) (fault : SetFault) → Going fonts first whole current rest items old new → rest ≡ More f s → PassesOne p rest' ≡ turn_of fonts current f s → SetFails fault (set_item fonts current (flat_item fonts p)) → SetFails fault (halves_of fonts first whole)
+going_err fonts first whole current rest items old new f s p rest' fault g is u h =
+    err_set fonts first whole current f s items old new p rest' fault (subst (λ r. Going fonts first whole current r items old new) is g) u (item_err fonts current p fault h)
 
-pub going_kern_err : (fonts : SetValue) (first : Style) (whole : Sequence) (current : Current) (rest : Sequence) (items : List PlacedHalf) (reach : Reach) (old new : List PieceValue) (f : Element) (s : Sequence) (p : PassedElement) (rest' : Sequence) (h : HalfValue) (kern : Option ℤ) (fault : SetFault) → Going fonts first whole current rest items reach old new → rest ≡ More f s → PassesOne p rest' ≡ turn_of fonts current f s → set_item fonts current (flat_item fonts p) ≡ Ok h → kern ≡ kern_of p → SetFails fault (test_kern kern) → SetFails fault (halves_of fonts first whole)
-going_kern_err fonts first whole current rest items reach old new f s p rest' h kern fault g is u e k t =
-    err_set fonts first whole current f s items reach old new p rest' fault (subst (λ r. Going fonts first whole current r items reach old new) is g) u (kern_err fonts current p h fault e (subst (λ x. SetFails fault (test_kern x)) k t))
+pub going_kern_err : (fonts : SetValue) (first : Style) (whole : Sequence) (current : Current) (rest : Sequence) (items : List PlacedItem) (old new : List PieceValue) (f : Element) (s : Sequence) (p : PassedElement) (rest' : Sequence) (h : HalfValue) (kern : Option ℤ) (fault : SetFault) → Going fonts first whole current rest items old new → rest ≡ More f s → PassesOne p rest' ≡ turn_of fonts current f s → set_item fonts current (flat_item fonts p) ≡ Ok h → kern ≡ kern_of p → SetFails fault (test_kern kern) → SetFails fault (halves_of fonts first whole)
+going_kern_err fonts first whole current rest items old new f s p rest' h kern fault g is u e k t =
+    err_set fonts first whole current f s items old new p rest' fault (subst (λ r. Going fonts first whole current r items old new) is g) u (kern_err fonts current p h fault e (subst (λ x. SetFails fault (test_kern x)) k t))
 
 -- ---- no turn is left at the end
 
@@ -312,33 +276,31 @@ at_end : (fonts : SetValue) (current : Current) (turns : ℕ) → set_items font
 at_end fonts current zero = refl
 at_end fonts current (suc t) = refl
 
-end_on : (fonts : SetValue) (first : Style) (whole : Sequence) (current : Current) (items : List PlacedHalf) (reach : Reach) (old new : List PieceValue) (g : Going fonts first whole current End items reach old new) → halves_of fonts first whole ≡ Ok (settle (placed_values items g.row))
+end_on : (fonts : SetValue) (first : Style) (whole : Sequence) (current : Current) (items : List PlacedItem) (old new : List PieceValue) (g : Going fonts first whole current End items old new) → halves_of fonts first whole ≡ Ok (settle (placed_values items g.row))
 unfolding halves_of first_pass_of
-end_on fonts first whole current items reach old new g =
+end_on fonts first whole current items old new g =
     ap (λ a. a >>= (λ hs. Ok (settle hs))) (g.whole_is ∙ (ap (λ s. appended_to (placed_values items g.row) s) (at_end fonts current g.turns) ∙ appended_end (placed_values items g.row)))
 
 -- the items so far can be settled
-can_finish : (fonts : SetValue) (first : Style) (whole : Sequence) (current : Current) (items : List PlacedHalf) (reach : Reach) (old new : List PieceValue) (g : Going fonts first whole current End items reach old new) → CanFinish items reach g.row
-can_finish fonts first whole current items reach old new g = record {
+can_finish : (fonts : SetValue) (first : Style) (whole : Sequence) (current : Current) (items : List PlacedItem) (old new : List PieceValue) (g : Going fonts first whole current End items old new) → CanFinish items g.row
+can_finish fonts first whole current items old new g = record {
   count = g.count;
   boundaries = remains_end (placed_values items g.row) g.remains;
   follow = g.follow.follow;
   few = omega (arith, g.items_few, g.modest.items);
   total = omega (arith, g.total, g.modest.items);
   fit = g.fits;
-  height = g.height_is;
-  depth = g.depth_is;
-  height_high = g.height;
-  depth_high = g.depth;
+  height = g.height;
+  depth = g.depth;
 }
 
-end_set : (fonts : SetValue) (first : Style) (whole : Sequence) (current : Current) (items : List PlacedHalf) (reach : Reach) (old new : List PieceValue) (x : PlacedHalves) → Going fonts first whole current End items reach old new → ((row : List PieceValue) → CanFinish items reach row → Finishes x row (settle (placed_values items row))) → HalvesOn x old new (halves_of fonts first whole)
-end_set fonts first whole current items reach old new x g f =
-    let d = f g.row (can_finish fonts first whole current items reach old new g) in
-    record { row = g.row; is = end_on fonts first whole current items reach old new g ∙ ap (λ v. Ok v) (sym d.is); stays = g.stays; placed = d.placed }
+end_set : (fonts : SetValue) (first : Style) (whole : Sequence) (current : Current) (items : List PlacedItem) (old new : List PieceValue) (x : List PlacedItem) → Going fonts first whole current End items old new → ((row : List PieceValue) → CanFinish items row → Finishes (reaching x row) row (settle (placed_values items row))) → ItemsOn x old new (halves_of fonts first whole)
+end_set fonts first whole current items old new x g f =
+    let d = f g.row (can_finish fonts first whole current items old new g) in
+    record { row = g.row; is = end_on fonts first whole current items old new g ∙ ap (λ v. Ok v) (sym d.is); stays = g.stays; placed = d.placed }
 
-pub going_end : (fonts : SetValue) (first : Style) (whole : Sequence) (current : Current) (rest : Sequence) (items : List PlacedHalf) (reach : Reach) (old new : List PieceValue) (x : PlacedHalves) → Going fonts first whole current rest items reach old new → rest ≡ End → ((row : List PieceValue) → CanFinish items reach row → Finishes x row (settle (placed_values items row))) → HalvesOn x old new (halves_of fonts first whole)
-going_end fonts first whole current rest items reach old new x g e f = end_set fonts first whole current items reach old new x (subst (λ r. Going fonts first whole current r items reach old new) e g) f
+pub going_end : (fonts : SetValue) (first : Style) (whole : Sequence) (current : Current) (rest : Sequence) (items : List PlacedItem) (old new : List PieceValue) (x : List PlacedItem) → Going fonts first whole current rest items old new → rest ≡ End → ((row : List PieceValue) → CanFinish items row → Finishes (reaching x row) row (settle (placed_values items row))) → ItemsOn x old new (halves_of fonts first whole)
+going_end fonts first whole current rest items old new x g e f = end_set fonts first whole current items old new x (subst (λ r. Going fonts first whole current r items old new) e g) f
 
 -- ---- what the program answers of a turn
 
@@ -359,7 +321,7 @@ pub record FrontTurn (fonts : SetValue) (current : Current) (rest : Sequence) (t
   pub turn : t ≡ turn_of fonts current element after
   pub leaves : (enclosed : Bool) → RestOfList enclosed (More element after) → TurnLeaves enclosed t
 
-front_turn : (fonts : SetValue) (current : Current) (es : List Held) (front : Thing) (rest after rest' : Sequence) (o : Option CodePassed) → is_item front ≡ true → rest ≡ more_of (value_in es front) after → turned_by (passed_in es) o rest' ≡ turn_of_held fonts current (value_in es front) after → ((enclosed : Bool) → RestOfList enclosed (more_of (value_in es front) after) → LeavesBy (passed_in es) enclosed o rest') → FrontTurn fonts current rest (turned_by (passed_in es) o rest')
+front_turn : (fonts : SetValue) (current : Current) (es : List Held) (front : Thing) (rest after rest' : Sequence) (o : Option Joined) → is_item front ≡ true → rest ≡ more_of (value_in es front) after → turned_by (passed_in es front) o rest' ≡ turn_of_held fonts current (value_in es front) after → ((enclosed : Bool) → RestOfList enclosed (more_of (value_in es front) after) → LeavesBy (passed_in es front) enclosed o rest') → FrontTurn fonts current rest (turned_by (passed_in es front) o rest')
 front_turn fonts current es front rest after rest' o i e u l =
     let h = an_item es front i in
     record {
@@ -367,17 +329,15 @@ front_turn fonts current es front rest after rest' o i e u l =
       after = after;
       is = e ∙ ap (λ x. more_of x after) h.is;
       turn = u ∙ ap (λ x. turn_of_held fonts current x after) h.is;
-      leaves = λ enclosed x. turn_leaves (passed_in es) enclosed o rest' (l enclosed (subst (λ v. RestOfList enclosed (more_of v after)) (sym h.is) x));
+      leaves = λ enclosed x. turn_leaves (passed_in es front) enclosed o rest' (l enclosed (subst (λ v. RestOfList enclosed (more_of v after)) (sym h.is) x));
     }
 
-pub front_passes : (fonts : SetValue) (current : Current) (es : List Held) (front : Thing) (rest after rest' : Sequence) (o : Option CodePassed) (p : CodePassed) → is_item front ≡ true → rest ≡ more_of (value_in es front) after → turned_by (passed_in es) o rest' ≡ turn_of_held fonts current (value_in es front) after → ((enclosed : Bool) → RestOfList enclosed (more_of (value_in es front) after) → LeavesBy (passed_in es) enclosed o rest') → o ≡ Some p → FrontTurn fonts current rest (PassesOne (passed_in es p) rest')
-front_passes fonts current es front rest after rest' o p i e u l f = subst (λ x. FrontTurn fonts current rest (turned_by (passed_in es) x rest')) f (front_turn fonts current es front rest after rest' o i e u l)
+pub front_passes : (fonts : SetValue) (current : Current) (es : List Held) (front : Thing) (rest after rest' : Sequence) (o : Option Joined) (p : Joined) → is_item front ≡ true → rest ≡ more_of (value_in es front) after → turned_by (passed_in es front) o rest' ≡ turn_of_held fonts current (value_in es front) after → ((enclosed : Bool) → RestOfList enclosed (more_of (value_in es front) after) → LeavesBy (passed_in es front) enclosed o rest') → o ≡ Some p → FrontTurn fonts current rest (PassesOne (passed_in es front p) rest')
+front_passes fonts current es front rest after rest' o p i e u l f = subst (λ x. FrontTurn fonts current rest (turned_by (passed_in es front) x rest')) f (front_turn fonts current es front rest after rest' o i e u l)
 
-pub front_again : (fonts : SetValue) (current : Current) (es : List Held) (front : Thing) (rest after rest' : Sequence) (o : Option CodePassed) → is_item front ≡ true → rest ≡ more_of (value_in es front) after → turned_by (passed_in es) o rest' ≡ turn_of_held fonts current (value_in es front) after → ((enclosed : Bool) → RestOfList enclosed (more_of (value_in es front) after) → LeavesBy (passed_in es) enclosed o rest') → ((p : CodePassed) → o ≡ Some p → ⊥) → FrontTurn fonts current rest (RewritesTo rest')
+pub front_again : (fonts : SetValue) (current : Current) (es : List Held) (front : Thing) (rest after rest' : Sequence) (o : Option Joined) → is_item front ≡ true → rest ≡ more_of (value_in es front) after → turned_by (passed_in es front) o rest' ≡ turn_of_held fonts current (value_in es front) after → ((enclosed : Bool) → RestOfList enclosed (more_of (value_in es front) after) → LeavesBy (passed_in es front) enclosed o rest') → ((p : Joined) → o ≡ Some p → ⊥) → FrontTurn fonts current rest (RewritesTo rest')
 front_again fonts current es front rest after rest' None i e u l n = front_turn fonts current es front rest after rest' None i e u l
 front_again fonts current es front rest after rest' (Some p) i e u l n = absurd (n p refl)
 
-pub modest_passed : (es : List Held) (o : Option CodePassed) (p : CodePassed) → o ≡ Some p → IfSome o (KeptPassed es) → IsModestElement (element_of_passed (passed_in es p)) → ModestPassed es p
-modest_passed es o p e k m =
-    let i = subst (λ x. IfSome x (KeptPassed es)) e k in
-    record { within = i.1.0; modest = m; kept = i.1.1 }
+pub modest_passed : (es : List Held) (front : Thing) (p : Joined) → KeptItem es front → IsModestElement (element_of_passed (passed_in es front p)) → ModestPassed es front p
+modest_passed es front p k m = record { within = k.1.0; modest = m; kept = k.1.1 }

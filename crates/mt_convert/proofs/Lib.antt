@@ -45,6 +45,8 @@ pub mod Going
 pub mod BothPasses
 -- the list of one atom alone
 pub mod LoneLists
+-- the list of one ordinary symbol alone
+pub mod LoneSymbols
 -- whole lists in the toy fonts, worked
 mod cases
 -- atoms of each kind, and fractions

@@ -1,9 +1,9 @@
 -- The rows of a list between the passes put on a stack, item by item (`ItemsPut`).
 use Rattle.std.proofs.Common.{◌≡◌, ℕ, ◌+◌, ◌^◌, List, [], ◌∷◌, ◌++◌, length, ap, sym, ◌∙◌, refl, arith, subst, append_assoc, length-append}
-use Rattle.mt_convert.proofs.Common.{take_all, Piece, PieceValue, piece_values, Class, PlacedHalf, HalfAtom, half_value, half_values, HalvesFit, total_of}
+use Rattle.mt_convert.proofs.Common.{take_all, Piece, PieceValue, piece_values, Class, PlacedItem, HalfAtom, half_value, half_values, HalvesFit, total_of}
 use Rattle.mt_convert.specs.declared.half.Half.{Half}
 use Rattle.mt_convert.specs.declared.half.Half.TheVariants as half
-use Rattle.mt_convert.specs.declared.placed.PlacedHalf.TheVariants as placed
+use Rattle.mt_pieces.specs.declared.items.PlacedItem.TheVariants as placed
 use Rattle.mt_convert.specs.inner.Placed.{placed_value, placed_values, placed_count, AllPlacedFit}
 use Rattle.mt_convert.specs.inner.Put.{IsPut}
 use Rattle.mt_convert.proofs.PlacedValues.{values_append, count_append, fits_append}
@@ -26,7 +26,7 @@ atom_put class count row old new e f = record {
 
 -- ---- items in order
 
-pub record ItemsPut (whole rest : List Half) (done : List PlacedHalf) (old now : List PieceValue) : Type 0 where
+pub record ItemsPut (whole rest : List Half) (done : List PlacedItem) (old now : List PieceValue) : Type 0 where
   pub row : List PieceValue
   pub stays : now ≡ old ++ row
   pub are : placed_values done row ++ half_values rest ≡ half_values whole
@@ -36,7 +36,7 @@ pub record ItemsPut (whole rest : List Half) (done : List PlacedHalf) (old now :
   pub fit : AllPlacedFit done
   pub rest_fit : HalvesFit (2 ^ 16) rest
 
-pub items_step : (whole rest : List Half) (done done' : List PlacedHalf) (old now now' : List PieceValue) (h : Half) (rest' : List Half) (p : PlacedHalf) → ItemsPut whole rest done old now → rest ≡ h ∷ rest' → IsPut p h now now' → done' ≡ done ++ p ∷ []
+pub items_step : (whole rest : List Half) (done done' : List PlacedItem) (old now now' : List PieceValue) (h : Half) (rest' : List Half) (p : PlacedItem) → ItemsPut whole rest done old now → rest ≡ h ∷ rest' → IsPut p h now now' → done' ≡ done ++ p ∷ []
     → ItemsPut whole rest' done' old now'
 items_step whole rest done done' old now now' h rest' p s e k f =
     let one : placed_value p k.row ≡ half_value h = k.is in

@@ -1,6 +1,6 @@
 -- The second pass, item by item (`PutSoFar`), and the test of the row.
 use Rattle.std.proofs.Common.{◌≡◌, ℕ, ◌≤◌, ◌+◌, ◌^◌, List, [], ◌∷◌, ◌++◌, length, take, drop, min, ap, sym, ◌∙◌, arith, subst, ℤ, None, append_assoc, append-nil, length-append, length-drop, length-take-le, Result, Ok, Err, OnOk}
-use Rattle.mt_convert.proofs.Common.{drop_at, drop-drop, Size, SetValue, PieceValue, Style, size_of, Setting, ◌>>=◌, make_row, boundary_size, Current, SetFault, PlacedHalf, opening, HalfValue, SetFails, RowOn, SetsRowOn, AllMeet, MayMeet, all_pieces, half_pieces, current_after_half, row_of_halves}
+use Rattle.mt_convert.proofs.Common.{drop_at, drop-drop, Size, SetValue, PieceValue, Style, size_of, Setting, ◌>>=◌, make_row, boundary_size, Current, SetFault, PlacedItem, opening, HalfValue, SetFails, RowOn, SetsRowOn, AllMeet, MayMeet, all_pieces, half_pieces, current_after_half, row_of_halves}
 use Rattle.mt_pieces.specs.declared.runs.PieceAt.{PieceAt}
 use Rattle.mt_pieces.specs.Runs.{IsAt}
 use Rattle.mt_convert.specs.inner.Appending.{appended_to}
@@ -12,7 +12,7 @@ use Rattle.mt_convert.proofs.Settling.{left_is}
 use Rattle.mt_convert.specs.SecondPass.{second_pass_of}
 
 -- The pieces of the whole list are those that are put, and then those of the rest, whose own pieces begin at the place.
-pub record PutSoFar (fonts : SetValue) (size : Size) (wanted : ℤ) (style : Style) (items : List PlacedHalf) (first : ℕ) (old : List PieceValue) (current : Current) (rest : List PlacedHalf) (from : PieceAt) (now : List PieceValue) : Type 0 where
+pub record PutSoFar (fonts : SetValue) (size : Size) (wanted : ℤ) (style : Style) (items : List PlacedItem) (first : ℕ) (old : List PieceValue) (current : Current) (rest : List PlacedItem) (from : PieceAt) (now : List PieceValue) : Type 0 where
   pub is_at : IsAt from now
   pub done : List PieceValue
   pub stays : now ≡ old ++ done
@@ -21,7 +21,7 @@ pub record PutSoFar (fonts : SetValue) (size : Size) (wanted : ℤ) (style : Sty
   pub meet : AllMeet current.last (placed_values rest (drop from.piece old))
   pub fit : AllPlacedFit rest
 
-pub put_start : (fonts : SetValue) (size : Size) (wanted : ℤ) (style : Style) (items : List PlacedHalf) (first : ℕ) (old : List PieceValue) (current : Current) (from : PieceAt) → first ≤ length old → PlacesIn items (drop first old) → current ≡ opening style → IsAt from old → from.piece ≡ min first (length old)
+pub put_start : (fonts : SetValue) (size : Size) (wanted : ℤ) (style : Style) (items : List PlacedItem) (first : ℕ) (old : List PieceValue) (current : Current) (from : PieceAt) → first ≤ length old → PlacesIn items (drop first old) → current ≡ opening style → IsAt from old → from.piece ≡ min first (length old)
     → PutSoFar fonts size wanted style items first old current items from old
 put_start fonts size wanted style items first old current from le p c at n =
     let e : from.piece ≡ first = omega (arith, n, le) in
@@ -36,12 +36,12 @@ put_start fonts size wanted style items first old current from le p c at n =
     })
 
 -- what putting the next item needs
-pub record NextPut (current : Current) (h : PlacedHalf) (at : ℕ) (old : List PieceValue) : Type 0 where
+pub record NextPut (current : Current) (h : PlacedItem) (at : ℕ) (old : List PieceValue) : Type 0 where
   pub meets : MayMeet current.last (placed_left h)
   pub fits : PlacedFits h
   pub room : at + placed_length h ≤ length old
 
-pub next_put : (fonts : SetValue) (size : Size) (wanted : ℤ) (style : Style) (items : List PlacedHalf) (first : ℕ) (old : List PieceValue) (current : Current) (rest : List PlacedHalf) (from : PieceAt) (now : List PieceValue) (h : PlacedHalf) (rest' : List PlacedHalf) → (s : PutSoFar fonts size wanted style items first old current rest from now) → rest ≡ h ∷ rest'
+pub next_put : (fonts : SetValue) (size : Size) (wanted : ℤ) (style : Style) (items : List PlacedItem) (first : ℕ) (old : List PieceValue) (current : Current) (rest : List PlacedItem) (from : PieceAt) (now : List PieceValue) (h : PlacedItem) (rest' : List PlacedItem) → (s : PutSoFar fonts size wanted style items first old current rest from now) → rest ≡ h ∷ rest'
     → NextPut current h from.piece old
 next_put fonts size wanted style items first old current rest from now h rest' s e =
     let room : from.piece + placed_count (h ∷ rest') ≡ length old = ap (λ r. from.piece + placed_count r) (sym e) ∙ s.room in
@@ -52,7 +52,7 @@ next_put fonts size wanted style items first old current rest from now h rest' s
       room = omega (arith, room);
     }
 
-pub put_step : (fonts : SetValue) (size : Size) (wanted : ℤ) (style : Style) (items : List PlacedHalf) (first : ℕ) (old : List PieceValue) (current current' : Current) (rest : List PlacedHalf) (from from' : PieceAt) (now now' : List PieceValue) (h : PlacedHalf) (rest' : List PlacedHalf) → (s : PutSoFar fonts size wanted style items first old current rest from now) → rest ≡ h ∷ rest'
+pub put_step : (fonts : SetValue) (size : Size) (wanted : ℤ) (style : Style) (items : List PlacedItem) (first : ℕ) (old : List PieceValue) (current current' : Current) (rest : List PlacedItem) (from from' : PieceAt) (now now' : List PieceValue) (h : PlacedItem) (rest' : List PlacedItem) → (s : PutSoFar fonts size wanted style items first old current rest from now) → rest ≡ h ∷ rest'
     → RowOn now now' (half_pieces fonts size wanted current (placed_value h (drop from.piece old))) → IsAt from' now' → (from.piece + placed_length h ≤ length now → from'.piece ≡ from.piece + placed_length h) → current' ≡ current_after_half current (placed_value h (drop from.piece old))
     → PutSoFar fonts size wanted style items first old current' rest' from' now'
 put_step fonts size wanted style items first old current current' rest from from' now now' h rest' s e m at p c =
@@ -86,7 +86,7 @@ always (Err e) P p = tt
 row_behind : (first : ℕ) (old mid : List PieceValue) (setting : Setting (List PieceValue)) → first ≤ length old → (m : RowOn (take first old) mid setting) → drop first mid ≡ m.row
 row_behind first old mid setting le m = ap (drop first) m.stays ∙ drop_at (take first old) m.row first (length-take-le first old le)
 
-pub row_few : (fonts : SetValue) (size : Size) (wanted : ℤ) (style : Style) (items : List PlacedHalf) (first : ℕ) (old mid : List PieceValue) → first ≤ length old → PlacesIn items (drop first old)
+pub row_few : (fonts : SetValue) (size : Size) (wanted : ℤ) (style : Style) (items : List PlacedItem) (first : ℕ) (old mid : List PieceValue) → first ≤ length old → PlacesIn items (drop first old)
     → RowOn (take first old) mid (all_pieces fonts size wanted (opening style) (placed_values items (drop first old))) → length (drop first mid) ≤ 2 ^ 21
 row_few fonts size wanted style items first old mid le p m =
     let few = all_few fonts size wanted (opening style) items (drop first old) m.row m.is in

@@ -1,9 +1,9 @@
 -- The rows of items taken from a stack, from the last item on (`ItemsTaken`).
 use Rattle.std.proofs.Common.{◌≡◌, ℕ, ◌≤◌, ◌<◌, ◌+◌, ◌-◌, ◌^◌, List, [], ◌∷◌, ◌++◌, length, take, drop, reverse, get_or, ap, sym, ◌∙◌, refl, arith, subst, append_assoc, length-append, length-take-le, take-append-drop, None, pos, ◌≤ℤ◌}
-use Rattle.mt_convert.proofs.Common.{take_all, drop_at, take_more, reverse-append, max_dimen, Piece, PieceValue, piece_values, AllMeasurable, row_level, Class, PlacedHalf, PlacedHalves, HalfAtom, half_value, half_values, HalfwayValue, IsHalfway, HalvesFit, RowFits, total_of, AllMeet, BoundariesOutside}
+use Rattle.mt_convert.proofs.Common.{take_all, drop_at, take_more, reverse-append, max_dimen, Piece, PieceValue, piece_values, AllMeasurable, row_level, Class, PlacedItem, PlacedHalves, HalfAtom, half_value, half_values, HalfwayValue, IsHalfway, HalvesFit, RowFits, total_of, AllMeet, BoundariesOutside}
 use Rattle.mt_convert.specs.declared.half.Half.{Half}
 use Rattle.mt_convert.specs.declared.half.Half.TheVariants as half
-use Rattle.mt_convert.specs.declared.placed.PlacedHalf.TheVariants as placed
+use Rattle.mt_pieces.specs.declared.items.PlacedItem.TheVariants as placed
 use Rattle.mt_convert.specs.inner.Placed.{placed_values, placed_length, placed_count, PlacedFits, AllPlacedFit, IsPlaced}
 use Rattle.mt_convert.specs.inner.Taken.{IsTaken, AreTaken}
 use Rattle.mt_convert.proofs.PlacedValues.{values_append, count_append}
@@ -29,7 +29,7 @@ atom_taken class count first taken old front row e c f g fits =
 
 -- ---- items in order
 
-pub record ItemsTaken (items left : List PlacedHalf) (row now : List PieceValue) (halves : List Half) : Type 0 where
+pub record ItemsTaken (items left : List PlacedItem) (row now : List PieceValue) (halves : List Half) : Type 0 where
   pub count : placed_count left ≡ length now
   pub are : placed_values left now ++ half_values (reverse halves) ≡ placed_values items row
   pub total : total_of (reverse halves) + placed_count left ≡ placed_count items
@@ -37,14 +37,14 @@ pub record ItemsTaken (items left : List PlacedHalf) (row now : List PieceValue)
   pub fit : AllPlacedFit items → (n : ℕ) → 1 ≤ n → HalvesFit n (reverse halves)
 
 -- the pieces of the last item, and those before them
-pub record Apart (hs : List PlacedHalf) (item : PlacedHalf) (now : List PieceValue) : Type 0 where
+pub record Apart (hs : List PlacedItem) (item : PlacedItem) (now : List PieceValue) : Type 0 where
   pub front : List PieceValue
   pub last : List PieceValue
   pub is : now ≡ front ++ last
   pub front_count : placed_count hs ≡ length front
   pub last_length : placed_length item ≡ length last
 
-pub apart : (items left hs : List PlacedHalf) (item : PlacedHalf) (row now : List PieceValue) (halves : List Half) → ItemsTaken items left row now halves → left ≡ hs ++ item ∷ [] → Apart hs item now
+pub apart : (items left hs : List PlacedItem) (item : PlacedItem) (row now : List PieceValue) (halves : List Half) → ItemsTaken items left row now halves → left ≡ hs ++ item ∷ [] → Apart hs item now
 apart items left hs item row now halves s e =
     let k = placed_count hs in
     let c : k + placed_length item ≡ length now = omega (arith, s.count, ap placed_count e, count_append hs (item ∷ [])) in
@@ -57,11 +57,11 @@ apart items left hs item row now halves s e =
       last_length = omega (arith, c, f, ap length (take-append-drop k now), length-append (take k now) (drop k now));
     }
 
-last_fits : (hs : List PlacedHalf) (item : PlacedHalf) → AllPlacedFit (hs ++ item ∷ []) → AllPlacedFit hs × PlacedFits item
+last_fits : (hs : List PlacedItem) (item : PlacedItem) → AllPlacedFit (hs ++ item ∷ []) → AllPlacedFit hs × PlacedFits item
 last_fits [] item k = (tt, k.0)
 last_fits (h ∷ hs) item k = let r = last_fits hs item k.1 in ((k.0, r.0), r.1)
 
-pub taken_step : (items left hs : List PlacedHalf) (item : PlacedHalf) (row now now' : List PieceValue) (halves halves' : List Half) (h : Half) → ItemsTaken items left row now halves → left ≡ hs ++ item ∷ [] → (a : Apart hs item now) → IsTaken h item a.last → now' ≡ a.front → halves' ≡ halves ++ h ∷ []
+pub taken_step : (items left hs : List PlacedItem) (item : PlacedItem) (row now now' : List PieceValue) (halves halves' : List Half) (h : Half) → ItemsTaken items left row now halves → left ≡ hs ++ item ∷ [] → (a : Apart hs item now) → IsTaken h item a.last → now' ≡ a.front → halves' ≡ halves ++ h ∷ []
     → ItemsTaken items hs row now' halves'
 taken_step items left hs item row now now' halves halves' h s e a k f g =
     let turned : reverse halves' ≡ h ∷ reverse halves = ap reverse g ∙ reverse-append halves (h ∷ []) in
@@ -82,7 +82,7 @@ taken_step items left hs item row now now' halves halves' h s e a k f g =
     }
 
 -- one turn of the loop
-pub taken_turn : (items : List PlacedHalf) (i : ℕ) (d : PlacedHalf) (row now now' : List PieceValue) (halves halves' : List Half) (h : Half) → 0 < i → i ≤ length items → ItemsTaken items (take i items) row now halves
+pub taken_turn : (items : List PlacedItem) (i : ℕ) (d : PlacedItem) (row now now' : List PieceValue) (halves halves' : List Half) (h : Half) → 0 < i → i ≤ length items → ItemsTaken items (take i items) row now halves
     → ((front last : List PieceValue) → now ≡ front ++ last → placed_length (get_or items (i - 1) d) ≡ length last → IsTaken h (get_or items (i - 1) d) last)
     → ((front last : List PieceValue) → now ≡ front ++ last → placed_length (get_or items (i - 1) d) ≡ length last → now' ≡ front)
     → halves' ≡ halves ++ h ∷ [] → ItemsTaken items (take (i - 1) items) row now' halves'
@@ -93,7 +93,7 @@ taken_turn items i d row now now' halves halves' h low le s is others pushed =
     let a = apart items (take i items) (take (i - 1) items) item row now halves s e in
     taken_step items (take i items) (take (i - 1) items) item row now now' halves halves' h s e a (is a.front a.last a.is a.last_length) (others a.front a.last a.is a.last_length) pushed
 
-pub taken_end : (items left : List PlacedHalf) (row now : List PieceValue) (halves : List Half) → ItemsTaken items left row now halves → left ≡ [] → AreTaken (reverse halves) items row
+pub taken_end : (items left : List PlacedItem) (row now : List PieceValue) (halves : List Half) → ItemsTaken items left row now halves → left ≡ [] → AreTaken (reverse halves) items row
 taken_end items left row now halves s e = record {
   are = ap (λ l. placed_values l now ++ half_values (reverse halves)) (sym e) ∙ s.are;
   total = omega (arith, s.total, ap placed_count e);
@@ -106,7 +106,7 @@ halves_length : (hs : List Half) → length (half_values hs) ≡ length hs
 halves_length [] = refl
 halves_length (h ∷ hs) = omega (arith, halves_length hs)
 
-items_length : (hs : List PlacedHalf) (row : List PieceValue) → length (placed_values hs row) ≡ length hs
+items_length : (hs : List PlacedItem) (row : List PieceValue) → length (placed_values hs row) ≡ length hs
 items_length [] row = refl
 items_length (h ∷ hs) row = omega (arith, items_length hs (drop (placed_length h) row))
 

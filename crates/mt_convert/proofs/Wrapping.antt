@@ -1,8 +1,8 @@
 -- The public calls, by way of a stack that begins empty (`pass_is`, `list_taken`, `halves_taken`).
 use Rattle.std.proofs.Common.{◌≡◌, ◌≤◌, ◌^◌, List, [], ◌++◌, take, drop, length, ap, sym, refl, ◌∙◌, arith, subst, Ok, Err, Result, All, OnOk}
-use Rattle.mt_convert.proofs.Common.{SetValue, Piece, PieceValue, piece_values, Style, Sequence, Setting, SetFault, PlacedHalves, RowOn, SetsRowOn, Halves, RowHolds, second_pass_of, IsSoundFont}
+use Rattle.mt_convert.proofs.Common.{SetValue, Piece, PieceValue, piece_values, Style, Sequence, Setting, SetFault, PlacedItem, PlacedHalves, RowOn, SetsRowOn, Halves, RowHolds, second_pass_of, IsSoundFont}
 use Rattle.mt_convert.specs.inner.Fields.{list_content}
-use Rattle.mt_convert.specs.inner.Placed.{placed_halves, HalvesOn, IsPlaced}
+use Rattle.mt_convert.specs.inner.Placed.{placed_halves, reaching, HalvesOn, IsPlaced, ItemsOn}
 use Rattle.mt_convert.proofs.Behind.{row_behind}
 use Rattle.mt_convert.proofs.holds.Lists.{list_row_holds}
 use Rattle.mt_convert.proofs.PutRows.{values_length}
@@ -36,6 +36,13 @@ row_put (Ok u) fonts style list old new sound h = subst (RowHolds fonts) (sym (r
 row_put (Err fault) fonts style list old new sound h = tt
 
 -- the items of the first pass
+
+pub halves_on : (hs : List PlacedItem) (h : PlacedHalves) (old now : List PieceValue) (setting : Setting Halves) → old ≡ [] → ItemsOn hs old now setting → h ≡ reaching hs now → HalvesOn h old now setting
+halves_on hs h old now setting e k f =
+    subst (λ x. HalvesOn x old now setting) (sym (f ∙ ap (reaching hs) (k.stays ∙ ap (λ o. o ++ k.row) e))) (record { row = k.row; is = k.is; stays = k.stays; placed = k.placed })
+
+pub few_on : (hs : List PlacedItem) (old now : List PieceValue) (setting : Setting Halves) → old ≡ [] → ItemsOn hs old now setting → length now ≤ 2 ^ 21
+few_on hs old now setting e k = omega (arith, ap length (k.stays ∙ ap (λ o. o ++ k.row) e), k.placed.items.total)
 
 pub halves_placed : (h : PlacedHalves) (old now : List PieceValue) (setting : Setting Halves) → old ≡ [] → HalvesOn h old now setting → IsPlaced h now
 halves_placed h old now setting e k = subst (IsPlaced h) (sym (k.stays ∙ ap (λ o. o ++ k.row) e)) k.placed

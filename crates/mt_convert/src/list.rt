@@ -20,7 +20,7 @@ ghost use Rattle.mt_convert.specs.inner.Forms.{HasDegree};
 ghost use Rattle.mt_convert.specs.inner.Modest.{IsModestGrid, IsModestRows};
 ghost use Rattle.mt_convert.specs.inner.OnPieces.{CellsOn, SetsAtomOn, SetsBoxOn, SetsBoxesOn, SetsHalfOn};
 ghost use Rattle.mt_convert.specs.inner.OnPieces.{SetsNucleusOn, SetsOperatorOn, SetsScriptOn};
-ghost use Rattle.mt_convert.specs.inner.Placed.{SetsHalvesOn};
+ghost use Rattle.mt_convert.specs.inner.Placed.{SetsItemsOn};
 ghost use Rattle.mt_convert.specs.inner.Spans.{passed_in, ModestAtom, ModestCell, ModestFraction, ModestPassed, ModestSpan};
 ghost use Rattle.mt_convert.specs.inner.Tables.{rows_in_columns};
 ghost use Rattle.mt_convert.specs.inner.Turns.{flat_item, role_value};
@@ -28,12 +28,12 @@ ghost use Rattle.mt_convert.specs.inner.Turns.{flat_item, role_value};
 use crate::SetFault;
 use crate::context::Context;
 use crate::flat::current::{Current, kind_class};
-use crate::flat::joining::is_empty;
-use crate::flat::passed::{JoiningRole, Passed};
+use crate::flat::joining::{first_symbol, is_empty};
+use crate::flat::passed::{Joined, JoiningRole};
 use crate::flat::turn::turn;
-use crate::lone::lone_atom;
-use crate::placed::{PlacedHalf, PlacedHalves, placed_after};
-use crate::second::join::join_on;
+use crate::lone::{lone_atom, lone_symbol};
+use crate::placed::{PlacedList, placed_after};
+use crate::second::join::join_items;
 use crate::set::answers::part_set;
 use crate::set::clean::{clean_symbol, cleaned, empty_box, find_symbol, packed, symbol_extents};
 use crate::set::form::{AtomForm, class_nucleus, form_of};
@@ -47,16 +47,22 @@ use crate::set::parts::{
     accent, field_skew, fraction, root_of, skew_of, vcenter, veil, with_degree,
 };
 use crate::set::row::{test_row, tested};
-use crate::set::scripts::{with_limits, with_scripts, without_scripts};
-use crate::set::settle::{Reach, finish};
+use crate::set::scripts::{symbol_row, with_limits, with_scripts, without_scripts};
+use crate::set::settle::finish;
 use crate::set::tables::{equations, has_column, matrix, push_count, table_strut};
-use mt_arena::{Arena, Cell, FractionNoad, Noad, Rest, Span, next_cells, next_row};
+use mt_arena::{Arena, Cell, FractionNoad, Noad, Rest, Span, Thing, next_cells, next_row};
 use mt_family::FontSet;
-use mt_pieces::{Pieces, Scripts};
-use mt_rules::{Class, Delim, Kind, Look, Style, Symbol, in_points};
+use mt_pieces::{Pieces, PlacedItem, Scripts};
+use mt_rules::{Class, Delim, Glue, Kind, Look, Style, Symbol, in_points};
 use mt_scaled::Length;
 use mt_spacing::forward;
 use std::alloc::Global;
+
+// A space without a size.
+const NO_SPACE: Glue = Glue {
+    width: 0,
+    shrink: 0,
+};
 
 // The row of a math list in a style, behind the pieces that are there: at most 2^21 pieces.
 #[cycle(setting)]
@@ -77,75 +83,75 @@ pub(crate) fn set_span_on(
         return tested(pieces, first);
     }
     let halves = first_pass_on(pieces, context, list, style)?;
-    join_on(pieces, context.alloc, context.fonts, style, first, halves)
+    join_items(pieces, context.alloc, context.fonts, style, first, halves)
 }
 
-// The first pass over a math list in a style: the rows of its items are behind the pieces that are there.
+// The first pass over a math list in a style: its items with their final classes, whose rows are behind the pieces that
+// are there.
 #[cycle(setting)]
 pub(crate) fn first_pass_on(
     pieces: &mut Pieces,
     context: Context<'_>,
     list: Span,
     style: Style,
-) -> Result<PlacedHalves, SetFault>
+) -> Result<PlacedList, SetFault>
     requires modest { ModestSpan context.arena.now.closed list }
-    ensures is { SetsHalvesOn result pieces.old pieces.new
+    ensures is { SetsItemsOn result pieces.old pieces.new
         (halves_of context.entry.fonts.now style (sequence_in context.entry.arena.now.closed list)) }
 {
     let mut rest = Rest::of(context.alloc, list);
-    let room = list.end.saturating_sub(list.start) as usize;
-    let mut items = Vec::with_capacity(context.alloc, room)?;
+    let mut items = pieces.take_items(context.alloc);
     let mut current = Current::opening(style);
-    let mut reach = Reach::none();
     while let Some(front) = rest.pop(context.arena) {
-        if let Some(passed) = turn(context.fonts, context.arena, current, front, &mut rest)? {
-            let first = pieces.len();
-            let half = set_item(pieces, context, current, &passed)?;
-            reach = reach.with_pieces(pieces, first);
-            push_with_kern(&mut items, half, passed.kern())?;
+        if let Some(joined) = turn(context.fonts, context.arena, current, &front, &mut rest)? {
+            let half = set_item(pieces, context, current, &front, joined)?;
+            push_with_kern(&mut items, half, joined.kern)?;
             current = current.after_half(half);
         }
     }
-    Ok(finish(items, reach))
+    Ok(finish(items))
 }
 
-// An item of the flat list, set.
+// An item that passes, set.
 #[cycle(setting)]
 fn set_item(
     pieces: &mut Pieces,
     context: Context<'_>,
     current: Current,
-    passed: &Passed,
-) -> Result<PlacedHalf, SetFault>
-    requires modest { ModestPassed context.arena.now.closed passed.now }
+    item: &Thing,
+    joined: Joined,
+) -> Result<PlacedItem, SetFault>
+    requires modest { ModestPassed context.arena.now.closed item.now joined }
     ensures is { SetsHalfOn result pieces.old pieces.new
         (FirstPass.set_item context.entry.fonts.now current (flat_item context.entry.fonts.now
-        (passed_in context.entry.arena.now.closed passed.now))) }
+        (passed_in context.entry.arena.now.closed item.now joined))) }
 {
-    match passed {
-        Passed::Atom { role, noad, .. } => {
+    match item {
+        Thing::Atom(noad) => {
             let class = forward(current.last, kind_class(noad.kind));
             let first = pieces.len();
-            set_atom(pieces, context, current.style, *role, noad)?;
+            set_atom(pieces, context, current.style, joined.role, noad)?;
             Ok(placed_after(pieces, first, class))
         }
-        Passed::Fraction(fraction) => {
+        Thing::Fraction(fraction) => {
             let first = pieces.len();
             set_fraction(pieces, context, current.style, fraction)?;
             Ok(placed_after(pieces, first, Class::Inner))
         }
-        Passed::Left(delim) => Ok(PlacedHalf::Left(*delim)),
-        Passed::Middle(delim) => Ok(PlacedHalf::Middle(*delim)),
-        Passed::Right(delim) => Ok(PlacedHalf::Right(*delim)),
-        Passed::Style(style) => Ok(PlacedHalf::Style(*style)),
-        Passed::MuSpace(glue) => {
+        Thing::Left(delim) => Ok(PlacedItem::Left(*delim)),
+        Thing::Middle(delim) => Ok(PlacedItem::Middle(*delim)),
+        Thing::Right(delim) => Ok(PlacedItem::Right(*delim)),
+        Thing::Style(style) => Ok(PlacedItem::Style(*style)),
+        Thing::MuSpace(glue) => {
             make_space(glue_in_points(context.fonts, current.style, long_glue(*glue)))
         }
-        Passed::Space(glue) => make_space(long_glue(*glue)),
-        Passed::MuKern(amount) => {
+        Thing::Space(glue) => make_space(long_glue(*glue)),
+        Thing::MuKern(amount) => {
             make_kern(in_points(context.fonts, current.style, long_length(*amount)))
         }
-        Passed::Kern(amount) => make_kern(long_length(*amount)),
+        Thing::Kern(amount) => make_kern(long_length(*amount)),
+        // A conditional space has no size. The others do not pass.
+        _ => make_space(NO_SPACE),
     }
 }
 
@@ -162,27 +168,33 @@ fn set_atom(
     ensures is { SetsAtomOn result pieces.old pieces.new
         (atom_row_of context.entry.fonts.now context.entry.arena.now.closed style (role_value role) atom.now) }
 {
-    let Noad {
-        kind,
-        nucleus,
-        sup,
-        sub,
-        ..
-    } = *atom;
+    if let Some(symbol) = first_symbol(None, atom) {
+        return symbol_row(pieces, context.fonts, style, role, symbol);
+    }
     match form_of(style, atom) {
-        AtomForm::Limits => set_under_limits(pieces, context, style, nucleus, sup, sub),
-        AtomForm::AccentInside { accent, symbol } => {
-            set_accent_inside(pieces, context, style, accent, symbol, sup, sub)
+        AtomForm::Limits => {
+            set_under_limits(pieces, context, style, atom.nucleus, atom.sup, atom.sub)
         }
-        AtomForm::Root { sign } => set_root(pieces, context, style, sign, nucleus),
+        AtomForm::AccentInside { accent, symbol } => {
+            set_accent_inside(pieces, context, style, accent, symbol, atom.sup, atom.sub)
+        }
+        AtomForm::Root { sign } => set_root(pieces, context, style, sign, atom.nucleus),
         AtomForm::Beside => {
-            let has_subscript = !is_empty(sub);
+            let has_subscript = !is_empty(atom.sub);
             let first = pieces.len();
-            let delta = set_nucleus(pieces, context, style, kind, role, nucleus, has_subscript)?;
-            if is_empty(sup) && !has_subscript {
+            let delta = set_nucleus(
+                pieces,
+                context,
+                style,
+                atom.kind,
+                role,
+                atom.nucleus,
+                has_subscript,
+            )?;
+            if is_empty(atom.sup) && !has_subscript {
                 return without_scripts(pieces, first);
             }
-            set_scripts(pieces, context, style, first, delta, sup, sub)
+            set_scripts(pieces, context, style, first, delta, atom.sup, atom.sub)
         }
     }
 }
@@ -307,6 +319,9 @@ fn clean_list(
     ensures is { SetsBoxOn result pieces.old pieces.new
         (clean_list (list_content context.entry.fonts.now (sequence_in context.entry.arena.now.closed list)) style) }
 {
+    if let Some(symbol) = lone_symbol(context.arena, list) {
+        return clean_symbol(pieces, context.fonts, style, symbol);
+    }
     let first = pieces.len();
     set_span_on(pieces, context, list, style)?;
     cleaned(pieces, first)

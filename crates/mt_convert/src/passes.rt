@@ -13,6 +13,7 @@ use crate::SetFault;
 use crate::context::Context;
 use crate::halfway::Halfway;
 use crate::list::{first_pass_on, set_span_on};
+use crate::placed::with_reach;
 use crate::set::clean::look_at_fonts;
 use crate::taking::halfway_of;
 use mt_arena::{Arena, Span, put_list};
@@ -120,6 +121,7 @@ pub fn first_pass(
         fonts,
         arena: &arena,
     };
-    let halves = first_pass_on(&mut pieces, context, span, style)?;
+    let items = first_pass_on(&mut pieces, context, span, style)?;
+    let halves = with_reach(&pieces, 0, items);
     Ok(halfway_of(alloc, pieces, halves)?)
 }

@@ -6,8 +6,8 @@ ghost use Rattle.mt_convert.specs.inner.Put.{ArePut, IsPut};
 
 use crate::half::{Half, HalfList};
 use crate::halfway::Halfway;
-use crate::placed::{PlacedHalf, PlacedHalves, PlacedList};
-use mt_pieces::Pieces;
+use crate::placed::{PlacedHalves, PlacedList};
+use mt_pieces::{Pieces, PlacedItem};
 use mt_scaled::Length;
 use std::alloc::{AllocError, Global};
 
@@ -31,7 +31,7 @@ fn put_items(
     alloc: Global,
     pieces: &mut Pieces,
     items: HalfList,
-) -> Result<Vec<PlacedHalf>, AllocError>
+) -> Result<Vec<PlacedItem>, AllocError>
     requires { HalvesFit (2 ^ 16) items }
     ensures { IfOk result (λ hs. ArePut hs.items items pieces.old pieces.new) }
 {
@@ -44,7 +44,7 @@ fn put_items(
 }
 
 // An item; the pieces of its row come behind the others.
-fn put_item(pieces: &mut Pieces, item: Half) -> Result<PlacedHalf, AllocError>
+fn put_item(pieces: &mut Pieces, item: Half) -> Result<PlacedItem, AllocError>
     requires { HalfFits (2 ^ 16) item }
     ensures { IfOk result (λ h. IsPut h item pieces.old pieces.new) }
 {
@@ -52,13 +52,13 @@ fn put_item(pieces: &mut Pieces, item: Half) -> Result<PlacedHalf, AllocError>
         Half::Set { class, row } => {
             let count = row.len();
             pieces.put_row(row)?;
-            Ok(PlacedHalf::Set { class, count })
+            Ok(PlacedItem::Set { class, count })
         }
-        Half::Left(delim) => Ok(PlacedHalf::Left(delim)),
-        Half::Middle(delim) => Ok(PlacedHalf::Middle(delim)),
-        Half::Right(delim) => Ok(PlacedHalf::Right(delim)),
-        Half::Style(style) => Ok(PlacedHalf::Style(style)),
-        Half::Kern(amount) => Ok(PlacedHalf::Kern(amount)),
-        Half::Space(glue) => Ok(PlacedHalf::Space(glue)),
+        Half::Left(delim) => Ok(PlacedItem::Left(delim)),
+        Half::Middle(delim) => Ok(PlacedItem::Middle(delim)),
+        Half::Right(delim) => Ok(PlacedItem::Right(delim)),
+        Half::Style(style) => Ok(PlacedItem::Style(style)),
+        Half::Kern(amount) => Ok(PlacedItem::Kern(amount)),
+        Half::Space(glue) => Ok(PlacedItem::Space(glue)),
     }
 }

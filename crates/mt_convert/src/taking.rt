@@ -7,8 +7,8 @@ ghost use Rattle.mt_convert.specs.inner.Taken.{IsTaken, AreTaken};
 
 use crate::half::{Half, HalfList};
 use crate::halfway::Halfway;
-use crate::placed::{PlacedHalf, PlacedHalves};
-use mt_pieces::Pieces;
+use crate::placed::PlacedHalves;
+use mt_pieces::{Pieces, PlacedItem};
 use std::alloc::{AllocError, Global};
 
 // The list with its rows, whose pieces these are.
@@ -33,7 +33,7 @@ pub(crate) fn halfway_of(
 fn take_halves(
     alloc: Global,
     mut pieces: Pieces,
-    items: &[PlacedHalf],
+    items: &[PlacedItem],
 ) -> Result<Vec<Half>, AllocError>
     requires { placed_count items.now ≡ length pieces }
     ensures { IfOk result (λ halves. AreTaken halves.items items.now pieces) }
@@ -48,22 +48,22 @@ fn take_halves(
 }
 
 // An item with its row, whose pieces are the last ones.
-fn take_half(alloc: Global, pieces: &mut Pieces, item: PlacedHalf) -> Result<Half, AllocError>
+fn take_half(alloc: Global, pieces: &mut Pieces, item: PlacedItem) -> Result<Half, AllocError>
     ensures is { (front row : List PieceValue) → pieces.old ≡ front ++ row → placed_length item ≡ length row
         → IfOk result (λ h. IsTaken h item row) }
     ensures others { (front row : List PieceValue) → pieces.old ≡ front ++ row → placed_length item ≡ length row → OnOk result (pieces.new ≡ front) }
 {
     match item {
-        PlacedHalf::Set { class, count } => {
+        PlacedItem::Set { class, count } => {
             let first = pieces.len().saturating_sub(count);
             let row = pieces.take_row(alloc, first)?;
             Ok(Half::Set { class, row })
         }
-        PlacedHalf::Left(delim) => Ok(Half::Left(delim)),
-        PlacedHalf::Middle(delim) => Ok(Half::Middle(delim)),
-        PlacedHalf::Right(delim) => Ok(Half::Right(delim)),
-        PlacedHalf::Style(style) => Ok(Half::Style(style)),
-        PlacedHalf::Kern(amount) => Ok(Half::Kern(amount)),
-        PlacedHalf::Space(glue) => Ok(Half::Space(glue)),
+        PlacedItem::Left(delim) => Ok(Half::Left(delim)),
+        PlacedItem::Middle(delim) => Ok(Half::Middle(delim)),
+        PlacedItem::Right(delim) => Ok(Half::Right(delim)),
+        PlacedItem::Style(style) => Ok(Half::Style(style)),
+        PlacedItem::Kern(amount) => Ok(Half::Kern(amount)),
+        PlacedItem::Space(glue) => Ok(Half::Space(glue)),
     }
 }

@@ -1,5 +1,5 @@
 -- The nucleus that an atom of each kind is set to, before its scripts (`kind_nucleus`), and the last steps of an atom.
-use Rattle.std.specs.Prelude.{ℤ, pos, ◌∷◌, [], Bool, not, List, Option, Ok}
+use Rattle.std.specs.Prelude.{ℤ, pos, ◌∷◌, [], Bool, false, not, List, Option, Ok}
 use Rattle.mt_family.specs.declared.size.Size.{Size}
 use Rattle.mt_family.specs.SetValue.{SetValue}
 use Rattle.mt_box.specs.Layout.{Layout}
@@ -82,6 +82,10 @@ abbrev pub row_beside : SetValue → Style → Nucleus → Option Layout → Opt
 row_beside fonts style nucleus above below = do
   row ← row_with_scripts fonts style nucleus.row nucleus.delta above below
   make_row row
+
+-- a symbol that is no operator, without scripts
+abbrev pub symbol_row : SetValue → Style → SymbolRole → Symbol → Setting (List PieceValue)
+symbol_row fonts style role symbol = symbol_nucleus fonts (size_of style) symbol role false >>= (λ nucleus. make_row nucleus.row)
 
 abbrev pub row_between : SetValue → Size → Layout → ℤ → Option Layout → Option Layout → Setting (List PieceValue)
 row_between fonts size box delta above below = do

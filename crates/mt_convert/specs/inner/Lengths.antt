@@ -2,11 +2,11 @@
 use Rattle.std.specs.Prelude.{◌≡◌, ℤ, List, [], ◌∷◌, Option, Some, None, Result, Ok, Err, ⊤}
 use Rattle.mt_rules.specs.Setting.{Setting, test_value}
 use Rattle.mt_convert.specs.declared.fault.SetFault.{SetFault}
-use Rattle.mt_convert.specs.declared.placed.PlacedHalf.{PlacedHalf}
-use Rattle.mt_convert.specs.declared.placed.PlacedHalf.TheVariants as placed
+use Rattle.mt_pieces.specs.declared.items.PlacedItem.{PlacedItem}
+use Rattle.mt_pieces.specs.declared.items.PlacedItem.TheVariants as placed
 use Rattle.mt_convert.specs.Calls.{SetFails}
 
-abbrev pub kern_halves : Option ℤ → List PlacedHalf
+abbrev pub kern_halves : Option ℤ → List PlacedItem
 kern_halves None = []
 kern_halves (Some amount) = placed.Kern amount ∷ []
 

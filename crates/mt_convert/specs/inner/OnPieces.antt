@@ -13,7 +13,7 @@ use Rattle.mt_pieces.specs.Attaching.{box_if}
 use Rattle.mt_pieces.specs.Celled.{cell_pieces}
 use Rattle.mt_pieces.specs.Putting.{unraised_boxes}
 use Rattle.mt_convert.specs.declared.fault.SetFault.{SetFault}
-use Rattle.mt_convert.specs.declared.placed.PlacedHalf.{PlacedHalf}
+use Rattle.mt_pieces.specs.declared.items.PlacedItem.{PlacedItem}
 use Rattle.mt_convert.specs.Calls.{SetFails}
 use Rattle.mt_convert.specs.Halves.{HalfValue, half_height, half_depth}
 use Rattle.mt_convert.specs.inner.AtomSteps.{BoxWithItalic}
@@ -119,11 +119,11 @@ SetsExtentsOf (Err fault) setting = SetFails fault setting
 -- ---- items between the passes
 
 -- a kern or a space, which has no pieces
-abbrev pub SetsPlaced : Result PlacedHalf SetFault → Setting HalfValue → Type 0
+abbrev pub SetsPlaced : Result PlacedItem SetFault → Setting HalfValue → Type 0
 SetsPlaced (Ok half) setting = setting ≡ Ok (placed_value half [])
 SetsPlaced (Err fault) setting = SetFails fault setting
 
-pub record HalfOn (half : PlacedHalf) (old new : List PieceValue) (setting : Setting HalfValue) : Type 0 where
+pub record HalfOn (half : PlacedItem) (old new : List PieceValue) (setting : Setting HalfValue) : Type 0 where
   pub row : List PieceValue
   pub is : setting ≡ Ok (placed_value half row)
   pub stays : new ≡ old ++ row
@@ -133,7 +133,7 @@ pub record HalfOn (half : PlacedHalf) (old new : List PieceValue) (setting : Set
   pub height : half_height (placed_value half row) ≤ℤ pos max_dimen
   pub depth : half_depth (placed_value half row) ≤ℤ pos max_dimen
 
-abbrev pub SetsHalfOn : Result PlacedHalf SetFault → List PieceValue → List PieceValue → Setting HalfValue → Type 0
+abbrev pub SetsHalfOn : Result PlacedItem SetFault → List PieceValue → List PieceValue → Setting HalfValue → Type 0
 SetsHalfOn (Ok half) old new setting = HalfOn half old new setting
 SetsHalfOn (Err fault) old new setting = SetFails fault setting
 

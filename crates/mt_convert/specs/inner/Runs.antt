@@ -5,19 +5,18 @@ use Rattle.mt_family.specs.SetValue.{SetValue}
 use Rattle.mt_pieces.specs.declared.gaps.Gap.{Gap}
 use Rattle.mt_pieces.specs.declared.gaps.Gap.TheVariants as gap
 use Rattle.mt_pieces.specs.declared.gaps.Run.{Run}
-use Rattle.mt_pieces.specs.declared.pieces.Space.{Space}
 use Rattle.mt_rules.specs.declared.class.Class.{Class}
 use Rattle.mt_rules.specs.declared.style.Style.{Style}
 use Rattle.mt_rules.specs.declared.symbol.Glue.{Glue}
 use Rattle.mt_rules.specs.MathUnits.{math_unit}
 use Rattle.mt_rules.specs.Spaces.{Spacing, NoSpacing, ThinSpacing, MediumSpacing, ThickSpacing, spacing, spacing_glue}
 use Rattle.mt_convert.specs.declared.flat.current.Current.{Current}
-use Rattle.mt_convert.specs.declared.placed.PlacedHalf.{PlacedHalf}
-use Rattle.mt_convert.specs.declared.placed.PlacedHalf.TheVariants as placed
+use Rattle.mt_pieces.specs.declared.items.PlacedItem.{PlacedItem}
+use Rattle.mt_pieces.specs.declared.items.PlacedItem.TheVariants as placed
 use Rattle.mt_convert.specs.SecondPass.{current_after_half}
 use Rattle.mt_convert.specs.inner.Placed.{placed_value}
 
-abbrev pub is_boundary : PlacedHalf → Bool
+abbrev pub is_boundary : PlacedItem → Bool
 is_boundary (placed.Set class count) = false
 is_boundary (placed.Left delim) = true
 is_boundary (placed.Middle delim) = true
@@ -26,7 +25,7 @@ is_boundary (placed.Style style) = false
 is_boundary (placed.Kern amount) = false
 is_boundary (placed.Space glue) = false
 
-abbrev pub has_boundary : List PlacedHalf → Bool
+abbrev pub has_boundary : List PlacedItem → Bool
 has_boundary hs = list_any is_boundary hs
 
 abbrev pub gap_of_glue : Glue → Gap
@@ -48,7 +47,7 @@ abbrev pub gap_before : SetValue → Current → Class → Gap
 gap_before fonts current right = gap_between fonts current.style current.last right
 
 -- what comes before the pieces of an item that is no boundary, and how many pieces it has
-abbrev pub run_of : SetValue → Current → PlacedHalf → Run
+abbrev pub run_of : SetValue → Current → PlacedItem → Run
 run_of fonts current (placed.Set class count) = record { gap = gap_before fonts current class; count = count }
 run_of fonts current (placed.Left delim) = record { gap = gap.None; count = 0 }
 run_of fonts current (placed.Middle delim) = record { gap = gap.None; count = 0 }
@@ -57,7 +56,7 @@ run_of fonts current (placed.Style style) = record { gap = gap.None; count = 0 }
 run_of fonts current (placed.Kern amount) = record { gap = gap.Kern record { sp = amount }; count = 0 }
 run_of fonts current (placed.Space glue) = record { gap = gap_of_glue glue; count = 0 }
 
-abbrev pub runs_of : SetValue → Current → List PlacedHalf → List Run
+abbrev pub runs_of : SetValue → Current → List PlacedItem → List Run
 runs_of fonts current [] = []
 runs_of fonts current (h ∷ hs) =
     run_of fonts current h ∷ runs_of fonts (current_after_half current (placed_value h [])) hs

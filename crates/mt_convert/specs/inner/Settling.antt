@@ -7,25 +7,24 @@ use Rattle.mt_box.specs.Rows.{PieceValue}
 use Rattle.mt_rules.specs.declared.class.Class.{Class}
 use Rattle.mt_rules.specs.Classes.{settled_of}
 use Rattle.mt_spacing.specs.Meeting.{CanMeet}
-use Rattle.mt_convert.specs.declared.placed.PlacedHalf.{PlacedHalf}
-use Rattle.mt_convert.specs.declared.placed.PlacedHalf.TheVariants as placed
+use Rattle.mt_pieces.specs.declared.items.PlacedItem.{PlacedItem}
+use Rattle.mt_pieces.specs.declared.items.PlacedItem.TheVariants as placed
 use Rattle.mt_convert.specs.declared.placed.PlacedHalves.{PlacedHalves}
-use Rattle.mt_convert.specs.declared.set.settle.Reach.{Reach}
 use Rattle.mt_convert.specs.Halves.{HalfValue, Halves, class_to_left, class_to_right, greatest_height, greatest_depth}
 use Rattle.mt_convert.specs.Halfway.{BoundariesOutside}
 use Rattle.mt_convert.specs.inner.Placed.{AllPlacedFit, IsPlaced, placed_count, placed_halves, placed_left, placed_values}
 
-abbrev pub settled_item : PlacedHalf → Option Class → PlacedHalf
+abbrev pub settled_item : PlacedItem → Option Class → PlacedItem
 settled_item (placed.Set class count) after = placed.Set (settled_of class after) count
 settled_item h after = h
 
 -- the class that the first atom of these items counts as for what is before them
-abbrev pub next_placed : List PlacedHalf → Option Class
+abbrev pub next_placed : List PlacedItem → Option Class
 next_placed [] = None
 next_placed (h ∷ hs) = option_or (placed_left h) (next_placed hs)
 
 -- each by the class of the next atom
-abbrev pub settled_items : List PlacedHalf → List PlacedHalf
+abbrev pub settled_items : List PlacedItem → List PlacedItem
 settled_items [] = []
 settled_items (h ∷ hs) = settled_item h (next_placed hs) ∷ settled_items hs
 
@@ -42,18 +41,16 @@ AllCanFollow last (h ∷ hs) = CanFollow last (class_to_left h) × AllCanFollow 
 
 -- ---- the end of the first pass
 
--- items with the classes that they have got from the left, and how far their atoms reach
-pub record CanFinish (hs : List PlacedHalf) (reach : Reach) (row : List PieceValue) : Type 0 where
+-- items with the classes that they have got from the left
+pub record CanFinish (hs : List PlacedItem) (row : List PieceValue) : Type 0 where
   pub count : placed_count hs ≡ length row
   pub boundaries : BoundariesOutside (placed_values hs row)
   pub follow : AllCanFollow None (placed_values hs row)
   pub few : length hs ≤ 2 ^ 19
   pub total : length row ≤ 2 ^ 20
   pub fit : AllPlacedFit hs
-  pub height : reach.height.sp ≡ greatest_height (placed_values hs row)
-  pub depth : reach.depth.sp ≡ greatest_depth (placed_values hs row)
-  pub height_high : reach.height.sp ≤ℤ pos max_dimen
-  pub depth_high : reach.depth.sp ≤ℤ pos max_dimen
+  pub height : greatest_height (placed_values hs row) ≤ℤ pos max_dimen
+  pub depth : greatest_depth (placed_values hs row) ≤ℤ pos max_dimen
 
 pub record Finishes (h : PlacedHalves) (row : List PieceValue) (halves : Halves) : Type 0 where
   pub is : placed_halves h row ≡ halves

@@ -14,49 +14,38 @@ use Rattle.mt_arena.specs.declared.thing.Thing.{Thing}
 use Rattle.mt_arena.specs.declared.thing.Thing.TheVariants as thing
 use Rattle.mt_arena.specs.Arena.{Held, ItemHeld, cell_end, cell_part, glue_of, sequence_in, thing_end, value_in}
 use Rattle.mt_arena.specs.Keeping.{ElementLists, HeldLists, KeptList, PartLists}
-use Rattle.mt_arena.specs.Rest.{KeptItem}
 use Rattle.mt_convert.specs.declared.flat.current.Current.{Current}
-use Rattle.mt_convert.specs.declared.flat.passed.Passed.{Passed as CodePassed}
-use Rattle.mt_convert.specs.declared.flat.passed.Passed.TheVariants as passed
+use Rattle.mt_convert.specs.declared.flat.passed.Joined.{Joined}
+use Rattle.mt_convert.specs.Flat.{no_glue}
 use Rattle.mt_convert.specs.inner.Modest.{IsModestElement, IsModestPart}
 use Rattle.mt_convert.specs.inner.Turns.{PassedElement, PassedAtom, PassedFraction, PassedLeft, PassedMiddle, PassedRight, PassedStyle, PassedMuSpace, PassedSpace, PassedMuKern, PassedKern, ListTurn, RewritesTo, element_of_passed, role_value, symbol_before, symbol_of_element, element_as_symbol, is_space_element, turn_of}
 
 -- ---- what passes
 
-abbrev pub passed_in : List Held → CodePassed → PassedElement
-passed_in es (passed.Atom r kern a) =
-    PassedAtom a.kind a.limits (cell_part es a.nucleus) (cell_part es a.sup) (cell_part es a.sub) (role_value r) kern
-passed_in es (passed.Fraction f) = PassedFraction f.thickness f.left f.right (sequence_in es f.num) (sequence_in es f.den)
-passed_in es (passed.Left delim) = PassedLeft delim
-passed_in es (passed.Middle delim) = PassedMiddle delim
-passed_in es (passed.Right delim) = PassedRight delim
-passed_in es (passed.Style style) = PassedStyle style
-passed_in es (passed.MuSpace glue) = PassedMuSpace (glue_of glue)
-passed_in es (passed.Space glue) = PassedSpace (glue_of glue)
-passed_in es (passed.MuKern amount) = PassedMuKern amount
-passed_in es (passed.Kern amount) = PassedKern amount
+-- an item with what joining makes of it; a conditional space has no size, and what is after it here does not pass
+abbrev pub passed_in : List Held → Thing → Joined → PassedElement
+passed_in es (thing.Atom a) j =
+    PassedAtom a.kind a.limits (cell_part es a.nucleus) (cell_part es a.sup) (cell_part es a.sub) (role_value j.role) j.kern
+passed_in es (thing.Fraction f) j = PassedFraction f.thickness f.left f.right (sequence_in es f.num) (sequence_in es f.den)
+passed_in es (thing.Left delim) j = PassedLeft delim
+passed_in es (thing.Middle delim) j = PassedMiddle delim
+passed_in es (thing.Right delim) j = PassedRight delim
+passed_in es (thing.Style style) j = PassedStyle style
+passed_in es (thing.MuSpace glue) j = PassedMuSpace (glue_of glue)
+passed_in es (thing.Space glue) j = PassedSpace (glue_of glue)
+passed_in es (thing.MuKern amount) j = PassedMuKern amount
+passed_in es (thing.Kern amount) j = PassedKern amount
+passed_in es thing.Nonscript j = PassedSpace no_glue
+passed_in es (thing.Choice spans) j = PassedSpace no_glue
+passed_in es (thing.Row span) j = PassedSpace no_glue
+passed_in es (thing.Cells span) j = PassedSpace no_glue
+passed_in es (thing.Root parts) j = PassedSpace no_glue
 
 abbrev pub atom_in : List Held → Noad → Element
 atom_in es a = AtomElement a.kind a.limits (cell_part es a.nucleus) (cell_part es a.sup) (cell_part es a.sub)
 
 abbrev pub fraction_in : List Held → FractionNoad → Element
 fraction_in es f = FractionElement f.thickness f.left f.right (sequence_in es f.num) (sequence_in es f.den)
-
-abbrev pub thing_of_passed : CodePassed → Thing
-thing_of_passed (passed.Atom r kern a) = thing.Atom a
-thing_of_passed (passed.Fraction f) = thing.Fraction f
-thing_of_passed (passed.Left delim) = thing.Left delim
-thing_of_passed (passed.Middle delim) = thing.Middle delim
-thing_of_passed (passed.Right delim) = thing.Right delim
-thing_of_passed (passed.Style style) = thing.Style style
-thing_of_passed (passed.MuSpace glue) = thing.MuSpace glue
-thing_of_passed (passed.Space glue) = thing.Space glue
-thing_of_passed (passed.MuKern amount) = thing.MuKern amount
-thing_of_passed (passed.Kern amount) = thing.Kern amount
-
--- its lists lie among these
-abbrev pub KeptPassed : List Held → CodePassed → Type 0
-KeptPassed es p = KeptItem es (thing_of_passed p)
 
 -- ---- one turn
 
@@ -104,7 +93,7 @@ pub record ModestFraction (es : List Held) (fraction : FractionNoad) : Type 0 wh
   pub modest : IsModestElement (fraction_in es fraction)
   pub kept : ElementLists (fraction_in es fraction)
 
-pub record ModestPassed (es : List Held) (passed : CodePassed) : Type 0 where
-  pub within : thing_end (thing_of_passed passed) ≤ length es
-  pub modest : IsModestElement (element_of_passed (passed_in es passed))
-  pub kept : HeldLists (value_in es (thing_of_passed passed))
+pub record ModestPassed (es : List Held) (item : Thing) (joined : Joined) : Type 0 where
+  pub within : thing_end item ≤ length es
+  pub modest : IsModestElement (element_of_passed (passed_in es item joined))
+  pub kept : HeldLists (value_in es item)

@@ -6,7 +6,8 @@ ghost use Rattle.mt_convert.specs.Current.{opening as opening_of};
 ghost use Rattle.mt_convert.specs.SecondPass.{current_after_half, style_after_half};
 ghost use Rattle.mt_convert.specs.inner.Placed.{placed_value};
 
-use crate::placed::PlacedHalf;
+use crate::placed::class_to_right;
+use mt_pieces::PlacedItem;
 use mt_rules::{Class, Kind, Style};
 
 /// Where a list has come to.
@@ -35,23 +36,23 @@ impl Current {
     }
 
     // Where the list has come to after an item that is set.
-    pub(crate) fn after_half(self, half: PlacedHalf) -> Current
+    pub(crate) fn after_half(self, half: PlacedItem) -> Current
         ensures { (row : List PieceValue) → result ≡ current_after_half self (placed_value half row) }
     {
         Current {
             initial: self.initial,
             style: style_after_half(self.initial, self.style, half),
-            last: half.class_to_right().or(self.last),
+            last: class_to_right(half).or(self.last),
         }
     }
 }
 
-fn style_after_half(initial: Style, style: Style, half: PlacedHalf) -> Style
+fn style_after_half(initial: Style, style: Style, half: PlacedItem) -> Style
     ensures { (row : List PieceValue) → result ≡ style_after_half initial style (placed_value half row) }
 {
     match half {
-        PlacedHalf::Style(next) => next,
-        PlacedHalf::Middle(_) => initial,
+        PlacedItem::Style(next) => next,
+        PlacedItem::Middle(_) => initial,
         _ => style,
     }
 }

@@ -61,8 +61,8 @@ pub(crate) fn is_any_but_inner(kind: Kind) -> bool
 }
 
 // The symbol of an atom that may be joined with the next one: it has no scripts.
-pub(crate) fn first_symbol(last: Option<Class>, noad: Noad) -> Option<Symbol>
-    ensures { (es : List Held) → result ≡ noad_symbol_before es last noad }
+pub(crate) fn first_symbol(last: Option<Class>, noad: &Noad) -> Option<Symbol>
+    ensures { (es : List Held) → result ≡ noad_symbol_before es last noad.now }
 {
     if is_ord_by_now(last, noad.kind) && is_empty(noad.sup) && is_empty(noad.sub) {
         symbol_of_cell(noad.nucleus)

@@ -8,18 +8,19 @@ ghost use Rattle.mt_convert.specs.SecondPass.{all_pieces, row_of_halves, second_
 ghost use Rattle.mt_convert.specs.inner.LoneAtoms.{is_lone_atom};
 ghost use Rattle.mt_convert.specs.inner.Runs.{has_boundary};
 ghost use Rattle.mt_convert.specs.Calls.{RowOn, SetsRowOn};
-ghost use Rattle.mt_convert.specs.inner.Placed.{IsPlaced, PlacesIn, placed_halves, placed_values};
+ghost use Rattle.mt_convert.specs.inner.Placed.{IsPlaced, PlacesIn, placed_halves, placed_values, reaching};
 
 use crate::SetFault;
 use crate::flat::current::Current;
-use crate::placed::{PlacedHalf, PlacedHalves};
+use crate::placed::{PlacedHalves, PlacedList};
 use crate::second::boundary::{BoundaryFrame, boundary_frame};
 use crate::second::pieces::put_half;
 use crate::second::runs::{has_boundary, put_runs};
 use crate::set::row::tested;
 use mt_family::FontSet;
-use mt_pieces::Pieces;
+use mt_pieces::{Pieces, PlacedItem};
 use mt_rules::Style;
+use mt_scaled::Length;
 use std::alloc::{AllocError, Global};
 
 // The pieces from number `first` on, which are those of these items, become the row of the list, tested.
@@ -41,8 +42,83 @@ pub(crate) fn join_on(
     if !has_boundary(items) {
         return join_runs(pieces, alloc, fonts, style, first, items);
     }
-    let frame = boundary_frame(fonts, style, halves.height, halves.depth);
+    join_bounded(
+        pieces,
+        fonts,
+        style,
+        first,
+        items,
+        halves.height,
+        halves.depth,
+    )
+}
+
+// The same of items with boundaries or middles.
+#[inline(never)]
+fn join_bounded(
+    pieces: &mut Pieces,
+    fonts: &FontSet,
+    style: Style,
+    first: usize,
+    items: &[PlacedItem],
+    height: Length,
+    depth: Length,
+) -> Result<(), SetFault>
+    requires first { first ≤ length pieces.old }
+    requires placed { IsPlaced (record { items = items.now; height = height; depth = depth }) (drop first pieces.old) }
+    ensures is { SetsRowOn result (take first pieces.old) pieces.new
+        (second_pass_of fonts.now style
+        (placed_halves (record { items = items.now; height = height; depth = depth }) (drop first pieces.old))) }
+    ensures few { OnOk result (length (drop first pieces.new) ≤ 2 ^ 21) }
+{
+    let frame = boundary_frame(fonts, style, height, depth);
     join_rows(pieces, fonts, frame, style, first, items)
+}
+
+// The same of items that the first pass has set. The memory of their list is kept.
+pub(crate) fn join_items(
+    pieces: &mut Pieces,
+    alloc: Global,
+    fonts: &FontSet,
+    style: Style,
+    first: usize,
+    items: PlacedList,
+) -> Result<(), SetFault>
+    requires first { first ≤ length pieces.old }
+    requires placed { IsPlaced (reaching items (drop first pieces.old)) (drop first pieces.old) }
+    ensures is { SetsRowOn result (take first pieces.old) pieces.new
+        (second_pass_of fonts.now style
+        (placed_halves (reaching items (drop first pieces.old)) (drop first pieces.old))) }
+    ensures few { OnOk result (length (drop first pieces.new) ≤ 2 ^ 21) }
+{
+    join_placed(pieces, alloc, fonts, style, first, items.as_slice())?;
+    pieces.keep_items(items.into_vec())?;
+    Ok(())
+}
+
+// The same. How far the items reach is found only for boundaries and middles.
+fn join_placed(
+    pieces: &mut Pieces,
+    alloc: Global,
+    fonts: &FontSet,
+    style: Style,
+    first: usize,
+    items: &[PlacedItem],
+) -> Result<(), SetFault>
+    requires first { first ≤ length pieces.old }
+    requires placed { IsPlaced (reaching items.now (drop first pieces.old)) (drop first pieces.old) }
+    ensures is { SetsRowOn result (take first pieces.old) pieces.new
+        (second_pass_of fonts.now style
+        (placed_halves (reaching items.now (drop first pieces.old)) (drop first pieces.old))) }
+    ensures few { OnOk result (length (drop first pieces.new) ≤ 2 ^ 21) }
+{
+    if !has_boundary(items) {
+        return join_runs(pieces, alloc, fonts, style, first, items);
+    }
+    let reach = pieces.reach(first);
+    let height = Length { sp: reach.height };
+    let depth = Length { sp: reach.depth };
+    join_bounded(pieces, fonts, style, first, items, height, depth)
 }
 
 // The same of items without boundaries and middles: only spaces and kerns come between their pieces.
@@ -52,7 +128,7 @@ fn join_runs(
     fonts: &FontSet,
     style: Style,
     first: usize,
-    items: &[PlacedHalf],
+    items: &[PlacedItem],
 ) -> Result<(), SetFault>
     requires first { first ≤ length pieces.old }
     requires placed { PlacesIn items.now (drop first pieces.old) }
@@ -72,7 +148,7 @@ fn space_out(
     fonts: &FontSet,
     style: Style,
     first: usize,
-    items: &[PlacedHalf],
+    items: &[PlacedItem],
 ) -> Result<(), AllocError>
     requires first { first ≤ length pieces.old }
     requires placed { PlacesIn items.now (drop first pieces.old) }
@@ -86,10 +162,10 @@ fn space_out(
     put_runs(pieces, alloc, fonts, style, first, items)
 }
 
-fn is_lone_atom(items: &[PlacedHalf]) -> bool
+fn is_lone_atom(items: &[PlacedItem]) -> bool
     ensures { result ≡ is_lone_atom items.now }
 {
-    matches!(items, [PlacedHalf::Set { .. }])
+    matches!(items, [PlacedItem::Set { .. }])
 }
 
 // The same of items with boundaries or middles, whose wanted size is found.
@@ -99,7 +175,7 @@ fn join_rows(
     frame: BoundaryFrame,
     style: Style,
     first: usize,
-    items: &[PlacedHalf],
+    items: &[PlacedItem],
 ) -> Result<(), SetFault>
     requires wanted { Within (2 ^ 40) frame.wanted.sp }
     requires first { first ≤ length pieces.old }
@@ -119,7 +195,7 @@ fn join_pieces(
     frame: BoundaryFrame,
     style: Style,
     first: usize,
-    items: &[PlacedHalf],
+    items: &[PlacedItem],
 ) -> Result<(), SetFault>
     requires wanted { Within (2 ^ 40) frame.wanted.sp }
     requires first { first ≤ length pieces.old }
@@ -140,7 +216,7 @@ fn put_halves(
     frame: BoundaryFrame,
     style: Style,
     first: usize,
-    items: &[PlacedHalf],
+    items: &[PlacedItem],
 ) -> Result<(), SetFault>
     requires wanted { Within (2 ^ 40) frame.wanted.sp }
     requires first { first ≤ length pieces.old }

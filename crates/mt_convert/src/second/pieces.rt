@@ -11,11 +11,10 @@ ghost use Rattle.mt_convert.specs.inner.Placed.{PlacedFits, placed_left, placed_
 
 use crate::SetFault;
 use crate::flat::current::Current;
-use crate::placed::PlacedHalf;
 use crate::second::boundary::{BoundaryFrame, put_boundary};
 use crate::second::space::{put_glue, put_space};
 use mt_family::FontSet;
-use mt_pieces::{PieceAt, Pieces};
+use mt_pieces::{PieceAt, Pieces, PlacedItem};
 use mt_rules::Class;
 use mt_scaled::Length;
 use std::alloc::AllocError;
@@ -26,7 +25,7 @@ pub(crate) fn put_half(
     fonts: &FontSet,
     frame: BoundaryFrame,
     current: Current,
-    half: PlacedHalf,
+    half: PlacedItem,
     from: PieceAt,
 ) -> Result<PieceAt, SetFault>
     requires wanted { Within (2 ^ 40) frame.wanted.sp }
@@ -39,7 +38,7 @@ pub(crate) fn put_half(
     ensures piece { IfOk result (λ at. from.piece + placed_length half ≤ length pieces.old → at.piece ≡ from.piece + placed_length half) }
 {
     match half {
-        PlacedHalf::Set { class, count } => {
+        PlacedItem::Set { class, count } => {
             Ok(put_atom(pieces, fonts, current, class, from, count)?)
         }
         half => {
@@ -75,7 +74,7 @@ fn put_alone(
     fonts: &FontSet,
     frame: BoundaryFrame,
     current: Current,
-    half: PlacedHalf,
+    half: PlacedItem,
 ) -> Result<(), SetFault>
     requires wanted { Within (2 ^ 40) frame.wanted.sp }
     requires meets { MayMeet current.last (placed_left half) }
@@ -84,15 +83,15 @@ fn put_alone(
         → SetsRowOn result pieces.old pieces.new (half_pieces fonts.now frame.size frame.wanted.sp current (placed_value half row)) }
 {
     match half {
-        PlacedHalf::Left(delim) => put_boundary(pieces, fonts, frame, current, Class::Open, delim),
-        PlacedHalf::Middle(delim) => {
+        PlacedItem::Left(delim) => put_boundary(pieces, fonts, frame, current, Class::Open, delim),
+        PlacedItem::Middle(delim) => {
             put_boundary(pieces, fonts, frame, current, Class::Close, delim)
         }
-        PlacedHalf::Right(delim) => {
+        PlacedItem::Right(delim) => {
             put_boundary(pieces, fonts, frame, current, Class::Close, delim)
         }
-        PlacedHalf::Set { .. } | PlacedHalf::Style(_) => Ok(()),
-        PlacedHalf::Kern(amount) => Ok(pieces.put_kern(Length { sp: amount })?),
-        PlacedHalf::Space(glue) => Ok(put_glue(pieces, glue)?),
+        PlacedItem::Set { .. } | PlacedItem::Style(_) => Ok(()),
+        PlacedItem::Kern(amount) => Ok(pieces.put_kern(Length { sp: amount })?),
+        PlacedItem::Space(glue) => Ok(put_glue(pieces, glue)?),
     }
 }

@@ -12,27 +12,26 @@ ghost use Rattle.mt_convert.specs.inner.Placed.{PlacedFits, PlacesIn, placed_lef
 ghost use Rattle.mt_convert.specs.inner.Runs.{gap_before, gap_of_spacing, has_boundary, is_boundary, run_of};
 
 use crate::flat::current::Current;
-use crate::placed::PlacedHalf;
 use mt_family::FontSet;
-use mt_pieces::{Gap, Pieces, Run, Space};
+use mt_pieces::{Gap, Pieces, PlacedItem, Run, Space};
 use mt_rules::{Class, Glue, Style, math_unit};
 use mt_scaled::Length;
 use mt_spacing::{math_glue, space_between};
 use std::alloc::{AllocError, Global};
 
 // Whether there is a boundary or a middle among the items.
-pub(crate) fn has_boundary(items: &[PlacedHalf]) -> bool
+pub(crate) fn has_boundary(items: &[PlacedItem]) -> bool
     ensures { result ≡ has_boundary items.now }
 {
     items.iter().any(|item| is_boundary(*item))
 }
 
-fn is_boundary(item: PlacedHalf) -> bool
+fn is_boundary(item: PlacedItem) -> bool
     ensures { result ≡ is_boundary item }
 {
     matches!(
         item,
-        PlacedHalf::Left(_) | PlacedHalf::Middle(_) | PlacedHalf::Right(_)
+        PlacedItem::Left(_) | PlacedItem::Middle(_) | PlacedItem::Right(_)
     )
 }
 
@@ -43,7 +42,7 @@ pub(crate) fn put_runs(
     fonts: &FontSet,
     style: Style,
     first: usize,
-    items: &[PlacedHalf],
+    items: &[PlacedItem],
 ) -> Result<(), AllocError>
     requires first { first ≤ length pieces.old }
     requires placed { PlacesIn items.now (drop first pieces.old) }
@@ -61,19 +60,19 @@ pub(crate) fn put_runs(
 }
 
 // What comes before the pieces of an item that is no boundary, and how many pieces it has.
-fn run_of(fonts: &FontSet, current: Current, half: PlacedHalf) -> Run
+fn run_of(fonts: &FontSet, current: Current, half: PlacedItem) -> Run
     requires meets { MayMeet current.last (placed_left half) }
     requires fits { PlacedFits half }
     ensures is { result ≡ run_of fonts.now current half }
     ensures fits { GapFits result.gap }
 {
     match half {
-        PlacedHalf::Set { class, count } => Run {
+        PlacedItem::Set { class, count } => Run {
             gap: gap_before(fonts, current, class),
             count,
         },
-        PlacedHalf::Kern(amount) => alone(Gap::Kern(Length { sp: amount })),
-        PlacedHalf::Space(glue) => alone(Gap::Space(space_of(glue))),
+        PlacedItem::Kern(amount) => alone(Gap::Kern(Length { sp: amount })),
+        PlacedItem::Space(glue) => alone(Gap::Space(space_of(glue))),
         _ => alone(Gap::None),
     }
 }

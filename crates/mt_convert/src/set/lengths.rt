@@ -2,22 +2,22 @@
 ghost use Rattle.std.specs.Prelude.{◌≡◌, ◌++◌, ◌∷◌, [], IfOk, OnOk};
 ghost use Rattle.mt_arena.specs.Arena.{glue_of};
 ghost use Rattle.mt_rules.specs.Modest.{GlueAmounts};
-ghost use Rattle.mt_convert.specs.declared.placed.PlacedHalf.TheVariants as placed;
+ghost use Rattle.mt_pieces.specs.declared.items.PlacedItem.TheVariants as placed;
 ghost use Rattle.mt_convert.specs.FirstPass.{glue_in_points, make_kern, make_space};
 ghost use Rattle.mt_convert.specs.inner.Lengths.{SetsKern, kern_halves};
 ghost use Rattle.mt_convert.specs.inner.OnPieces.{SetsPlaced};
 ghost use Rattle.mt_convert.specs.inner.Placed.{PlacedFits};
 
 use crate::SetFault;
-use crate::placed::PlacedHalf;
 use mt_arena::ShortGlue;
 use mt_family::FontSet;
+use mt_pieces::PlacedItem;
 use mt_rules::{Glue, Style, in_points};
 use mt_scaled::{Length, in_range};
 use std::alloc::AllocError;
 
 // A space, tested: its width, then its shrink.
-pub(crate) fn make_space(glue: Glue) -> Result<PlacedHalf, SetFault>
+pub(crate) fn make_space(glue: Glue) -> Result<PlacedItem, SetFault>
     ensures is { SetsPlaced result (make_space glue) }
     ensures fits { IfOk result PlacedFits }
     ensures same { IfOk result (λ h. h ≡ placed.Space glue) }
@@ -28,11 +28,11 @@ pub(crate) fn make_space(glue: Glue) -> Result<PlacedHalf, SetFault>
     if !in_range(glue.shrink) {
         return Err(SetFault::Overflow(glue.shrink));
     }
-    Ok(PlacedHalf::Space(glue))
+    Ok(PlacedItem::Space(glue))
 }
 
 // A kern, tested.
-pub(crate) fn make_kern(amount: Length) -> Result<PlacedHalf, SetFault>
+pub(crate) fn make_kern(amount: Length) -> Result<PlacedItem, SetFault>
     ensures is { SetsPlaced result (make_kern amount.sp) }
     ensures fits { IfOk result PlacedFits }
     ensures same { IfOk result (λ h. h ≡ placed.Kern amount.sp) }
@@ -40,7 +40,7 @@ pub(crate) fn make_kern(amount: Length) -> Result<PlacedHalf, SetFault>
     if !in_range(amount.sp) {
         return Err(SetFault::Overflow(amount.sp));
     }
-    Ok(PlacedHalf::Kern(amount.sp))
+    Ok(PlacedItem::Kern(amount.sp))
 }
 
 // A space of an arena, in 64 bits.
@@ -75,8 +75,8 @@ pub(crate) fn glue_in_points(fonts: &FontSet, style: Style, glue: Glue) -> Glue
 
 // An item that was set, and after it the kern between it and the next atom, tested.
 pub(crate) fn push_with_kern(
-    halves: &mut Vec<PlacedHalf>,
-    half: PlacedHalf,
+    halves: &mut Vec<PlacedItem>,
+    half: PlacedItem,
     kern: Option<i64>,
 ) -> Result<(), SetFault>
     ensures is { SetsKern result kern }
@@ -93,7 +93,7 @@ pub(crate) fn push_with_kern(
     }
 }
 
-fn push_item(halves: &mut Vec<PlacedHalf>, half: PlacedHalf) -> Result<(), AllocError>
+fn push_item(halves: &mut Vec<PlacedItem>, half: PlacedItem) -> Result<(), AllocError>
     ensures { OnOk result (halves.new.items ≡ halves.old.items ++ half ∷ []) }
 {
     halves.push(half)?;

@@ -7,15 +7,18 @@ ghost use Rattle.mt_scaled.specs.Number.{Within};
 ghost use Rattle.mt_box.specs.Layout.{Layout};
 ghost use Rattle.mt_box.specs.Rows.{PieceBox, PieceValue};
 ghost use Rattle.mt_pieces.specs.Attaching.{AreThere, script_boxes};
-ghost use Rattle.mt_convert.specs.inner.AtomSteps.{row_beside, row_between};
+ghost use Rattle.mt_convert.specs.inner.AtomSteps.{row_beside, row_between, symbol_row};
 ghost use Rattle.mt_convert.specs.inner.OnPieces.{SetsAtomOn};
+ghost use Rattle.mt_convert.specs.inner.Turns.{role_value};
 
 use crate::SetFault;
+use crate::flat::passed::JoiningRole;
 use crate::set::answers::row_packed;
+use crate::set::nucleus::symbol_nucleus;
 use crate::set::row::{look_at_last, test_row};
 use mt_family::{FontSet, Size};
 use mt_pieces::{Pieces, Scripts};
-use mt_rules::Style;
+use mt_rules::{Style, Symbol};
 use mt_scaled::Length;
 
 // The row of a nucleus, which are the pieces from number `first` on, with its scripts, whose boxes come after it.
@@ -45,6 +48,21 @@ pub(crate) fn without_scripts(pieces: &Pieces, first: usize) -> Result<(), SetFa
         → (fonts : SetValue) (style : Style) (delta : ℤ) → SetsAtomOn result before pieces.now
         (row_beside fonts style (record { row = row; delta = delta }) None None) }
 {
+    test_row(pieces, first)
+}
+
+// The row of a symbol that is no operator and has no scripts.
+pub(crate) fn symbol_row(
+    pieces: &mut Pieces,
+    fonts: &FontSet,
+    style: Style,
+    role: JoiningRole,
+    symbol: Symbol,
+) -> Result<(), SetFault>
+    ensures is { SetsAtomOn result pieces.old pieces.new (symbol_row fonts.now style (role_value role) symbol) }
+{
+    let first = pieces.len();
+    symbol_nucleus(pieces, fonts, style, symbol, role, false)?;
     test_row(pieces, first)
 }
 

@@ -1,29 +1,30 @@
-use Rattle.std.proofs.Common.{◌≡◌, ◌≤◌, ◌^◌, ◌∙◌, [], ◌∷◌, ◌++◌, length, take, drop, ap, sym, subst, refl, arith, rules, w32, FitsSigned, length-append, Some, None, pos, IfSome, Ok, OnOk, not}
-use Rattle.mt_convert.proofs.Common.{PieceBox, Within, max_dimen, unraised_boxes, Inner, forward_of, in_points, OrdinarySymbol, clean_field, clean_list, is_empty, make_clean, symbol_nucleus, End, More, element_size, grid_size, part_size, rows_size, sequence_size, ◌>>=◌, empty_layout, pack_row, cramped_of, size_of, find_symbol, GlueAmounts, cell_part, grid_in, rows_in, sequence_in, rest_in, SetFails, SetsRowOn, second_pass_of}
+use Rattle.std.proofs.Common.{List, ◌≡◌, ◌≤◌, ◌^◌, ◌∙◌, [], ◌∷◌, ◌++◌, length, take, drop, ap, sym, subst, refl, arith, rules, w32, FitsSigned, length-append, Some, None, pos, IfSome, Ok, OnOk, not}
+use Rattle.mt_convert.proofs.Common.{Held, SetValue, Style, clean_symbol, no_glue, PieceBox, Within, max_dimen, unraised_boxes, Inner, forward_of, in_points, OrdinarySymbol, clean_field, clean_list, is_empty, make_clean, symbol_nucleus, End, More, element_size, grid_size, part_size, rows_size, sequence_size, ◌>>=◌, empty_layout, pack_row, cramped_of, size_of, find_symbol, GlueAmounts, cell_part, grid_in, rows_in, sequence_in, rest_in, SetFails, SetsRowOn, second_pass_of}
 use Rattle.std.proofs.lemmas.Result.{err_from_is_err_and}
 use Rattle.mt_rules.specs.Lines
 use Rattle.mt_rules.specs.Radicals
-use Rattle.mt_convert.specs.declared.placed.PlacedHalf.TheVariants as placed
+use Rattle.mt_pieces.specs.declared.items.PlacedItem.TheVariants as placed
 use Rattle.mt_convert.specs.FirstPass
 use Rattle.mt_convert.specs.inner.AtomSteps.{kind_nucleus, list_box, operator_box, part_box, row_beside, row_between, row_with_fields, row_with_limits}
 use Rattle.mt_convert.specs.inner.Fields.{field_content, list_content}
 use Rattle.mt_convert.specs.inner.OnPieces.{SetsAtomOn, SetsBoxOn, SetsNucleusOn, SetsOperatorOn, SetsPlaced}
-use Rattle.mt_convert.specs.inner.Placed.{IsPlaced, placed_halves}
+use Rattle.mt_convert.specs.inner.Placed.{IsPlaced, placed_halves, reaching}
 use Rattle.mt_convert.specs.inner.Spans.{ModestAtom, ModestCell, ModestPassed, atom_in, passed_in}
 use Rattle.mt_convert.specs.inner.Tables.{columns_from}
-use Rattle.mt_convert.specs.inner.Turns.{element_of_passed, flat_item, role_value}
+use Rattle.mt_convert.specs.inner.Turns.{element_of_passed, flat_item, kern_of, role_value}
 use Rattle.mt_convert.proofs.Appending.{fails_then}
 use Rattle.mt_convert.proofs.Behind.{box_and_scripts, few_behind, few_row, kept_word, nil_right, rest_before, row_and_scripts, row_behind, scripts_few, two_boxes}
 use Rattle.mt_convert.proofs.BothPasses.{list_err, list_set}
 use Rattle.mt_convert.proofs.LoneLists.{lone_err, lone_set}
-use Rattle.mt_convert.proofs.Going.{again_falls, front_again, front_passes, going_again, going_end, going_err, going_kern_err, going_pass, going_start, modest_passed, next_fits, reaches_on}
+use Rattle.mt_convert.proofs.LoneSymbols.{plain_atom}
+use Rattle.mt_convert.proofs.Going.{Going, again_falls, front_again, front_passes, going_again, going_end, going_err, going_kern_err, going_pass, going_start, modest_passed, next_fits}
 use Rattle.mt_convert.proofs.Turning.{same_empty}
 use Rattle.mt_convert.proofs.kinds.Accents.{accent_given, accent_part_made, finding_fails, found, inside_accent_fails, inside_body_fails, inside_finding_fails, inside_made, inside_plain_fails, plain_fails}
 use Rattle.mt_convert.proofs.kinds.Atoms.{beside_row, inside_row, limits_row}
 use Rattle.mt_convert.proofs.kinds.Bounds.{body_cell, degree_cell, den_span, grid_of_part, list_span, nucleus_cell, num_span, rows_of_part, sub_cell, sup_cell, thickness_of_fraction}
 use Rattle.mt_convert.proofs.kinds.Chains.{first_made}
 use Rattle.mt_convert.proofs.kinds.Fractions.{den_fails, fraction_made, num_fails}
-use Rattle.mt_convert.proofs.kinds.Items.{alone, atom_item_fails, atom_item_made, atom_placed, fraction_item_fails, fraction_item_made, kern_placed, space_placed}
+use Rattle.mt_convert.proofs.kinds.Items.{alone, none_of_these, atom_item_fails, atom_item_made, atom_placed, fraction_item_fails, fraction_item_made, kern_placed, space_placed}
 use Rattle.mt_convert.proofs.kinds.Parts.{big_nucleus_is, big_operator_is, both_made, clean_empty_is, clean_list_is, clean_symbol_is, empty_nucleus_is, empty_operator_is, has_no_box, has_no_nucleus, list_nucleus_is, list_operator_is, no_row, no_script, no_scripts, part_nucleus_is, script_fails, script_made, sub_fails, sup_fails, symbol_nucleus_is, symbol_operator_is}
 use Rattle.mt_convert.proofs.kinds.Roots.{body_fails, degree_fails, field_made, nucleus_fails, of_root, root_form, root_made, row_fails as field_row_fails, veil_fails, veil_made}
 use Rattle.mt_convert.proofs.kinds.RowBoxes.{column_missing, next_row, next_size, no_columns, row_fails, rows_end, rows_few, rows_start, rows_step, unraised_length, vcenter_empty, vcenter_fails, vcenter_made, without_rows}
@@ -56,157 +57,173 @@ pub set_span_on-returns-in_err-halves-clause-is : goal.set_span_on-returns-in_er
 set_span_on-returns-in_err-halves-clause-is t c =
     let p = err_from_is_err_and c.from_residual-in_err-halves.result c.from_residual-in_err-halves.ensures.1 in rw (p.1, p.2) (list_err c.args.context.fonts.now c.args.style (sequence_in c.args.context.arena.now.closed c.args.list) _ c.in_err-halves.ensures.is)
 
-pub set_span_on-join_on-requires-clause-first : goal.set_span_on-join_on-requires-clause-first
-set_span_on-join_on-requires-clause-first t c = omega (arith, c.len-first.ensures, ap length c.in_ok-halves.ensures.is.stays, length-append c.args.pieces.now c.in_ok-halves.ensures.is.row)
+pub set_span_on-join_items-requires-clause-first : goal.set_span_on-join_items-requires-clause-first
+set_span_on-join_items-requires-clause-first t c = omega (arith, c.len-first.ensures, ap length c.in_ok-halves.ensures.is.stays, length-append c.args.pieces.now c.in_ok-halves.ensures.is.row)
 
-pub set_span_on-join_on-requires-clause-placed : goal.set_span_on-join_on-requires-clause-placed
-set_span_on-join_on-requires-clause-placed t c = subst (IsPlaced c.in_ok-halves.halves) (sym (row_behind _ c.args.pieces.now c.in_ok-halves.ensures.is.row _ c.len-first.ensures c.in_ok-halves.ensures.is.stays)) c.in_ok-halves.ensures.is.placed
+pub set_span_on-join_items-requires-clause-placed : goal.set_span_on-join_items-requires-clause-placed
+set_span_on-join_items-requires-clause-placed t c = subst (λ r. IsPlaced (reaching c.in_ok-halves.halves r) r) (sym (row_behind _ c.args.pieces.now c.in_ok-halves.ensures.is.row _ c.len-first.ensures c.in_ok-halves.ensures.is.stays)) c.in_ok-halves.ensures.is.placed
 
 pub set_span_on-returns-clause-is : goal.set_span_on-returns-clause-is
 set_span_on-returns-clause-is t c =
     let h = c.in_ok-halves.ensures.is in
-    list_set c.args.context.fonts.now c.args.style (sequence_in c.args.context.arena.now.closed c.args.list) h.row c.in_ok-halves.halves c.join_on.result c.args.pieces.now c.join_on.new.pieces h.is
-    (subst (λ x. SetsRowOn c.join_on.result x c.join_on.new.pieces (second_pass_of c.args.context.fonts.now c.args.style (placed_halves c.in_ok-halves.halves h.row))) (rest_before _ c.args.pieces.now h.row _ c.len-first.ensures h.stays)
-    (subst (λ r. SetsRowOn c.join_on.result (take c.len-first.result c.first_pass_on.new.pieces) c.join_on.new.pieces (second_pass_of c.args.context.fonts.now c.args.style (placed_halves c.in_ok-halves.halves r))) (row_behind _ c.args.pieces.now h.row _ c.len-first.ensures h.stays) c.join_on.ensures.is))
+    let hs = c.in_ok-halves.halves in
+    list_set c.args.context.fonts.now c.args.style (sequence_in c.args.context.arena.now.closed c.args.list) h.row (reaching hs h.row) c.join_items.result c.args.pieces.now c.join_items.new.pieces h.is
+    (subst (λ x. SetsRowOn c.join_items.result x c.join_items.new.pieces (second_pass_of c.args.context.fonts.now c.args.style (placed_halves (reaching hs h.row) h.row))) (rest_before _ c.args.pieces.now h.row _ c.len-first.ensures h.stays)
+    (subst (λ r. SetsRowOn c.join_items.result (take c.len-first.result c.first_pass_on.new.pieces) c.join_items.new.pieces (second_pass_of c.args.context.fonts.now c.args.style (placed_halves (reaching hs r) r))) (row_behind _ c.args.pieces.now h.row _ c.len-first.ensures h.stays) c.join_items.ensures.is))
 
 pub set_span_on-returns-clause-few : goal.set_span_on-returns-clause-few
-set_span_on-returns-clause-few t c = subst (λ n. OnOk c.join_on.result (length (drop n c.join_on.new.pieces) ≤ 2 ^ 21)) c.len-first.ensures c.join_on.ensures.few
+set_span_on-returns-clause-few t c = subst (λ n. OnOk c.join_items.result (length (drop n c.join_items.new.pieces) ≤ 2 ^ 21)) c.len-first.ensures c.join_items.ensures.few
 
 pub first_pass_on-loop-front-init : goal.first_pass_on-loop-front-init
 first_pass_on-loop-front-init t c =
     let es = c.args.context.arena.now.closed in
-    let m = c.requires.modest in
-    (c.of-rest.ensures.kept es m.within, going_start c.args.context.fonts.now c.args.style (sequence_in es c.args.list) c.opening-current.result (rest_in es c.of-rest.result) c.in_ok-items.items.items c.none-reach.result c.args.pieces.now m.modest m.kept.0 c.opening-current.ensures (c.of-rest.ensures.is es) c.in_ok-items.ensures.items c.none-reach.ensures.height c.none-reach.ensures.depth)
+    let whole = sequence_in es c.args.list in
+    let m = c.requires.modest in (
+      c.of-rest.ensures.kept es m.within,
+      subst (Going c.args.context.fonts.now c.args.style whole c.opening-current.result (rest_in es c.of-rest.result) c.take_items-items.result.items c.args.pieces.now) (sym c.take_items-items.ensures.same)
+          (going_start c.args.context.fonts.now c.args.style whole c.opening-current.result (rest_in es c.of-rest.result) c.take_items-items.result.items c.args.pieces.now m.modest m.kept.0 c.opening-current.ensures (c.of-rest.ensures.is es) c.take_items-items.ensures.is),
+    )
 
 pub first_pass_on-set_item-requires : goal.first_pass_on-set_item-requires
 first_pass_on-set_item-requires t c =
-    let u = front_passes c.args.context.fonts.now c.loop-front.current _ c.in-Some.front _ _ _ c.in_ok-passed.field-0 c.in-Some-2.passed c.in-Some.ensures.item.0 c.in-Some.ensures.is c.in_ok-passed.ensures.turns c.in_ok-passed.ensures.boundaries c.in-Some-2.is in
-    let n = next_fits _ _ _ c.loop-front.current _ _ _ _ _ _ _ _ _ c.loop-front.invariant.1 u.is u.turn in
-    (omega (arith, n.smaller, c.decreases), modest_passed _ c.in_ok-passed.field-0 c.in-Some-2.passed c.in-Some-2.is c.in_ok-passed.ensures.passes n.modest)
+    let u = front_passes c.args.context.fonts.now c.loop-front.current _ c.in-Some.front _ _ _ c.in_ok-joined.field-0 c.in-Some-2.joined c.in-Some.ensures.item.0 c.in-Some.ensures.is c.in_ok-joined.ensures.turns c.in_ok-joined.ensures.boundaries c.in-Some-2.is in
+    let n = next_fits _ _ _ c.loop-front.current _ _ _ _ _ _ _ _ c.loop-front.invariant.1 u.is u.turn in
+    (omega (arith, n.smaller, c.decreases), modest_passed _ c.in-Some.front c.in-Some-2.joined c.in-Some.ensures.item n.modest)
 
 pub first_pass_on-returns-in_err-half : goal.first_pass_on-returns-in_err-half
 first_pass_on-returns-in_err-half t c =
-    let u = front_passes c.args.context.fonts.now c.loop-front.current _ c.in-Some.front _ _ _ c.in_ok-passed.field-0 c.in-Some-2.passed c.in-Some.ensures.item.0 c.in-Some.ensures.is c.in_ok-passed.ensures.turns c.in_ok-passed.ensures.boundaries c.in-Some-2.is in
-    let p = err_from_is_err_and c.from_residual-in_err-half.result c.from_residual-in_err-half.ensures.1 in rw (p.1, p.2) (record { is = going_err _ _ _ c.loop-front.current _ _ _ _ _ _ _ (passed_in _ c.in-Some-2.passed) _ _ c.loop-front.invariant.1 u.is u.turn c.in_err-half.ensures.is })
+    let u = front_passes c.args.context.fonts.now c.loop-front.current _ c.in-Some.front _ _ _ c.in_ok-joined.field-0 c.in-Some-2.joined c.in-Some.ensures.item.0 c.in-Some.ensures.is c.in_ok-joined.ensures.turns c.in_ok-joined.ensures.boundaries c.in-Some-2.is in
+    let p = err_from_is_err_and c.from_residual-in_err-half.result c.from_residual-in_err-half.ensures.1 in rw (p.1, p.2) (record { is = going_err _ _ _ c.loop-front.current _ _ _ _ _ _ (passed_in _ c.in-Some.front c.in-Some-2.joined) _ _ c.loop-front.invariant.1 u.is u.turn c.in_err-half.ensures.is })
 
 pub first_pass_on-returns-in_err-push_with_kern : goal.first_pass_on-returns-in_err-push_with_kern
 first_pass_on-returns-in_err-push_with_kern t c =
-    let u = front_passes c.args.context.fonts.now c.loop-front.current _ c.in-Some.front _ _ _ c.in_ok-passed.field-0 c.in-Some-2.passed c.in-Some.ensures.item.0 c.in-Some.ensures.is c.in_ok-passed.ensures.turns c.in_ok-passed.ensures.boundaries c.in-Some-2.is in
-    let p = err_from_is_err_and c.from_residual-in_err-push_with_kern.result c.from_residual-in_err-push_with_kern.ensures.1 in rw (p.1, p.2) (record { is = going_kern_err _ _ _ c.loop-front.current _ _ _ _ _ _ _ (passed_in _ c.in-Some-2.passed) _ _ c.kern.result _ c.loop-front.invariant.1 u.is u.turn c.in_ok-half.ensures.is.is (c.kern.ensures c.args.context.arena.now.closed) c.in_err-push_with_kern.ensures.is })
-
-pub first_pass_on-with_pieces-reach-requires : goal.first_pass_on-with_pieces-reach-requires
-first_pass_on-with_pieces-reach-requires t c = record { few = few_behind c.len-first.result (2 ^ 21) _ c.in_ok-half.ensures.is.row _ c.len-first.ensures c.in_ok-half.ensures.is.stays (omega (arith, c.in_ok-half.ensures.is.few)) }
+    let u = front_passes c.args.context.fonts.now c.loop-front.current _ c.in-Some.front _ _ _ c.in_ok-joined.field-0 c.in-Some-2.joined c.in-Some.ensures.item.0 c.in-Some.ensures.is c.in_ok-joined.ensures.turns c.in_ok-joined.ensures.boundaries c.in-Some-2.is in
+    let p = err_from_is_err_and c.from_residual-in_err-push_with_kern.result c.from_residual-in_err-push_with_kern.ensures.1 in rw (p.1, p.2) (record { is = going_kern_err _ _ _ c.loop-front.current _ _ _ _ _ _ (passed_in _ c.in-Some.front c.in-Some-2.joined) _ _ c.in-Some-2.joined.kern _ c.loop-front.invariant.1 u.is u.turn c.in_ok-half.ensures.is.is (subst (λ o. IfSome o (λ j. (es : List Held) → j.kern ≡ kern_of (passed_in es c.in-Some.front j))) c.in-Some-2.is c.in_ok-joined.ensures.kern c.args.context.arena.now.closed) c.in_err-push_with_kern.ensures.is })
 
 pub first_pass_on-loop-front-smaller-in-Some-2 : goal.first_pass_on-loop-front-smaller-in-Some-2
 first_pass_on-loop-front-smaller-in-Some-2 t c =
-    let u = front_passes c.args.context.fonts.now c.loop-front.current _ c.in-Some.front _ _ _ c.in_ok-passed.field-0 c.in-Some-2.passed c.in-Some.ensures.item.0 c.in-Some.ensures.is c.in_ok-passed.ensures.turns c.in_ok-passed.ensures.boundaries c.in-Some-2.is in
-    (next_fits _ _ _ c.loop-front.current _ _ _ _ _ _ _ _ _ c.loop-front.invariant.1 u.is u.turn).falls
+    let u = front_passes c.args.context.fonts.now c.loop-front.current _ c.in-Some.front _ _ _ c.in_ok-joined.field-0 c.in-Some-2.joined c.in-Some.ensures.item.0 c.in-Some.ensures.is c.in_ok-joined.ensures.turns c.in_ok-joined.ensures.boundaries c.in-Some-2.is in
+    (next_fits _ _ _ c.loop-front.current _ _ _ _ _ _ _ _ c.loop-front.invariant.1 u.is u.turn).falls
 
 pub first_pass_on-loop-front-preserved-in-Some-2 : goal.first_pass_on-loop-front-preserved-in-Some-2
 first_pass_on-loop-front-preserved-in-Some-2 t c =
-    let u = front_passes c.args.context.fonts.now c.loop-front.current _ c.in-Some.front _ _ _ c.in_ok-passed.field-0 c.in-Some-2.passed c.in-Some.ensures.item.0 c.in-Some.ensures.is c.in_ok-passed.ensures.turns c.in_ok-passed.ensures.boundaries c.in-Some-2.is in (
-      c.in_ok-passed.ensures.kept,
-      going_pass _ _ _ c.loop-front.current c.after_half-current.result _ _ _ _ _ _ _ _ _ _ (passed_in _ c.in-Some-2.passed) _ c.in_ok-half.half c.kern.result c.loop-front.invariant.1 u.is u.turn
+    let u = front_passes c.args.context.fonts.now c.loop-front.current _ c.in-Some.front _ _ _ c.in_ok-joined.field-0 c.in-Some-2.joined c.in-Some.ensures.item.0 c.in-Some.ensures.is c.in_ok-joined.ensures.turns c.in_ok-joined.ensures.boundaries c.in-Some-2.is in (
+      c.in_ok-joined.ensures.kept,
+      going_pass _ _ _ c.loop-front.current c.after_half-current.result _ _ _ _ _ _ _ _ (passed_in _ c.in-Some.front c.in-Some-2.joined) _ c.in_ok-half.half c.in-Some-2.joined.kern c.loop-front.invariant.1 u.is u.turn
           u.leaves
-          (c.kern.ensures c.args.context.arena.now.closed)
+          (subst (λ o. IfSome o (λ j. (es : List Held) → j.kern ≡ kern_of (passed_in es c.in-Some.front j))) c.in-Some-2.is c.in_ok-joined.ensures.kern c.args.context.arena.now.closed)
           (record { half = c.in_ok-half.ensures.is; kern = c.in_ok-push_with_kern.ensures.is })
-          (reaches_on c.len-first.result _ _ c.loop-front.pieces c.set_item.new.pieces c.len-first.ensures c.with_pieces-reach.ensures.height c.with_pieces-reach.ensures.depth)
           c.in_ok-push_with_kern.ensures.pushed c.after_half-current.ensures,
     )
 
 pub first_pass_on-loop-front-smaller : goal.first_pass_on-loop-front-smaller
 first_pass_on-loop-front-smaller t c =
-    let u = front_again c.args.context.fonts.now c.loop-front.current _ c.in-Some.front _ _ _ c.in_ok-passed.field-0 c.in-Some.ensures.item.0 c.in-Some.ensures.is c.in_ok-passed.ensures.turns c.in_ok-passed.ensures.boundaries c.in_default-2.not-Some in
+    let u = front_again c.args.context.fonts.now c.loop-front.current _ c.in-Some.front _ _ _ c.in_ok-joined.field-0 c.in-Some.ensures.item.0 c.in-Some.ensures.is c.in_ok-joined.ensures.turns c.in_ok-joined.ensures.boundaries c.in_default-2.not-Some in
     again_falls c.args.context.fonts.now c.loop-front.current _ _ _ _ u.is u.turn
 
 pub first_pass_on-loop-front-preserved : goal.first_pass_on-loop-front-preserved
 first_pass_on-loop-front-preserved t c =
-    let u = front_again c.args.context.fonts.now c.loop-front.current _ c.in-Some.front _ _ _ c.in_ok-passed.field-0 c.in-Some.ensures.item.0 c.in-Some.ensures.is c.in_ok-passed.ensures.turns c.in_ok-passed.ensures.boundaries c.in_default-2.not-Some in (
-      c.in_ok-passed.ensures.kept,
-      going_again _ _ _ _ _ _ _ _ _ _ _ _ c.loop-front.invariant.1 u.is u.turn
+    let u = front_again c.args.context.fonts.now c.loop-front.current _ c.in-Some.front _ _ _ c.in_ok-joined.field-0 c.in-Some.ensures.item.0 c.in-Some.ensures.is c.in_ok-joined.ensures.turns c.in_ok-joined.ensures.boundaries c.in_default-2.not-Some in (
+      c.in_ok-joined.ensures.kept,
+      going_again _ _ _ _ _ _ _ _ _ _ _ c.loop-front.invariant.1 u.is u.turn
           u.leaves,
     )
 
 pub first_pass_on-returns : goal.first_pass_on-returns
-first_pass_on-returns t c = record { is = going_end _ _ _ _ _ _ _ _ _ _ c.loop-front.invariant.1 c.in_default.ensures.is.0 c.finish.ensures }
+first_pass_on-returns t c = record { is = going_end _ _ _ _ _ _ _ _ _ c.loop-front.invariant.1 c.in_default.ensures.is.0 c.finish.ensures }
 
 -- ---- `set_item`
 
 pub set_item-set_atom-requires : goal.set_item-set_atom-requires
 set_item-set_atom-requires t c =
-    let g = ap (λ p. element_of_passed (passed_in c.args.context.arena.now.closed p)) c.in-Atom.is in
-    let m = subst (ModestPassed c.args.context.arena.now.closed) c.in-Atom.is c.requires.modest in
+    let g = ap (λ p. element_of_passed (passed_in c.args.context.arena.now.closed p c.args.joined)) c.in-Atom.is in
+    let m = subst (λ p. ModestPassed c.args.context.arena.now.closed p c.args.joined) c.in-Atom.is c.requires.modest in
     (omega (arith, ap element_size g, c.decreases), record { within = m.within; modest = m.modest; kept = m.kept })
 
 pub set_item-set_fraction-requires : goal.set_item-set_fraction-requires
 set_item-set_fraction-requires t c =
-    let g = ap (λ p. element_of_passed (passed_in c.args.context.arena.now.closed p)) c.in-Fraction.is in
-    let m = subst (ModestPassed c.args.context.arena.now.closed) c.in-Fraction.is c.requires.modest in
+    let g = ap (λ p. element_of_passed (passed_in c.args.context.arena.now.closed p c.args.joined)) c.in-Fraction.is in
+    let m = subst (λ p. ModestPassed c.args.context.arena.now.closed p c.args.joined) c.in-Fraction.is c.requires.modest in
     (omega (arith, ap element_size g, c.decreases), record { within = m.within; modest = m.modest; kept = m.kept })
 
 pub set_item-returns-in_err-set_atom-in-Atom : goal.set_item-returns-in_err-set_atom-in-Atom
 set_item-returns-in_err-set_atom-in-Atom t c =
     let es = c.args.context.arena.now.closed in
-    let p = err_from_is_err_and c.from_residual.result c.from_residual.ensures.1 in rw (p.1, p.2) (record { is = atom_item_fails _ c.args.context.fonts.now c.args.current (passed_in es c.args.passed.now) es c.in-Atom.noad c.in-Atom.role c.in-Atom.kern (ap (passed_in es) c.in-Atom.is) c.in_err-set_atom-in-Atom.ensures.is })
+    let p = err_from_is_err_and c.from_residual.result c.from_residual.ensures.1 in rw (p.1, p.2) (record { is = atom_item_fails _ c.args.context.fonts.now c.args.current (passed_in es c.args.item.now c.args.joined) es c.in-Atom.noad c.args.joined (ap (λ p. passed_in es p c.args.joined) c.in-Atom.is) c.in_err-set_atom-in-Atom.ensures.is })
 
 pub set_item-returns-in_err-set_fraction-in-Fraction : goal.set_item-returns-in_err-set_fraction-in-Fraction
 set_item-returns-in_err-set_fraction-in-Fraction t c =
     let es = c.args.context.arena.now.closed in
-    let p = err_from_is_err_and c.from_residual-in_err-set_fraction-in-Fraction.result c.from_residual-in_err-set_fraction-in-Fraction.ensures.1 in rw (p.1, p.2) (record { is = fraction_item_fails _ c.args.context.fonts.now c.args.current (passed_in es c.args.passed.now) es c.in-Fraction.fraction (ap (passed_in es) c.in-Fraction.is) c.in_err-set_fraction-in-Fraction.ensures.is })
+    let p = err_from_is_err_and c.from_residual-in_err-set_fraction-in-Fraction.result c.from_residual-in_err-set_fraction-in-Fraction.ensures.1 in rw (p.1, p.2) (record { is = fraction_item_fails _ c.args.context.fonts.now c.args.current (passed_in es c.args.item.now c.args.joined) es c.in-Fraction.fraction c.args.joined (ap (λ p. passed_in es p c.args.joined) c.in-Fraction.is) c.in_err-set_fraction-in-Fraction.ensures.is })
 
 pub set_item-returns-in_ok-set_atom-in-Atom : goal.set_item-returns-in_ok-set_atom-in-Atom
 set_item-returns-in_ok-set_atom-in-Atom t c = record {
   is = let es = c.args.context.arena.now.closed in
       atom_placed c.forward-class.result c.len-first.result c.placed_after.result c.args.pieces.now c.set_atom.new.pieces _ _ c.len-first.ensures c.placed_after.ensures c.in_ok-set_atom-in-Atom.ensures.is
-      (λ row made. atom_item_made c.args.context.fonts.now c.args.current (passed_in es c.args.passed.now) es c.in-Atom.noad c.in-Atom.role c.in-Atom.kern row c.forward-class.result (ap (passed_in es) c.in-Atom.is) (c.forward-class.ensures.is ∙ ap (forward_of c.args.current.last) c.kind_class.ensures) made);
+      (λ row made. atom_item_made c.args.context.fonts.now c.args.current (passed_in es c.args.item.now c.args.joined) es c.in-Atom.noad c.args.joined row c.forward-class.result (ap (λ p. passed_in es p c.args.joined) c.in-Atom.is) (c.forward-class.ensures.is ∙ ap (forward_of c.args.current.last) c.kind_class.ensures) made);
 }
 
 pub set_item-returns-in_ok-set_fraction-in-Fraction : goal.set_item-returns-in_ok-set_fraction-in-Fraction
 set_item-returns-in_ok-set_fraction-in-Fraction t c = record {
   is = let es = c.args.context.arena.now.closed in
       atom_placed Inner c.len-first-in-Fraction.result c.placed_after-in-Fraction.result c.args.pieces.now c.set_fraction.new.pieces _ _ c.len-first-in-Fraction.ensures c.placed_after-in-Fraction.ensures c.in_ok-set_fraction-in-Fraction.ensures.is
-      (λ row made. fraction_item_made c.args.context.fonts.now c.args.current (passed_in es c.args.passed.now) es c.in-Fraction.fraction row (ap (passed_in es) c.in-Fraction.is) made);
+      (λ row made. fraction_item_made c.args.context.fonts.now c.args.current (passed_in es c.args.item.now c.args.joined) es c.in-Fraction.fraction c.args.joined row (ap (λ p. passed_in es p c.args.joined) c.in-Fraction.is) made);
 }
 
 pub set_item-returns-in-Left : goal.set_item-returns-in-Left
-set_item-returns-in-Left t c = record { is = alone (placed.Left c.in-Left.delim) c.args.pieces.now _ refl tt (ap (λ p. FirstPass.set_item c.args.context.fonts.now c.args.current (flat_item c.args.context.fonts.now (passed_in c.args.context.arena.now.closed p))) c.in-Left.is) }
+set_item-returns-in-Left t c = record { is = alone (placed.Left c.in-Left.delim) c.args.pieces.now _ refl tt (ap (λ p. FirstPass.set_item c.args.context.fonts.now c.args.current (flat_item c.args.context.fonts.now (passed_in c.args.context.arena.now.closed p c.args.joined))) c.in-Left.is) }
 
 pub set_item-returns-in-Middle : goal.set_item-returns-in-Middle
-set_item-returns-in-Middle t c = record { is = alone (placed.Middle c.in-Middle.delim) c.args.pieces.now _ refl tt (ap (λ p. FirstPass.set_item c.args.context.fonts.now c.args.current (flat_item c.args.context.fonts.now (passed_in c.args.context.arena.now.closed p))) c.in-Middle.is) }
+set_item-returns-in-Middle t c = record { is = alone (placed.Middle c.in-Middle.delim) c.args.pieces.now _ refl tt (ap (λ p. FirstPass.set_item c.args.context.fonts.now c.args.current (flat_item c.args.context.fonts.now (passed_in c.args.context.arena.now.closed p c.args.joined))) c.in-Middle.is) }
 
 pub set_item-returns-in-Right : goal.set_item-returns-in-Right
-set_item-returns-in-Right t c = record { is = alone (placed.Right c.in-Right.delim) c.args.pieces.now _ refl tt (ap (λ p. FirstPass.set_item c.args.context.fonts.now c.args.current (flat_item c.args.context.fonts.now (passed_in c.args.context.arena.now.closed p))) c.in-Right.is) }
+set_item-returns-in-Right t c = record { is = alone (placed.Right c.in-Right.delim) c.args.pieces.now _ refl tt (ap (λ p. FirstPass.set_item c.args.context.fonts.now c.args.current (flat_item c.args.context.fonts.now (passed_in c.args.context.arena.now.closed p c.args.joined))) c.in-Right.is) }
 
 pub set_item-returns-in-Style : goal.set_item-returns-in-Style
-set_item-returns-in-Style t c = record { is = alone (placed.Style c.in-Style.style) c.args.pieces.now _ refl tt (ap (λ p. FirstPass.set_item c.args.context.fonts.now c.args.current (flat_item c.args.context.fonts.now (passed_in c.args.context.arena.now.closed p))) c.in-Style.is) }
+set_item-returns-in-Style t c = record { is = alone (placed.Style c.in-Style.style) c.args.pieces.now _ refl tt (ap (λ p. FirstPass.set_item c.args.context.fonts.now c.args.current (flat_item c.args.context.fonts.now (passed_in c.args.context.arena.now.closed p c.args.joined))) c.in-Style.is) }
 
 pub set_item-glue_in_points-requires : goal.set_item-glue_in_points-requires
-set_item-glue_in_points-requires t c = subst GlueAmounts (sym c.long_glue.ensures) (subst (ModestPassed c.args.context.arena.now.closed) c.in-MuSpace.is c.requires.modest).modest.amounts
+set_item-glue_in_points-requires t c = subst GlueAmounts (sym c.long_glue.ensures) (subst (λ p. ModestPassed c.args.context.arena.now.closed p c.args.joined) c.in-MuSpace.is c.requires.modest).modest.amounts
 
 pub set_item-in_points-requires : goal.set_item-in_points-requires
 set_item-in_points-requires t c =
     let f : FitsSigned w32 c.in-MuKern.amount = search rules in
-    subst (Within max_dimen) (sym (c.long_length.ensures ∙ kept_word c.in-MuKern.amount f)) (subst (ModestPassed c.args.context.arena.now.closed) c.in-MuKern.is c.requires.modest).modest.amounts
+    subst (Within max_dimen) (sym (c.long_length.ensures ∙ kept_word c.in-MuKern.amount f)) (subst (λ p. ModestPassed c.args.context.arena.now.closed p c.args.joined) c.in-MuKern.is c.requires.modest).modest.amounts
 
 pub set_item-returns-in-MuSpace : goal.set_item-returns-in-MuSpace
-set_item-returns-in-MuSpace t c = record { is = space_placed c.make_space.result c.args.pieces.now _ c.glue_in_points.result (subst (SetsPlaced c.make_space.result) (sym (ap (λ p. FirstPass.set_item c.args.context.fonts.now c.args.current (flat_item c.args.context.fonts.now (passed_in c.args.context.arena.now.closed p))) c.in-MuSpace.is)) (subst (λ g. SetsPlaced c.make_space.result (FirstPass.make_space g)) (c.glue_in_points.ensures ∙ ap (FirstPass.glue_in_points c.args.context.fonts.now c.args.current.style) c.long_glue.ensures) c.make_space.ensures.is)) c.make_space.ensures.fits c.make_space.ensures.same }
+set_item-returns-in-MuSpace t c = record { is = space_placed c.make_space.result c.args.pieces.now _ c.glue_in_points.result (subst (SetsPlaced c.make_space.result) (sym (ap (λ p. FirstPass.set_item c.args.context.fonts.now c.args.current (flat_item c.args.context.fonts.now (passed_in c.args.context.arena.now.closed p c.args.joined))) c.in-MuSpace.is)) (subst (λ g. SetsPlaced c.make_space.result (FirstPass.make_space g)) (c.glue_in_points.ensures ∙ ap (FirstPass.glue_in_points c.args.context.fonts.now c.args.current.style) c.long_glue.ensures) c.make_space.ensures.is)) c.make_space.ensures.fits c.make_space.ensures.same }
 
 pub set_item-returns-in-Space : goal.set_item-returns-in-Space
-set_item-returns-in-Space t c = record { is = space_placed c.make_space-in-Space.result c.args.pieces.now _ c.long_glue-in-Space.result (subst (SetsPlaced c.make_space-in-Space.result) (sym (ap (λ p. FirstPass.set_item c.args.context.fonts.now c.args.current (flat_item c.args.context.fonts.now (passed_in c.args.context.arena.now.closed p))) c.in-Space.is)) (subst (λ g. SetsPlaced c.make_space-in-Space.result (FirstPass.make_space g)) c.long_glue-in-Space.ensures c.make_space-in-Space.ensures.is)) c.make_space-in-Space.ensures.fits c.make_space-in-Space.ensures.same }
+set_item-returns-in-Space t c = record { is = space_placed c.make_space-in-Space.result c.args.pieces.now _ c.long_glue-in-Space.result (subst (SetsPlaced c.make_space-in-Space.result) (sym (ap (λ p. FirstPass.set_item c.args.context.fonts.now c.args.current (flat_item c.args.context.fonts.now (passed_in c.args.context.arena.now.closed p c.args.joined))) c.in-Space.is)) (subst (λ g. SetsPlaced c.make_space-in-Space.result (FirstPass.make_space g)) c.long_glue-in-Space.ensures c.make_space-in-Space.ensures.is)) c.make_space-in-Space.ensures.fits c.make_space-in-Space.ensures.same }
 
 pub set_item-returns-in-MuKern : goal.set_item-returns-in-MuKern
 set_item-returns-in-MuKern t c = record {
   is = let f : FitsSigned w32 c.in-MuKern.amount = search rules in
-      kern_placed c.make_kern.result c.args.pieces.now _ _ (subst (SetsPlaced c.make_kern.result) (sym (ap (λ p. FirstPass.set_item c.args.context.fonts.now c.args.current (flat_item c.args.context.fonts.now (passed_in c.args.context.arena.now.closed p))) c.in-MuKern.is)) (subst (λ x. SetsPlaced c.make_kern.result (FirstPass.make_kern x)) (c.in_points.ensures ∙ ap (in_points c.args.context.fonts.now c.args.current.style) (c.long_length.ensures ∙ kept_word c.in-MuKern.amount f)) c.make_kern.ensures.is)) c.make_kern.ensures.fits c.make_kern.ensures.same;
+      kern_placed c.make_kern.result c.args.pieces.now _ _ (subst (SetsPlaced c.make_kern.result) (sym (ap (λ p. FirstPass.set_item c.args.context.fonts.now c.args.current (flat_item c.args.context.fonts.now (passed_in c.args.context.arena.now.closed p c.args.joined))) c.in-MuKern.is)) (subst (λ x. SetsPlaced c.make_kern.result (FirstPass.make_kern x)) (c.in_points.ensures ∙ ap (in_points c.args.context.fonts.now c.args.current.style) (c.long_length.ensures ∙ kept_word c.in-MuKern.amount f)) c.make_kern.ensures.is)) c.make_kern.ensures.fits c.make_kern.ensures.same;
 }
 
 pub set_item-returns-in-Kern : goal.set_item-returns-in-Kern
 set_item-returns-in-Kern t c = record {
   is = let f : FitsSigned w32 c.in-Kern.amount = search rules in
-      kern_placed c.make_kern-in-Kern.result c.args.pieces.now _ _ (subst (SetsPlaced c.make_kern-in-Kern.result) (sym (ap (λ p. FirstPass.set_item c.args.context.fonts.now c.args.current (flat_item c.args.context.fonts.now (passed_in c.args.context.arena.now.closed p))) c.in-Kern.is)) (subst (λ x. SetsPlaced c.make_kern-in-Kern.result (FirstPass.make_kern x)) (c.long_length-in-Kern.ensures ∙ kept_word c.in-Kern.amount f) c.make_kern-in-Kern.ensures.is)) c.make_kern-in-Kern.ensures.fits c.make_kern-in-Kern.ensures.same;
+      kern_placed c.make_kern-in-Kern.result c.args.pieces.now _ _ (subst (SetsPlaced c.make_kern-in-Kern.result) (sym (ap (λ p. FirstPass.set_item c.args.context.fonts.now c.args.current (flat_item c.args.context.fonts.now (passed_in c.args.context.arena.now.closed p c.args.joined))) c.in-Kern.is)) (subst (λ x. SetsPlaced c.make_kern-in-Kern.result (FirstPass.make_kern x)) (c.long_length-in-Kern.ensures ∙ kept_word c.in-Kern.amount f) c.make_kern-in-Kern.ensures.is)) c.make_kern-in-Kern.ensures.fits c.make_kern-in-Kern.ensures.same;
 }
 
+pub set_item-returns-in_default : goal.set_item-returns-in_default
+set_item-returns-in_default t c =
+    let n = c.in_default in
+    let none = none_of_these c.args.context.arena.now.closed c.args.item.now c.args.joined n.not-Atom n.not-Fraction n.not-Left n.not-Middle n.not-Right n.not-Style n.not-MuSpace n.not-Space n.not-MuKern n.not-Kern in
+    record {
+      is = space_placed c.make_space-in_default.result c.args.pieces.now _ no_glue (subst (SetsPlaced c.make_space-in_default.result) (sym (ap (λ p. FirstPass.set_item c.args.context.fonts.now c.args.current (flat_item c.args.context.fonts.now p)) none)) c.make_space-in_default.ensures.is) c.make_space-in_default.ensures.fits c.make_space-in_default.ensures.same;
+    }
+
 -- ---- `set_atom`
+
+pub set_atom-returns-in-Some : goal.set_atom-returns-in-Some
+set_atom-returns-in-Some t c = record {
+  is = let es = c.args.context.arena.now.closed in
+      subst (SetsAtomOn c.symbol_row.result c.args.pieces.now c.symbol_row.new.pieces)
+      (sym (plain_atom c.args.context.fonts.now c.args.style (role_value c.args.role) es c.args.atom.now c.in-Some.symbol (sym (c.first_symbol.ensures es) ∙ c.in-Some.is))) c.symbol_row.ensures.is;
+}
 
 pub set_atom-set_under_limits-requires : goal.set_atom-set_under_limits-requires
 set_atom-set_under_limits-requires t c = (omega (arith, c.decreases), (nucleus_cell _ c.args.atom.now c.requires.modest, (sup_cell _ c.args.atom.now c.requires.modest, sub_cell _ c.args.atom.now c.requires.modest)))
@@ -369,6 +386,12 @@ pub set_plain-returns-in_default : goal.set_plain-returns-in_default
 set_plain-returns-in_default t c = record { is = no_row c.args.pieces.now _ (empty_nucleus_is c.args.class c.args.context.fonts.now c.args.style (role_value c.args.role) (cell_part c.args.context.arena.now.closed c.args.field) c.args.has_subscript (has_no_nucleus c.args.context.arena.now.closed c.args.field c.in_default.not-Sym c.in_default.not-List c.in_default.not-Big)) }
 
 -- ---- `clean_list` and `pack_list`
+
+pub clean_list-returns-in-Some : goal.clean_list-returns-in-Some
+clean_list-returns-in-Some t c = record {
+  is = let same = subst (λ o. IfSome o (λ symbol. (fonts : SetValue) (style : Style) → clean_list (list_content fonts (sequence_in c.args.context.arena.now.closed c.args.list)) style ≡ clean_symbol fonts style symbol)) c.in-Some.is c.lone_symbol.ensures in
+      subst (SetsBoxOn c.clean_symbol.result c.args.pieces.now c.clean_symbol.new.pieces) (sym (same c.args.context.fonts.now c.args.style)) c.clean_symbol.ensures.is;
+}
 
 pub clean_list-returns-in_err-set_span_on : goal.clean_list-returns-in_err-set_span_on
 clean_list-returns-in_err-set_span_on t c =

@@ -93,10 +93,10 @@ abbrev pub decreases-set_fraction : goal.decreases-set_fraction
 decreases-set_fraction l = 10 * element_size (fraction_in l.context.arena.now.closed l.fields.now)
 
 abbrev pub decreases-set_item : goal.decreases-set_item
-decreases-set_item l = 10 * element_size (element_of_passed (passed_in l.context.arena.now.closed l.passed.now)) + 1
+decreases-set_item l = 10 * element_size (element_of_passed (passed_in l.context.arena.now.closed l.item.now l.joined)) + 1
 
 abbrev pub invariant-first_pass_on-loop-front : goal.invariant-first_pass_on-loop-front
-invariant-first_pass_on-loop-front l = KeptRest l.context.arena.now.closed l.rest × Going l.context.fonts.now l.fn.style (sequence_in l.context.arena.now.closed l.fn.list) l.current (rest_in l.context.arena.now.closed l.rest) l.items.items l.reach l.fn.pieces l.pieces
+invariant-first_pass_on-loop-front l = KeptRest l.context.arena.now.closed l.rest × Going l.context.fonts.now l.fn.style (sequence_in l.context.arena.now.closed l.fn.list) l.current (rest_in l.context.arena.now.closed l.rest) l.items.items l.fn.pieces l.pieces
 
 abbrev pub decreases-first_pass_on-loop-front : goal.decreases-first_pass_on-loop-front
 decreases-first_pass_on-loop-front l = sequence_size (rest_in l.context.arena.now.closed l.rest)

@@ -4,14 +4,6 @@ use Rattle.mt_convert.specs.inner.Placed.{placed_values}
 use Rattle.mt_convert.proofs.SecondPass.{second_is}
 use Rattle.mt_convert.proofs.second.join.join_on.Goals as goal
 
-pub returns-clause-is : goal.returns-clause-is
-returns-clause-is c =
-    let row = drop c.args.first c.args.pieces.now in
-    subst (SetsRowOn c.join_rows.result (take c.args.first c.args.pieces.now) c.join_rows.new.pieces)
-    (ap (λ items. row_of_halves c.args.fonts.now c.boundary_frame-frame.result.size c.boundary_frame-frame.result.wanted.sp c.args.style (placed_values items row)) c.as_slice-items.ensures
-    ∙ second_is c.args.fonts.now c.args.style _ _ _ _ (placed_values c.args.halves.items row) c.boundary_frame-frame.ensures.size c.boundary_frame-frame.ensures.wanted)
-    c.join_rows.ensures.is
-
 pub returns-then-not-has_boundary-clause-is : goal.returns-then-not-has_boundary-clause-is
 returns-then-not-has_boundary-clause-is c =
     let row = drop c.args.first c.args.pieces.now in

@@ -1,6 +1,6 @@
 use Rattle.std.proofs.Common.{arith, drop}
 use Rattle.mt_convert.proofs.Common.{drop_all, drop_more}
-use Rattle.mt_convert.proofs.Runs.{next_run, runs_put, runs_start, runs_step}
+use Rattle.mt_convert.proofs.Runs.{runs_put, runs_start, runs_step}
 use Rattle.mt_convert.proofs.second.runs.put_runs.Goals as goal
 
 pub loop-item-init : goal.loop-item-init
