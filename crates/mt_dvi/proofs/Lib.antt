@@ -17,6 +17,8 @@ pub mod LeanLemmas
 pub mod MoveLemmas
 -- definitions and selections of fonts
 pub mod FontLemmas
+-- the first bytes of a row
+pub mod RowLemmas
 -- one place: a glyph or a rule
 pub mod PlaceLemmas
 -- the places of a page

@@ -51,6 +51,13 @@ with_more reached done place put =
     let e : reached.file.place_count + length done + 1 ≡ reached.file.place_count + length (done ++ m ∷ []) = omega (arith, length-append done (m ∷ [])) in
     rw (e, append_assoc reached.file.page.places done (m ∷ [])) refl
 
+pub first_place : (P : Place → Type 0) (rest : List Place) (d : Place) → 1 ≤ length rest → All P rest → P (get_or rest 0 d)
+first_place P rest d lt all = all 0 d (omega arith)
+
+pub reach_first : (cursor : Cursor) (rest : List Place) (d : Place) → 1 ≤ length rest → IsReachable cursor (first_of rest) → FitsFourBytes (h_of (get_or rest 0 d) -ℤ cursor.h)
+reach_first cursor [] d lt reach = absurd (omega arith)
+reach_first cursor (x ∷ xs) d lt reach = reach
+
 pub can_v : (fonts : SetValue) (place : Place) → IsWritable fonts place → InRange (v_of place)
 can_v fonts (Glyph n code h v) can = can.v_in_range
 can_v fonts (Rule h v height width) can = can.v_in_range
@@ -58,6 +65,9 @@ can_v fonts (Rule h v height width) can = can.v_in_range
 pub can_h : (fonts : SetValue) (place : Place) → IsWritable fonts place → InRange (h_of place)
 can_h fonts (Glyph n code h v) can = can.h_in_range
 can_h fonts (Rule h v height width) can = can.h_in_range
+
+pub down_first : (fonts : SetValue) (rest : List Place) (d : Place) (v : ℤ) → 1 ≤ length rest → All (IsWritable fonts) rest → InRange v → FitsFourBytes (v_of (get_or rest 0 d) -ℤ v)
+down_first fonts rest d v lt can here = omega (arith, ints, half _ here, half _ (can_v fonts (get_or rest 0 d) (first_place (IsWritable fonts) rest d lt can)))
 
 not_far : (z : ℤ) → is_far z ≡ false → nat_abs z < 2147483648
 not_far z e = grind (arith, nat_tests)
@@ -78,8 +88,15 @@ selected_next : (defined new_defined : List ℕ) (place : Place) (font : Option 
 selected_next defined new_defined (Glyph n code h v) font used selected = subst (λ (numbers : List ℕ). is_among numbers n ≡ true) (sym used) (added_among defined n)
 selected_next defined new_defined (Rule h v height width) font used selected = subst (λ (numbers : List ℕ). IsNoneOrAmong numbers font) (sym used) selected
 
-past : (fonts : SetValue) (place : Place) (put : Bool) (edge : ℤ) (cursor there : Cursor) → edge ≡ right_edge fonts place → IsAt place cursor there → cursor_past place put edge there ≡ cursor_after fonts place put there
-past fonts place put edge cursor there right arrived = rw (right, arrived.h, arrived.v) refl
+font_twice : (place : Place) (font : Option ℕ) → font_after place (font_after place font) ≡ font_after place font
+font_twice (Glyph n code h v) font = refl
+font_twice (Rule h v height width) font = refl
+
+font_kept : (place : Place) (cursor there : Cursor) → IsAt place cursor there → font_after place there.font ≡ there.font
+font_kept place cursor there arrived = ap (font_after place) arrived.font ∙ font_twice place cursor.font ∙ sym arrived.font
+
+past : (fonts : SetValue) (place : Place) (put : Bool) (edge : ℤ) (cursor there : Cursor) → edge ≡ right_edge fonts place → IsAt place cursor there → cursor_past put edge there ≡ cursor_after fonts place put there
+past fonts place put edge cursor there right arrived = rw (right, arrived.h, arrived.v, font_kept place cursor there arrived) refl
 
 pub places_start : (fonts : SetValue) (page : List Place) (out defined : List ℕ) → All (IsWritable fonts) page → PlacesWritten fonts page out defined out defined at_origin page
 places_start fonts page out defined can = record {
@@ -111,7 +128,7 @@ places_more fonts page old_out old_defined out defined new_out new_defined curso
       can = others;
       v = can_v fonts place here;
       reach = reach_next fonts place there rest here others;
-      selected = selected_next defined new_defined place there.font used (subst (IsNoneOrAmong defined) (sym arrived.font) written.selected);
+      selected = subst (IsNoneOrAmong new_defined) (sym (ap (font_after place) arrived.font ∙ font_twice place cursor.font)) (selected_next defined new_defined place cursor.font used written.selected);
       used = ap (λ (l : List ℕ). numbers_after_all l rest) used ∙ written.used;
       done = written.done ++ m ∷ [];
       is = written.is ∙ sym (append_assoc written.done (m ∷ []) (written_places fonts rest));
@@ -143,7 +160,7 @@ pub places_next : (fonts : SetValue) (page : List Place) (old_out old_defined ou
     → new_defined ≡ numbers_after defined (get_or rest 0 d)
     → IsAt (get_or rest 0 d) cursor there
     → WritesPlace fonts out new_out defined new_defined cursor there (get_or rest 0 d) put
-    → next ≡ cursor_past (get_or rest 0 d) put edge there
+    → next ≡ cursor_past put edge there
     → PlacesWritten fonts page old_out old_defined new_out new_defined next (later rest)
 places_next fonts page old_out old_defined out defined new_out new_defined cursor there next [] d put edge lt written right is used arrived one after = absurd (omega arith)
 places_next fonts page old_out old_defined out defined new_out new_defined cursor there next (x ∷ xs) d put edge lt written right is used arrived one after =

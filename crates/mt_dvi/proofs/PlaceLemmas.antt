@@ -1,5 +1,5 @@
 -- A glyph or a rule is written in a page (`glyph_written`, `rule_written`).
-use Rattle.std.proofs.Common.{◌≡◌, ℕ, ◌<◌, ◌≤◌, List, [], ◌∷◌, ◌++◌, refl, subst, arith}
+use Rattle.std.proofs.Common.{◌≡◌, ℕ, ◌<◌, ◌≤◌, List, [], ◌∷◌, ◌++◌, refl, sym, ap, subst, arith}
 use Rattle.std.specs.Prelude.{ℤ, pos, negsuc, ◌+ℤ◌, ◌<ℤ◌, nat_abs, nat_le, nat_lt, true, false, Bool, Option, Some, None, IsSomeAnd, if◌then◌else◌}
 use Rattle.std.proofs.lemmas.Bool.Decides.{nat_tests}
 use Rattle.std.proofs.lemmas.Int.{ints}
@@ -11,11 +11,13 @@ use Rattle.mt_dvi.specs.writer.Emits.{Emits, own_code, own_size}
 use Rattle.mt_dvi.specs.File.{Continues, file_step}
 use Rattle.mt_dvi.specs.Lean.{is_short_char}
 use Rattle.mt_dvi.specs.Fonts.{metrics_at}
-use Rattle.mt_dvi.specs.writer.LeadsTo.{Reached, cursor_after, in_page, machine_at, with_definitions, with_opcodes, with_place}
-use Rattle.mt_dvi.specs.writer.Stands.{Arrived, Chosen, FillsPlace, Lowered, Stands, StandsWith, WritesPlace, is_lean}
+use Rattle.mt_dvi.specs.writer.LeadsTo.{Reached, cursor_after, font_after, in_page, machine_at, with_definitions, with_opcodes, with_place}
+use Rattle.mt_dvi.specs.writer.Stands.{Arrived, Chosen, FillsPlace, IsAt, Lowered, Stands, StandsWith, WritesPlace, is_lean}
 use Rattle.mt_dvi.specs.Machine.{Machine, is_far, is_positive}
 use Rattle.mt_dvi.specs.Writable.{InRange, HasGlyph, IsWritable}
 use Rattle.mt_family.specs.SetValue.{SetValue}
+use Rattle.mt_box.specs.Places.{h_of, v_of}
+use Rattle.mt_box.specs.declared.place.Place.{Place}
 use Rattle.mt_box.specs.declared.place.Place.TheVariants as places
 use Rattle.mt_dvi.specs.declared.page.Cursor.{Cursor}
 use Rattle.mt_dvi.proofs.Prefix.{leads_next}
@@ -104,21 +106,36 @@ rule_written fonts old new numbers reached c height width put can emits few stan
           (sum_near c.h width (half _ can.h_in_range) (half _ can.width_in_range)) (near c.h (small _ can.h_in_range)) (near c.v (small _ can.v_in_range)) (below reached.file.place_count few)) refl;
     }
 
--- with the moves before it
-pub glyph_there : (fonts : SetValue) (old mid new old_defined new_defined : List ℕ) (cursor there : Cursor) (n code : ℕ) (h v : ℤ) (put : Bool) → there.h ≡ h → there.v ≡ v
-    → ((reached : Reached) → Stands fonts old reached cursor Arrived → Stands fonts mid reached there Lowered)
-    → FillsPlace fonts mid new old_defined new_defined there (places.Glyph n code there.h there.v) put
-    → WritesPlace fonts old new old_defined new_defined cursor there (places.Glyph n code h v) put
-glyph_there fonts old mid new old_defined new_defined cursor there n code h v put is_h is_v moves fills = λ reached few stands.
+-- the place where the machine is, by its own coordinates
+pub glyph_here : (fonts : SetValue) (old new old_defined new_defined : List ℕ) (there : Cursor) (n code : ℕ) (h v : ℤ) (put : Bool) → there.h ≡ h → there.v ≡ v
+    → FillsPlace fonts old new old_defined new_defined there (places.Glyph n code there.h there.v) put
+    → FillsPlace fonts old new old_defined new_defined there (places.Glyph n code h v) put
+glyph_here fonts old new old_defined new_defined there n code h v put is_h is_v fills = λ reached few stands.
     subst (λ (z : ℤ). StandsWith fonts new (with_place reached (places.Glyph n code z v) put) new_defined (cursor_after fonts (places.Glyph n code z v) put there) Arrived) is_h
     (subst (λ (z : ℤ). StandsWith fonts new (with_place reached (places.Glyph n code there.h z) put) new_defined (cursor_after fonts (places.Glyph n code there.h z) put there) Arrived) is_v
-    (fills reached few (moves (with_definitions fonts reached old_defined) stands)))
+    (fills reached few stands))
 
-pub rule_there : (fonts : SetValue) (old mid new old_defined new_defined : List ℕ) (cursor there : Cursor) (h v height width : ℤ) (put : Bool) → there.h ≡ h → there.v ≡ v
+pub rule_here : (fonts : SetValue) (old new defined : List ℕ) (there : Cursor) (h v height width : ℤ) (put : Bool) → there.h ≡ h → there.v ≡ v
+    → FillsPlace fonts old new defined defined there (places.Rule there.h there.v height width) put
+    → FillsPlace fonts old new defined defined there (places.Rule h v height width) put
+rule_here fonts old new defined there h v height width put is_h is_v fills = λ reached few stands.
+    subst (λ (z : ℤ). StandsWith fonts new (with_place reached (places.Rule z v height width) put) defined (cursor_after fonts (places.Rule z v height width) put there) Arrived) is_h
+    (subst (λ (z : ℤ). StandsWith fonts new (with_place reached (places.Rule there.h z height width) put) defined (cursor_after fonts (places.Rule there.h z height width) put there) Arrived) is_v
+    (fills reached few stands))
+
+-- with the moves before it
+pub place_there : (fonts : SetValue) (old mid new old_defined new_defined : List ℕ) (cursor there after : Cursor) (place : Place) (put : Bool)
     → ((reached : Reached) → Stands fonts old reached cursor Arrived → Stands fonts mid reached there Lowered)
-    → FillsPlace fonts mid new old_defined new_defined there (places.Rule there.h there.v height width) put
-    → WritesPlace fonts old new old_defined new_defined cursor there (places.Rule h v height width) put
-rule_there fonts old mid new old_defined new_defined cursor there h v height width put is_h is_v moves fills = λ reached few stands.
-    subst (λ (z : ℤ). StandsWith fonts new (with_place reached (places.Rule z v height width) put) new_defined (cursor_after fonts (places.Rule z v height width) put there) Arrived) is_h
-    (subst (λ (z : ℤ). StandsWith fonts new (with_place reached (places.Rule there.h z height width) put) new_defined (cursor_after fonts (places.Rule there.h z height width) put there) Arrived) is_v
-    (fills reached few (moves (with_definitions fonts reached old_defined) stands)))
+    → FillsPlace fonts mid new old_defined new_defined there place put → after ≡ record there { font = font_after place there.font }
+    → WritesPlace fonts old new old_defined new_defined cursor after place put
+place_there fonts old mid new old_defined new_defined cursor there after (places.Glyph n code h v) put moves fills is = λ reached few stands.
+    subst (λ (x : Cursor). StandsWith fonts new (with_place reached (places.Glyph n code h v) put) new_defined (cursor_after fonts (places.Glyph n code h v) put x) Arrived) (sym is)
+    (fills reached few (moves (with_definitions fonts reached old_defined) stands))
+place_there fonts old mid new old_defined new_defined cursor there after (places.Rule h v height width) put moves fills is = λ reached few stands.
+    subst (λ (x : Cursor). StandsWith fonts new (with_place reached (places.Rule h v height width) put) new_defined (cursor_after fonts (places.Rule h v height width) put x) Arrived) (sym is)
+    (fills reached few (moves (with_definitions fonts reached old_defined) stands))
+
+-- the cursor is there then
+pub at_place : (place : Place) (cursor there after : Cursor) → there.h ≡ h_of place → there.v ≡ v_of place → there.font ≡ cursor.font → after ≡ record there { font = font_after place there.font }
+    → IsAt place cursor after
+at_place place cursor there after h v font is = subst (λ (x : Cursor). IsAt place cursor x) (sym is) (record { h = h; v = v; font = ap (font_after place) font })

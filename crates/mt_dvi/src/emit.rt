@@ -1,5 +1,5 @@
 //! The bytes of each operation that the writer uses.
-ghost use Rattle.std.specs.Prelude.{◌≡◌, ◌<◌, OnOk, if◌then◌else◌};
+ghost use Rattle.std.specs.Prelude.{◌≡◌, ◌<◌, ◌≤◌, ◌+◌, ◌++◌, OnOk, length, take, if◌then◌else◌};
 ghost use Rattle.mt_dvi.specs.Codes.{Char, Rule, Set, Add, Select, Bop, Eop, Post, PostPost, signed_of};
 ghost use Rattle.mt_dvi.specs.Moves.{least_size};
 ghost use Rattle.mt_dvi.specs.writer.Emits.{Emits, AppendsSigned, FitsFourBytes, own_postamble, register_value, zero_code};
@@ -53,64 +53,77 @@ fn zero_opcode(register: Register) -> u8
     }
 }
 
-/// w0 and the like: moves by the amount of a register.
-pub fn add(out: &mut Vec<u8>, register: Register) -> Result<(), AllocError>
-    ensures { OnOk result (Emits 1 out.old.items out.new.items (Add (register_value register))) }
+// Puts bytes into a row from an offset on, and answers where they end.
+fn put_bytes(row: &mut [u8], at: usize, bytes: &[u8]) -> usize
+    requires { at + length bytes.now ≤ length row.now }
+    ensures is { take result row.new ≡ take at row.old ++ bytes.now }
+    ensures end { result ≡ at + length bytes.now }
+    ensures long { length row.new ≡ length row.old }
 {
-    out.push(zero_opcode(register))?;
-    Ok(())
+    let end = at + bytes.len();
+    row[at..end].copy_from_slice(bytes);
+    end
+}
+
+/// w0 and the like: moves by the amount of a register.
+pub fn add(row: &mut [u8], at: usize, register: Register) -> usize
+    requires { at + 1 ≤ length row.now }
+    ensures emits { Emits 1 (take at row.old) (take result row.new) (Add (register_value register)) }
+    ensures end { result ≡ at + 1 }
+    ensures long { length row.new ≡ length row.old }
+{
+    put_bytes(row, at, &[zero_opcode(register)])
 }
 
 /// w1 to w4 and the like: sets a register to an amount and moves by it. The size is the least number of
 /// bytes that hold the amount.
-pub fn set(out: &mut Vec<u8>, register: Register, amount: i64, size: u8) -> Result<(), AllocError>
+pub fn set(row: &mut [u8], at: usize, register: Register, amount: i64, size: u8) -> usize
     requires fits { FitsFourBytes amount }
     requires size { size ≡ least_size amount }
-    ensures { OnOk result (Emits 5 out.old.items out.new.items (Set (register_value register) amount)) }
+    requires room { at + 5 ≤ length row.now }
+    ensures emits { Emits 5 (take at row.old) (take result row.new) (Set (register_value register) amount) }
+    ensures end { result ≤ at + 5 }
+    ensures long { length row.new ≡ length row.old }
 {
-    let opcode = zero_opcode(register) + size;
+    let opcode = zero_opcode(register);
     let bytes = twos_complement(amount).to_be_bytes();
     match size {
-        1 => {
-            out.extend_from_slice(&[opcode, bytes[3]])?;
-            Ok(())
-        }
-        2 => {
-            out.extend_from_slice(&[opcode, bytes[2], bytes[3]])?;
-            Ok(())
-        }
-        3 => {
-            out.extend_from_slice(&[opcode, bytes[1], bytes[2], bytes[3]])?;
-            Ok(())
-        }
-        _ => {
-            out.extend_from_slice(&[opcode, bytes[0], bytes[1], bytes[2], bytes[3]])?;
-            Ok(())
-        }
+        1 => put_bytes(row, at, &[opcode + size, bytes[3]]),
+        2 => put_bytes(row, at, &[opcode + size, bytes[2], bytes[3]]),
+        3 => put_bytes(row, at, &[opcode + size, bytes[1], bytes[2], bytes[3]]),
+        _ => put_bytes(
+            row,
+            at,
+            &[opcode + size, bytes[0], bytes[1], bytes[2], bytes[3]],
+        ),
     }
 }
 
 /// fnt_num: selects the font of this number.
-pub fn select(out: &mut Vec<u8>, font: u8) -> Result<(), AllocError>
-    requires { font < 64 }
-    ensures { OnOk result (Emits 1 out.old.items out.new.items (Select font)) }
+pub fn select(row: &mut [u8], at: usize, font: u8) -> usize
+    requires font { font < 64 }
+    requires room { at + 1 ≤ length row.now }
+    ensures emits { Emits 1 (take at row.old) (take result row.new) (Select font) }
+    ensures end { result ≡ at + 1 }
+    ensures long { length row.new ≡ length row.old }
 {
-    out.push(FNT_NUM_0 + font)?;
-    Ok(())
+    put_bytes(row, at, &[FNT_NUM_0 + font])
 }
 
 /// Sets a character, or puts it.
-pub fn char(out: &mut Vec<u8>, put: bool, code: u8) -> Result<(), AllocError>
-    ensures { OnOk result (Emits 2 out.old.items out.new.items (Char put code)) }
+pub fn char(row: &mut [u8], at: usize, put: bool, code: u8) -> usize
+    requires { at + 2 ≤ length row.now }
+    ensures emits { Emits 2 (take at row.old) (take result row.new) (Char put code) }
+    ensures end { result ≤ at + 2 }
+    ensures long { length row.new ≡ length row.old }
 {
     if put {
-        out.extend_from_slice(&[PUT1, code])?;
+        put_bytes(row, at, &[PUT1, code])
     } else if code < SET1 {
-        out.push(code)?;
+        put_bytes(row, at, &[code])
     } else {
-        out.extend_from_slice(&[SET1, code])?;
+        put_bytes(row, at, &[SET1, code])
     }
-    Ok(())
 }
 
 fn rule_opcode(put: bool) -> u8
@@ -120,15 +133,17 @@ fn rule_opcode(put: bool) -> u8
 }
 
 /// Sets a rule, or puts it.
-pub fn rule(out: &mut Vec<u8>, put: bool, height: i64, width: i64) -> Result<(), AllocError>
+pub fn rule(row: &mut [u8], at: usize, put: bool, height: i64, width: i64) -> usize
     requires height { FitsFourBytes height }
     requires width { FitsFourBytes width }
-    ensures { OnOk result (Emits 9 out.old.items out.new.items (Rule put height width)) }
+    requires room { at + 9 ≤ length row.now }
+    ensures emits { Emits 9 (take at row.old) (take result row.new) (Rule put height width) }
+    ensures end { result ≡ at + 9 }
+    ensures long { length row.new ≡ length row.old }
 {
-    out.push(rule_opcode(put))?;
-    push_signed(out, height)?;
-    push_signed(out, width)?;
-    Ok(())
+    let at = put_bytes(row, at, &[rule_opcode(put)]);
+    let at = put_bytes(row, at, &twos_complement(height).to_be_bytes());
+    put_bytes(row, at, &twos_complement(width).to_be_bytes())
 }
 
 /// bop: begins the page of this number, which count 0 holds; the other counts are 0.

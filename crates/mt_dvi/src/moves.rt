@@ -25,10 +25,8 @@ fn least_size(amount: i64) -> u8
     requires { nat_abs amount ≤ max_coordinate }
     ensures { result ≡ least_size amount }
 {
-    if -128 <= amount && amount < 128 {
-        1
-    } else if -32768 <= amount && amount < 32768 {
-        2
+    if -32768 <= amount && amount < 32768 {
+        if -128 <= amount && amount < 128 { 1 } else { 2 }
     } else if -8388608 <= amount && amount < 8388608 {
         3
     } else {

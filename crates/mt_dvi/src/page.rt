@@ -1,5 +1,5 @@
 //! The places of a page, and the moves between them.
-ghost use Rattle.std.specs.Prelude.{◌≡◌, ◌<◌, ◌≤◌, ◌*◌, ◌-ℤ◌, List, ℕ, All, OnOk, IsSomeAnd, length, nat_abs, Some, if◌then◌else◌};
+ghost use Rattle.std.specs.Prelude.{◌≡◌, ◌<◌, ◌≤◌, ◌+◌, ◌*◌, ◌-ℤ◌, List, ℕ, All, OnOk, IfOk, IsSomeAnd, length, take, nat_abs, Some, false, if◌then◌else◌};
 ghost use Rattle.mt_box.specs.Places.{h_of, v_of};
 ghost use Rattle.mt_family.specs.SetValue.{IsSet, SetValue};
 ghost use Rattle.mt_dvi.specs.Fonts.{metrics_at};
@@ -9,10 +9,10 @@ ghost use Rattle.mt_dvi.specs.Moves.{move_form};
 ghost use Rattle.mt_dvi.specs.writer.Emits.{FitsFourBytes, register_value};
 ghost use Rattle.mt_dvi.specs.writer.Greatest.{edges_after};
 ghost use Rattle.mt_dvi.specs.writer.HeldAmounts.{EmitsMove, held_after};
-ghost use Rattle.mt_dvi.specs.writer.Stands.{Arrived, FillsPlace, Introduces, IsAt, IsNoneOrAmong, Lowered, Selects, Stands, WritesPlace, WritesPlaces};
+ghost use Rattle.mt_dvi.specs.writer.Stands.{Arrived, FillsPlace, Introduces, IsNoneOrAmong, Lowered, Selects, Stands, WritesPlaces};
 ghost use Rattle.mt_dvi.specs.Writable.{HasGlyph, InRange, IsWritable};
 ghost use Rattle.mt_dvi.specs.WrittenPlaces.{first_of};
-ghost use Rattle.mt_dvi.specs.writer.LeadsTo.{GrowsBy, GrowsWith, Reached, cursor_past, is_beyond, numbers_after, numbers_after_all, with_number};
+ghost use Rattle.mt_dvi.specs.writer.LeadsTo.{GrowsWith, Reached, cursor_past, font_after, is_among, is_beyond, numbers_after, numbers_after_all, with_number};
 
 use crate::defined::DefinedFonts;
 use crate::edges::{GreatestEdges, edges_of};
@@ -61,115 +61,181 @@ fn next_register(second_next: bool, first: Register, second: Register) -> Regist
     if second_next { second } else { first }
 }
 
-// Moves by an amount along the axis of two registers.
-#[tactic(auto, using(crate::proofs::Prefix::longer))]
+// Moves by an amount along the axis of two registers, and answers where the bytes end.
+#[inline(always)]
 fn write_move(
-    out: &mut Vec<u8>,
+    row: &mut [u8],
+    at: usize,
     held: &mut HeldAmounts,
     first: Register,
     second: Register,
     amount: i64,
-) -> Result<(), AllocError>
-    requires { FitsFourBytes amount }
-    ensures moves { OnOk result (EmitsMove (register_value first) (register_value second) held.old amount
-        out.old.items out.new.items (move_form amount held.old.first held.old.second)) }
-    ensures held { OnOk result
-        (held.new ≡ held_after held.old amount (move_form amount held.old.first held.old.second)) }
-    ensures long { OnOk result (GrowsBy 5 out.old.items out.new.items) }
+) -> usize
+    requires fits { FitsFourBytes amount }
+    requires room { at + 5 ≤ length row.now }
+    ensures moves { EmitsMove (register_value first) (register_value second) held.old amount
+        (take at row.old) (take result row.new) (move_form amount held.old.first held.old.second) }
+    ensures held { held.new ≡ held_after held.old amount (move_form amount held.old.first held.old.second) }
+    ensures end { result ≤ at + 5 }
+    ensures long { length row.new ≡ length row.old }
 {
     match move_code(amount, held.first, held.second) {
-        MoveForm::None => Ok(()),
-        MoveForm::First => {
-            emit::add(out, first)?;
-            Ok(())
-        }
-        MoveForm::Second => {
-            emit::add(out, second)?;
-            Ok(())
-        }
+        MoveForm::None => at,
+        MoveForm::First => emit::add(row, at, first),
+        MoveForm::Second => emit::add(row, at, second),
         MoveForm::Bytes(size) => {
-            emit::set(
-                out,
-                next_register(held.second_next, first, second),
-                amount,
-                size,
-            )?;
+            let register = next_register(held.second_next, first, second);
             held.set_next(amount);
-            Ok(())
+            emit::set(row, at, register, amount, size)
         }
     }
 }
 
+// Moves to the right by an amount.
+#[inline(never)]
+fn move_across(row: &mut [u8], at: usize, held: &mut HeldAmounts, amount: i64) -> usize
+    requires fits { FitsFourBytes amount }
+    requires room { at + 5 ≤ length row.now }
+    ensures moves { EmitsMove (register_value Register.W) (register_value Register.X) held.old amount
+        (take at row.old) (take result row.new) (move_form amount held.old.first held.old.second) }
+    ensures held { held.new ≡ held_after held.old amount (move_form amount held.old.first held.old.second) }
+    ensures end { result ≤ at + 5 }
+    ensures long { length row.new ≡ length row.old }
+{
+    write_move(row, at, held, Register::W, Register::X, amount)
+}
+
+// Moves down by an amount.
+#[inline(never)]
+fn move_down(row: &mut [u8], at: usize, held: &mut HeldAmounts, amount: i64) -> usize
+    requires fits { FitsFourBytes amount }
+    requires room { at + 5 ≤ length row.now }
+    ensures moves { EmitsMove (register_value Register.Y) (register_value Register.Z) held.old amount
+        (take at row.old) (take result row.new) (move_form amount held.old.first held.old.second) }
+    ensures held { held.new ≡ held_after held.old amount (move_form amount held.old.first held.old.second) }
+    ensures end { result ≤ at + 5 }
+    ensures long { length row.new ≡ length row.old }
+{
+    write_move(row, at, held, Register::Y, Register::Z, amount)
+}
+
 // Moves to a place: to the right, and then down.
-fn move_to(out: &mut Vec<u8>, cursor: &mut Cursor, place: Place) -> Result<(), AllocError>
+fn move_to(row: &mut [u8], at: usize, cursor: &mut Cursor, place: Place) -> usize
     requires right { FitsFourBytes (h_of place -ℤ cursor.now.h) }
     requires down { FitsFourBytes (v_of place -ℤ cursor.now.v) }
     requires h { InRange (h_of place) }
     requires v { InRange (v_of place) }
     requires from { FitsFourBytes cursor.now.v }
-    ensures there { OnOk result (IsAt place cursor.old cursor.new) }
-    ensures leads { OnOk result ((fonts : SetValue) → (reached : Reached)
-        → Stands fonts out.old.items reached cursor.old Arrived
-        → Stands fonts out.new.items reached cursor.new Lowered) }
-    ensures long { OnOk result (GrowsBy 10 out.old.items out.new.items) }
+    requires room { at + 10 ≤ length row.now }
+    ensures h { cursor.new.h ≡ h_of place }
+    ensures v { cursor.new.v ≡ v_of place }
+    ensures font { cursor.new.font ≡ cursor.old.font }
+    ensures leads { (fonts : SetValue) → (reached : Reached)
+        → Stands fonts (take at row.old) reached cursor.old Arrived
+        → Stands fonts (take result row.new) reached cursor.new Lowered }
+    ensures end { result ≤ at + 10 }
+    ensures long { length row.new ≡ length row.old }
 {
     let right = place.h() - cursor.h;
-    write_move(out, &mut cursor.across, Register::W, Register::X, right)?;
+    let at = move_across(row, at, &mut cursor.across, right);
     let down = place.v() - cursor.v;
-    write_move(out, &mut cursor.downward, Register::Y, Register::Z, down)?;
+    let at = move_down(row, at, &mut cursor.downward, down);
     cursor.h = place.h();
     cursor.v = place.v();
-    Ok(())
+    at
 }
 
-// Defines a font, unless it is defined.
-#[tactic(auto, using(crate::proofs::Prefix::longer))]
-fn introduce(
-    out: &mut Vec<u8>,
-    defined: &mut DefinedFonts,
-    fonts: &FontSet,
-    n: u16,
-) -> Result<(), AllocError>
-    requires there { n < length fonts.now.fonts }
-    requires set { IsSet fonts.now }
-    ensures defined { OnOk result (defined.new ≡ with_number defined.old n) }
-    ensures leads { OnOk result (Introduces fonts.now
-        out.old.items out.new.items defined.old defined.new) }
-    ensures long { OnOk result (GrowsWith 0
-        out.old.items out.new.items defined.old defined.new) }
+// The most bytes of a place, but for the definition of a font.
+const PLACE_ROOM: usize = 19;
+
+// How many bytes are made at once behind those that are written.
+const FRESH: usize = 512;
+
+// Makes room for a place behind the first bytes.
+fn make_room(out: &mut Vec<u8>, at: usize) -> Result<(), AllocError>
+    requires { at ≤ length out.now.items }
+    ensures kept { OnOk result (take at out.new.items ≡ take at out.old.items) }
+    ensures room { OnOk result (at + 19 ≤ length out.new.items) }
 {
-    if !defined.contains(n) {
-        define(out, fonts, n)?;
-        defined.push(n)?;
+    if out.len() - at < PLACE_ROOM {
+        lengthen(out)?;
     }
     Ok(())
 }
 
-// Selects a font, unless it is selected. It is defined first, unless it is defined.
+#[cold]
+#[inline(never)]
+fn lengthen(out: &mut Vec<u8>) -> Result<(), AllocError>
+    ensures kept { OnOk result ((n : ℕ) → n ≤ length out.old.items
+        → take n out.new.items ≡ take n out.old.items) }
+    ensures room { OnOk result (length out.new.items ≡ length out.old.items + 512) }
+{
+    out.extend_from_slice(&[0; FRESH])?;
+    Ok(())
+}
+
+// Defines a font behind the first bytes, and answers where its definition ends.
+#[cold]
+#[inline(never)]
 #[tactic(auto, using(crate::proofs::Prefix::longer))]
-fn select(
+fn introduce(
     out: &mut Vec<u8>,
+    at: usize,
     defined: &mut DefinedFonts,
     fonts: &FontSet,
-    cursor: &Cursor,
     n: u16,
-) -> Result<(), AllocError>
+) -> Result<usize, AllocError>
+    requires at { at ≤ length out.now.items }
+    requires there { n < length fonts.now.fonts }
+    requires set { IsSet fonts.now }
+    requires new { is_among defined.now n ≡ false }
+    ensures defined { OnOk result (defined.new ≡ with_number defined.old n) }
+    ensures leads { IfOk result (λ end. Introduces fonts.now
+        (take at out.old.items) (take end out.new.items) defined.old defined.new) }
+    ensures end { IfOk result (λ end.
+        end + 271 * length defined.old ≤ at + 271 * length defined.new) }
+    ensures room { IfOk result (λ end. end + 19 ≤ length out.new.items) }
+{
+    out.truncate(at);
+    define(out, fonts, n)?;
+    defined.push(n)?;
+    let end = out.len();
+    make_room(out, end)?;
+    Ok(end)
+}
+
+// Selects a font, unless it is selected. It is defined first, unless it is defined.
+fn select(
+    out: &mut Vec<u8>,
+    at: usize,
+    defined: &mut DefinedFonts,
+    fonts: &FontSet,
+    cursor: &mut Cursor,
+    n: u16,
+) -> Result<usize, AllocError>
     requires there { n < length fonts.now.fonts }
     requires set { IsSet fonts.now }
     requires selected { IsNoneOrAmong defined.now cursor.now.font }
     requires h { InRange cursor.now.h }
     requires v { InRange cursor.now.v }
+    requires room { at + 3 ≤ length out.now.items }
     ensures defined { OnOk result (defined.new ≡ with_number defined.old n) }
-    ensures leads { OnOk result (Selects fonts.now
-        out.old.items out.new.items defined.old defined.new cursor.now n) }
-    ensures long { OnOk result (GrowsWith 1
-        out.old.items out.new.items defined.old defined.new) }
+    ensures cursor { OnOk result (cursor.new ≡ record cursor.old { font = Some n }) }
+    ensures leads { IfOk result (λ end. Selects fonts.now
+        (take at out.old.items) (take end out.new.items) defined.old defined.new cursor.old n) }
+    ensures end { IfOk result (λ end.
+        end + 271 * length defined.old ≤ at + 271 * length defined.new + 1) }
+    ensures room { IfOk result (λ end. end + 2 ≤ length out.new.items) }
 {
-    if cursor.font != Some(n) {
-        introduce(out, defined, fonts, n)?;
-        emit::select(out, n as u8)?;
+    if cursor.font == Some(n) {
+        return Ok(at);
     }
-    Ok(())
+    cursor.font = Some(n);
+    if defined.contains(n) {
+        return Ok(emit::select(out, at, n as u8));
+    }
+    let at = introduce(out, at, defined, fonts, n)?;
+    Ok(emit::select(out, at, n as u8))
 }
 
 // Whether a place with this right edge goes by put, and not by set: the next one is too far away.
@@ -200,95 +266,98 @@ fn is_far(amount: i64) -> bool
 }
 
 // Goes over the place where the cursor is, which has this right edge, as the machine does.
-fn pass(cursor: &mut Cursor, place: Place, put: bool, edge: i64)
-    ensures { cursor.new ≡ cursor_past place put edge cursor.old }
+fn pass(cursor: &mut Cursor, put: bool, edge: i64)
+    ensures { cursor.new ≡ cursor_past put edge cursor.old }
 {
     if !put {
         cursor.h = edge;
     }
-    if let Place::Glyph { font, .. } = place {
-        cursor.font = Some(font);
-    }
 }
 
 // Writes a glyph where the machine is: the selection of its font, and the character.
-#[tactic(auto, using(crate::proofs::Prefix::longer))]
 fn write_glyph(
     out: &mut Vec<u8>,
+    at: usize,
     defined: &mut DefinedFonts,
     fonts: &FontSet,
-    cursor: &Cursor,
+    cursor: &mut Cursor,
     n: u16,
     code: u8,
     put: bool,
-) -> Result<(), AllocError>
+) -> Result<usize, AllocError>
     requires set { IsSet fonts.now }
     requires can { IsSomeAnd (metrics_at fonts.now n) (λ metrics. HasGlyph metrics code) }
     requires selected { IsNoneOrAmong defined.now cursor.now.font }
     requires h { InRange cursor.now.h }
     requires v { InRange cursor.now.v }
+    requires room { at + 3 ≤ length out.now.items }
     ensures defined { OnOk result (defined.new ≡ with_number defined.old n) }
-    ensures leads { OnOk result (FillsPlace fonts.now
-        out.old.items out.new.items defined.old defined.new
-        cursor.now (Place.Glyph n code cursor.now.h cursor.now.v) put) }
-    ensures long { OnOk result (GrowsWith 3
-        out.old.items out.new.items defined.old defined.new) }
+    ensures cursor { OnOk result (cursor.new ≡ record cursor.old { font = Some n }) }
+    ensures leads { IfOk result (λ end. FillsPlace fonts.now
+        (take at out.old.items) (take end out.new.items) defined.old defined.new
+        cursor.old (Place.Glyph n code cursor.old.h cursor.old.v) put) }
+    ensures end { IfOk result (λ end.
+        end + 271 * length defined.old ≤ at + 271 * length defined.new + 3) }
+    ensures room { IfOk result (λ end. end ≤ length out.new.items) }
 {
-    select(out, defined, fonts, cursor, n)?;
-    emit::char(out, put, code)?;
-    Ok(())
+    let at = select(out, at, defined, fonts, cursor, n)?;
+    Ok(emit::char(out, at, put, code))
 }
 
 // Writes a rule where the machine is.
-#[tactic(auto, using(crate::proofs::Prefix::longer))]
 fn write_rule(
-    out: &mut Vec<u8>,
+    row: &mut [u8],
+    at: usize,
     fonts: &FontSet,
     cursor: &Cursor,
     height: i64,
     width: i64,
     put: bool,
-) -> Result<(), AllocError>
+) -> usize
     requires can { IsWritable fonts.now (Place.Rule cursor.now.h cursor.now.v height width) }
-    ensures leads { OnOk result ((numbers : List ℕ) → FillsPlace fonts.now
-        out.old.items out.new.items numbers numbers
-        cursor.now (Place.Rule cursor.now.h cursor.now.v height width) put) }
-    ensures long { OnOk result (GrowsBy 9 out.old.items out.new.items) }
+    requires room { at + 9 ≤ length row.now }
+    ensures leads { (numbers : List ℕ) → FillsPlace fonts.now
+        (take at row.old) (take result row.new) numbers numbers
+        cursor.now (Place.Rule cursor.now.h cursor.now.v height width) put }
+    ensures end { result ≡ at + 9 }
+    ensures long { length row.new ≡ length row.old }
 {
-    emit::rule(out, put, height, width)?;
-    Ok(())
+    emit::rule(row, at, put, height, width)
 }
 
-// Writes a place, with the moves to it, and leaves the cursor at the place.
-fn write_place(
+// Writes the place where the machine is, which leaves the cursor there.
+fn fill_place(
     out: &mut Vec<u8>,
+    at: usize,
     defined: &mut DefinedFonts,
     fonts: &FontSet,
     cursor: &mut Cursor,
     place: Place,
     put: bool,
-) -> Result<(), AllocError>
+) -> Result<usize, AllocError>
     requires set { IsSet fonts.now }
     requires can { IsWritable fonts.now place }
-    requires reach { FitsFourBytes (h_of place -ℤ cursor.now.h) }
-    requires v { InRange cursor.now.v }
+    requires h { cursor.now.h ≡ h_of place }
+    requires v { cursor.now.v ≡ v_of place }
     requires selected { IsNoneOrAmong defined.now cursor.now.font }
+    requires room { at + 9 ≤ length out.now.items }
     ensures defined { OnOk result (defined.new ≡ numbers_after defined.old place) }
-    ensures there { OnOk result (IsAt place cursor.old cursor.new) }
-    ensures leads { OnOk result (WritesPlace fonts.now
-        out.old.items out.new.items defined.old defined.new cursor.old cursor.new place put) }
-    ensures long { OnOk result (GrowsWith 19
-        out.old.items out.new.items defined.old defined.new) }
+    ensures cursor { OnOk result
+        (cursor.new ≡ record cursor.old { font = font_after place cursor.old.font }) }
+    ensures leads { IfOk result (λ end. FillsPlace fonts.now
+        (take at out.old.items) (take end out.new.items) defined.old defined.new
+        cursor.old place put) }
+    ensures end { IfOk result (λ end.
+        end + 271 * length defined.old ≤ at + 271 * length defined.new + 9) }
+    ensures room { IfOk result (λ end. end ≤ length out.new.items) }
 {
-    move_to(out, cursor, place)?;
     match place {
         Place::Glyph { font, code, .. } => {
-            write_glyph(out, defined, fonts, cursor, font, code, put)?;
-            Ok(())
+            let end = write_glyph(out, at, defined, fonts, cursor, font, code, put)?;
+            Ok(end)
         }
         Place::Rule { height, width, .. } => {
-            write_rule(out, fonts, cursor, height, width, put)?;
-            Ok(())
+            Ok(write_rule(out, at, fonts, cursor, height, width, put))
         }
     }
 }
@@ -312,14 +381,18 @@ pub fn write_places(
         out.old.items out.new.items defined.old defined.new) }
 {
     let mut cursor = AT_ORIGIN;
+    let mut at = out.len();
     let mut rest = page;
     while let [place, later @ ..] = rest {
+        make_room(out, at)?;
+        at = move_to(out, at, &mut cursor, *place);
         let edges = edges_of(fonts, *place);
         let put = must_put(edges.right, later);
-        write_place(out, defined, fonts, &mut cursor, *place, put)?;
-        pass(&mut cursor, *place, put, edges.right);
+        at = fill_place(out, at, defined, fonts, &mut cursor, *place, put)?;
+        pass(&mut cursor, put, edges.right);
         greatest.include(edges);
         rest = later;
     }
+    out.truncate(at);
     Ok(())
 }

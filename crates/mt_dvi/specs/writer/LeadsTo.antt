@@ -133,8 +133,8 @@ cursor_after fonts place put c = record {
 }
 
 -- the same from the place on, which has this right edge
-abbrev pub cursor_past : Place → Bool → ℤ → Cursor → Cursor
-cursor_past place put edge c = record c { h = if put then c.h else edge; font = font_after place c.font }
+abbrev pub cursor_past : Bool → ℤ → Cursor → Cursor
+cursor_past put edge c = record c { h = if put then c.h else edge }
 
 -- the next place is too far from this right edge
 abbrev pub is_beyond : ℤ → Option Place → Bool

@@ -9,7 +9,7 @@ use Rattle.mt_dvi.specs.Codes.{Register, W, X, Y, Z}
 use Rattle.mt_dvi.specs.Trace.{Opcode}
 use Rattle.mt_dvi.specs.Lean.{Axis, Downward, are_few, are_in_turn, are_modest, are_needed, is_allowed, is_font_of_next, is_no_zero, is_short, sets_anew}
 use Rattle.mt_dvi.specs.WrittenPlaces.{written_places}
-use Rattle.mt_dvi.specs.writer.LeadsTo.{LeadsTo, Reached, at_origin, cursor_after, in_page, is_among, with_definitions, with_opcodes, with_place, with_places}
+use Rattle.mt_dvi.specs.writer.LeadsTo.{LeadsTo, Reached, at_origin, cursor_after, font_after, in_page, is_among, with_definitions, with_opcodes, with_place, with_places}
 use Rattle.mt_dvi.specs.declared.moves.HeldAmounts.{HeldAmounts}
 use Rattle.mt_dvi.specs.declared.page.Cursor.{Cursor}
 
@@ -70,11 +70,11 @@ abbrev pub StandsWith : SetValue → List ℕ → Reached → List ℕ → Curso
 StandsWith fonts out reached numbers cursor stage =
     Stands fonts out (with_definitions fonts reached numbers) cursor stage
 
--- a cursor is at a place, and the font that was selected still is
+-- a cursor is at a place, and the font of the place is selected
 pub record IsAt (place : Place) (cursor there : Cursor) : Type 0 where
   pub h : there.h ≡ h_of place
   pub v : there.v ≡ v_of place
-  pub font : there.font ≡ cursor.font
+  pub font : there.font ≡ font_after place cursor.font
 
 -- fonts are defined that were not, and nothing else changes
 abbrev pub Introduces : SetValue → List ℕ → List ℕ → List ℕ → List ℕ → Type 0
