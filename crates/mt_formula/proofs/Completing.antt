@@ -1,11 +1,11 @@
 -- Lists that are read to their end, and fractions (`open_ends`, `fraction_whole`).
 use Rattle.std.proofs.Common.{◌≡◌, ℕ, Bool, true, List, [], ◌∷◌, ◌++◌, drop, Option, None, Result, Ok, Err, sym, ap, ◌∙◌, subst}
+use Rattle.std.specs.Borrow.{Bor}
 use Rattle.mt_token.specs.declared.token.Token.{Token}
 use Rattle.mt_scaled.specs.declared.unit.Units.{Units}
 use Rattle.mt_plain.specs.CodeTables.{CodeTables}
 use Rattle.mt_rules.specs.Sequence.{Sequence, End, More, FractionElement}
 use Rattle.mt_scan.specs.declared.role.Bar.{Bar}
-use Rattle.mt_scan.specs.declared.scanned.Scanned.{Scanned}
 use Rattle.mt_scan.specs.Parts.{Read, Got, then_read}
 use Rattle.mt_arena.specs.declared.thing.Noad.{Noad}
 use Rattle.mt_arena.specs.declared.thing.Span.{Span}
@@ -67,16 +67,16 @@ module _ (tables : CodeTables) (units : Units) (ending : Ending) (level : ℕ) (
         after_run ∙ e ∙ ap (λ x. then_read x (denominator tables units (whole_run tables units) ending level ran)) f
         ∙ ap (λ i. denominator tables units (whole_run tables units) ending level (record { items = i; family = run.family }) head after) (sym mid_items)
 
-    pub open_divides : {T : Type 0} (token : T → Token) (result : Result (Scanned (Option Noad) T) Stop) (new : ArenaValue) (head : FractionHead) (after : List Token) → fraction_head tables units delims bar (drop 1 rest) ≡ Got head after
-        → ReadsOpen token result mid new (denominator tables units (whole_run tables units) ending level (record { items = append (as_sequence mid.top) (last_atom_items (last_in mid.closed run.last)); family = run.family }) head after)
-        → ReadsOpen token result old new listed
-    open_divides token (Ok part) new head after f h = record {
+    pub open_divides : {T : Type 0} (token : T → Token) (result : Result (Bor (List T)) Stop) (now : Option Noad) (new : ArenaValue) (head : FractionHead) (after : List Token) → fraction_head tables units delims bar (drop 1 rest) ≡ Got head after
+        → ReadsOpen token result mid new now (denominator tables units (whole_run tables units) ending level (record { items = append (as_sequence mid.top) (last_atom_items (last_in mid.closed run.last)); family = run.family }) head after)
+        → ReadsOpen token result old new now listed
+    open_divides token (Ok part) now new head after f h = record {
       front = extends_more old.closed mid.closed new.closed r.adds.front h.front;
       below = h.below ∙ r.adds.below;
       inside = h.inside;
       is = divides head after f ∙ h.is;
     }
-    open_divides token (Err stop) new head after f h = fault_same stop listed _ (divides head after f) h
+    open_divides token (Err stop) now new head after f h = fault_same stop listed _ (divides head after f) h
 
 -- the lists of a fraction, of which the numerator was closed first
 module _ (es fs : List Held) (num den : Span) (front : Extends es fs) (k : KeptSpan es num) (l : KeptSpan fs den) where

@@ -1,4 +1,4 @@
--- What is in front (`front_code`), and what becomes of a list where no item is (`StopsHere`).
+-- What is in front (`front_role`, `front_code`), and what becomes of a list where no item is (`StopsHere`).
 use Rattle.std.specs.Prelude.{◌≡◌, ℕ, true, false, List, [], ◌∷◌, Option, None, drop, Result, Ok, Err}
 use Rattle.mt_token.specs.declared.token.Token.{Token}
 use Rattle.mt_scaled.specs.declared.unit.Units.{Units}
@@ -7,12 +7,18 @@ use Rattle.mt_rules.specs.Sequence.{Sequence}
 use Rattle.mt_scan.specs.declared.fault.Fault.{Fault as FaultFields}
 use Rattle.mt_scan.specs.declared.fault.ReadCause.TheVariants.{Unbalanced}
 use Rattle.mt_scan.specs.declared.role.Role.{Role}
+use Rattle.mt_scan.specs.declared.role.Role.TheVariants.{Unknown}
 use Rattle.mt_scan.specs.Role.{role_code, role_of}
 use Rattle.mt_scan.specs.Parts.{Read, Got, Fault, then_read}
 use Rattle.mt_formula.specs.declared.reading.ends.Ending.{Ending}
 use Rattle.mt_formula.specs.declared.reading.ends.ListStop.{ListStop}
 use Rattle.mt_formula.specs.declared.reading.ends.ListStop.TheVariants.{Ends, Divides}
 use Rattle.mt_formula.specs.Lists.{ItemRun, ItemRunReader, after_item_run, denominator, ends_at, ends_with_tokens, fraction_head, misplaced_cause}
+
+-- what the token in front is, or an unknown one where there is none
+abbrev pub front_role : CodeTables → List Token → Role
+front_role tables [] = Unknown
+front_role tables (t ∷ rest) = role_of tables t
 
 -- the math code of the token in front, if it is set by one
 abbrev pub front_code : CodeTables → List Token → Option ℕ

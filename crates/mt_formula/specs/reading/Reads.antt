@@ -66,9 +66,9 @@ pub record RunsTo (old new : ArenaValue) (read : Read ItemRun) (run : RunEnd) (r
   pub adds : Adds old new more
   pub is : read ≡ Got (record { items = append (as_sequence more) (last_atom_items (last_in new.closed run.last)); family = run.family }) rest
 
-abbrev pub ReadsRun : {T : Type 0} → (T → Token) → Result (Scanned RunEnd T) Stop → ArenaValue → ArenaValue → Read ItemRun → Type 0
-ReadsRun token (Ok part) old new read = RunsTo old new read part.value (map token part.rest.now)
-ReadsRun token (Err stop) old new read = HasFault stop read
+abbrev pub ReadsRun : {T : Type 0} → (T → Token) → Result (Bor (List T)) Stop → ArenaValue → ArenaValue → RunEnd → Read ItemRun → Type 0
+ReadsRun token (Ok rest) old new run read = RunsTo old new read run (map token rest.now)
+ReadsRun token (Err stop) old new run read = HasFault stop read
 
 -- what is given is put behind the items that the innermost open list has
 pub record Puts (old new : ArenaValue) (run : RunEnd) (given : CodeGiven) (next : RunEnd) : Type 0 where
@@ -85,9 +85,9 @@ pub record Completes (old new : ArenaValue) (read : Read Sequence) (last : Optio
   pub inside : are_inside new.top ≡ true
   pub is : read ≡ Got (append (as_sequence new.top) (last_atom_items (last_in new.closed last))) rest
 
-abbrev pub ReadsOpen : {T : Type 0} → (T → Token) → Result (Scanned (Option Noad) T) Stop → ArenaValue → ArenaValue → Read Sequence → Type 0
-ReadsOpen token (Ok part) old new read = Completes old new read part.value (map token part.rest.now)
-ReadsOpen token (Err stop) old new read = HasFault stop read
+abbrev pub ReadsOpen : {T : Type 0} → (T → Token) → Result (Bor (List T)) Stop → ArenaValue → ArenaValue → Option Noad → Read Sequence → Type 0
+ReadsOpen token (Ok rest) old new last read = Completes old new read last (map token rest.now)
+ReadsOpen token (Err stop) old new last read = HasFault stop read
 
 -- a list between boundaries is read, and its items are behind those that the innermost open list has
 pub record AddsList (old new : ArenaValue) (read : Read Sequence) (rest : List Token) : Type 0 where

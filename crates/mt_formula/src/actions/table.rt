@@ -1,15 +1,17 @@
 //! The table of what each token does in a list (The TeXbook, chapter 26).
 ghost use Rattle.std.specs.Prelude.{◌≡◌, ◌<◌, ◌≤◌, ◌+◌, ◌^◌, true, ◌∷◌, List, length, IfOk, IfSome, map};
+ghost use Rattle.mt_scaled.specs.declared.unit.Units.{Units};
 ghost use Rattle.mt_scan.specs.Meets.{MeetsBy};
 ghost use Rattle.mt_scan.specs.Parts.{Got};
 ghost use Rattle.mt_scan.specs.Role.{role_of};
 ghost use Rattle.mt_scan.specs.declared.role.Side.TheVariants.{Up};
 ghost use Rattle.mt_formula.specs.Atoms.{is_free, is_op};
 ghost use Rattle.mt_formula.specs.Items.{free_action, limits_action, script_action, action, action_here};
-ghost use Rattle.mt_formula.specs.declared.actions.action.Action.TheVariants.{Prime};
+ghost use Rattle.mt_formula.specs.declared.actions.action.Action.TheVariants.{Prime, Script};
 ghost use Rattle.mt_formula.specs.reading.Actions.{opens_list, spent, MeetsUnlessStop};
 ghost use Rattle.mt_arena.specs.Arena.{Held};
 ghost use Rattle.mt_scan.specs.Limits.{max_groups};
+ghost use Rattle.mt_formula.specs.reading.Ends.{front_role};
 ghost use Rattle.mt_formula.specs.reading.Noads.{last_in};
 
 use crate::actions::action::{Action, coded_action, nucleus_action, script_action};
@@ -19,10 +21,11 @@ use crate::actions::words::{
     left_word, open_group, pmatrix_word, radical_word, root_word, vcenter_word,
 };
 use crate::reading::context::{Grammar, Group};
+use crate::reading::ends::{after_first, front_code};
 use crate::reading::noads::{is_free, is_op};
 use mt_arena::Noad;
-use mt_rules::Limits;
-use mt_scan::{Fault, ReadCause, Role, Roles, Scanned, Side};
+use mt_rules::{Limits, Symbol};
+use mt_scan::{Fault, ReadCause, Role, Roles, Scanned, Side, code_symbol};
 
 fn fault(cause: ReadCause, left: usize) -> Fault
     ensures { result ≡ record { cause = cause; left = left } }
@@ -127,7 +130,7 @@ fn role_action<'a, T, R: Roles<T>>(
             rest: after,
         }),
         Role::ItemWord(item) => Ok(Scanned {
-            value: Action::Item(item),
+            value: Action::Item(item.item()),
             rest: after,
         }),
         Role::CharWord => char_word(roles, family, after),
@@ -171,14 +174,59 @@ fn role_action<'a, T, R: Roles<T>>(
     }
 }
 
-/// What the token in front does in a list where this atom is at hand, and the tokens after those that were read for it.
-/// It is `Stop`, and no token is read, where no item begins or none is left.
+/// A script that is a symbol.
+#[derive(Clone, Copy)]
+pub struct SymbolScript {
+    /// The side of the atom on which it is set.
+    pub side: Side,
+    /// The symbol.
+    pub symbol: Symbol,
+}
+
+/// The script in front, of which the first token is of this role, where it is a symbol and the atom at hand has none
+/// on that side; and the tokens after it.
+#[inline(always)]
+pub fn symbol_script<'a, T, R: Roles<T>>(
+    roles: &R,
+    group: Group,
+    last: &Option<Noad>,
+    role: Role,
+    tokens: &'a [T],
+) -> Option<Scanned<'a, SymbolScript, T>>
+    requires { front_role (R.codes roles.now) (map (R.token roles.now) tokens.now) ≡ role }
+    ensures is { IfSome result (λ script. (es : List Held) (units : Units)
+        → action_here (R.codes roles.now) units group.level group.family (last_in es last.now)
+        (map (R.token roles.now) tokens.now)
+        ≡ Got (Script script.value.side script.value.symbol) (map (R.token roles.now) script.rest.now)) }
+    ensures falls { IfSome result (λ script. length script.rest.now < length tokens.now) }
+{
+    let Role::Script(side) = role else {
+        return None;
+    };
+    if !is_free(side, last) {
+        return None;
+    }
+    let field = after_first(roles, tokens);
+    let code = front_code(roles, field)?;
+    Some(Scanned {
+        value: SymbolScript {
+            side,
+            symbol: code_symbol(group.family, u32::from(code)),
+        },
+        rest: after_first(roles, field),
+    })
+}
+
+/// What the token in front, which is of this role, does in a list where this atom is at hand, and the tokens after those
+/// that were read for it. It is `Stop`, and no token is read, where no item begins or none is left.
 pub fn action_here<'a, T, R: Roles<T>>(
     grammar: Grammar<'_, R>,
     group: Group,
     last: &Option<Noad>,
+    role: Role,
     tokens: &'a [T],
 ) -> Result<Scanned<'a, Action, T>, Fault>
+    requires { front_role (R.codes grammar.roles.now) (map (R.token grammar.roles.now) tokens.now) ≡ role }
     ensures is { (es : List Held) → MeetsBy (R.token grammar.entry.roles.now) result
         (action_here (R.codes grammar.entry.roles.now) grammar.entry.units group.level group.family
         (last_in es last.now) (map (R.token grammar.entry.roles.now) tokens.now)) }
@@ -191,7 +239,6 @@ pub fn action_here<'a, T, R: Roles<T>>(
             rest: tokens,
         });
     };
-    let role = grammar.roles.role_of(token);
     match role_action(grammar, group, last, role, token, after)? {
         Some(part) => Ok(part),
         None => Ok(Scanned {

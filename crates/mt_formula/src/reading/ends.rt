@@ -4,7 +4,7 @@ ghost use Rattle.mt_rules.specs.Sequence.{Sequence};
 ghost use Rattle.mt_scaled.specs.declared.unit.Units.{Units};
 ghost use Rattle.mt_formula.specs.Groups.{ends_at_middle};
 ghost use Rattle.mt_formula.specs.Lists.{ItemRun, ItemRunReader, ends_at, ends_with_tokens, list_end, misplaced_cause};
-ghost use Rattle.mt_formula.specs.reading.Ends.{EndsAtEnd, EndsAtRole, EndsHere, StopsHere, front_code};
+ghost use Rattle.mt_formula.specs.reading.Ends.{EndsAtEnd, EndsAtRole, EndsHere, StopsHere, front_code, front_role};
 
 use mt_scan::{Bar, Fault, ReadCause, Role, Roles};
 
@@ -147,6 +147,17 @@ pub fn front_code<T, R: Roles<T>>(roles: &R, tokens: &[T]) -> Option<u16>
     match tokens {
         [token, ..] => roles.symbol_code(token),
         [] => None,
+    }
+}
+
+/// What the token in front is, or `Role::Unknown` where there is none.
+#[inline]
+pub fn front_role<T, R: Roles<T>>(roles: &R, tokens: &[T]) -> Role
+    ensures { result ≡ front_role (R.codes roles.now) (map (R.token roles.now) tokens.now) }
+{
+    match tokens {
+        [token, ..] => roles.role_of(token),
+        [] => Role::Unknown,
     }
 }
 

@@ -60,37 +60,36 @@ pub struct RunEnd {
 }
 
 // An item behind the atom at hand.
-fn put_item(arena: &mut Arena, run: RunEnd, thing: Thing) -> Result<RunEnd, AllocError>
-    requires last { KeptLast arena.old.closed run.last }
+fn put_item(arena: &mut Arena, run: &mut RunEnd, thing: Thing) -> Result<(), AllocError>
+    requires last { KeptLast arena.old.closed run.old.last }
     requires thing { KeptThing arena.old.closed thing }
-    ensures is { IfOk result (Puts arena.old arena.new run (give.Item thing)) }
-    ensures last { IfOk result (λ next. KeptLast arena.new.closed next.last) }
+    ensures is { OnOk result (Puts arena.old arena.new run.old (give.Item thing) run.new) }
+    ensures last { OnOk result (KeptLast arena.new.closed run.new.last) }
 {
-    push_last(arena, run.last)?;
+    push_last(arena, &run.last)?;
     arena.push(thing)?;
-    Ok(RunEnd { last: None, ..run })
+    run.last = None;
+    Ok(())
 }
 
 // An atom behind the one at hand.
-fn put_atom(arena: &mut Arena, run: RunEnd, noad: Noad) -> Result<RunEnd, AllocError>
-    requires last { KeptLast arena.old.closed run.last }
+fn put_atom(arena: &mut Arena, run: &mut RunEnd, noad: Noad) -> Result<(), AllocError>
+    requires last { KeptLast arena.old.closed run.old.last }
     requires noad { OpenNoad arena.old.closed noad }
-    ensures is { IfOk result (Puts arena.old arena.new run (give.Atom noad)) }
-    ensures last { IfOk result (λ next. KeptLast arena.new.closed next.last) }
+    ensures is { OnOk result (Puts arena.old arena.new run.old (give.Atom noad) run.new) }
+    ensures last { OnOk result (KeptLast arena.new.closed run.new.last) }
 {
-    push_last(arena, run.last)?;
-    Ok(RunEnd {
-        last: Some(noad),
-        ..run
-    })
+    push_last(arena, &run.last)?;
+    run.last = Some(noad);
+    Ok(())
 }
 
 /// Puts the atom of a math code, with the current family, to the run of items in which it is read.
 #[inline(always)]
-pub fn put_symbol(arena: &mut Arena, run: RunEnd, code: u16) -> Result<RunEnd, AllocError>
-    requires { KeptLast arena.old.closed run.last }
-    ensures is { IfOk result (Puts arena.old arena.new run (give.Atom (symbol_noad run.family code))) }
-    ensures last { IfOk result (λ next. KeptLast arena.new.closed next.last) }
+pub fn put_symbol(arena: &mut Arena, run: &mut RunEnd, code: u16) -> Result<(), AllocError>
+    requires { KeptLast arena.old.closed run.old.last }
+    ensures is { OnOk result (Puts arena.old arena.new run.old (give.Atom (symbol_noad run.old.family code)) run.new) }
+    ensures last { OnOk result (KeptLast arena.new.closed run.new.last) }
 {
     let noad = symbol_noad(run.family, code);
     put_atom(arena, run, noad)
@@ -127,41 +126,45 @@ pub fn push_table(arena: &mut Arena, look: Look, rows: Span) -> Result<(), Alloc
 }
 
 // A table behind the atom at hand.
-fn put_table(arena: &mut Arena, run: RunEnd, look: Look, rows: Span) -> Result<RunEnd, AllocError>
-    requires last { KeptLast arena.old.closed run.last }
+fn put_table(arena: &mut Arena, run: &mut RunEnd, look: Look, rows: Span) -> Result<(), AllocError>
+    requires last { KeptLast arena.old.closed run.old.last }
     requires within { rows.end ≤ length arena.old.closed }
     requires lists { GridLists (grid_in arena.old.closed rows) }
-    ensures is { IfOk result (Puts arena.old arena.new run (give.Table look rows)) }
-    ensures last { IfOk result (λ next. KeptLast arena.new.closed next.last) }
+    ensures is { OnOk result (Puts arena.old arena.new run.old (give.Table look rows) run.new) }
+    ensures last { OnOk result (KeptLast arena.new.closed run.new.last) }
 {
-    push_last(arena, run.last)?;
+    push_last(arena, &run.last)?;
     push_table(arena, look, rows)?;
-    Ok(RunEnd { last: None, ..run })
+    run.last = None;
+    Ok(())
 }
 
 /// Puts what an action gives to the run of items in which it is read.
 // It is inlined although the program has the grammar of two kinds of items: it is called at each token.
 #[inline(always)]
-pub fn put_given(arena: &mut Arena, run: RunEnd, given: Given) -> Result<RunEnd, AllocError>
-    requires last { KeptLast arena.old.closed run.last }
+pub fn put_given(arena: &mut Arena, run: &mut RunEnd, given: Given) -> Result<(), AllocError>
+    requires last { KeptLast arena.old.closed run.old.last }
     requires given { KeptGiven arena.old.closed given }
-    ensures is { IfOk result (Puts arena.old arena.new run given) }
-    ensures last { IfOk result (λ next. KeptLast arena.new.closed next.last) }
+    ensures is { OnOk result (Puts arena.old arena.new run.old given run.new) }
+    ensures last { OnOk result (KeptLast arena.new.closed run.new.last) }
 {
     match given {
-        Given::Nothing => Ok(run),
+        Given::Nothing => Ok(()),
         Given::Atom(noad) => put_atom(arena, run, noad),
         Given::Item(thing) => put_item(arena, run, thing),
         Given::Table(look, rows) => put_table(arena, run, look, rows),
-        Given::Script(side, part) => Ok(RunEnd {
-            last: Some(with_script(run.last, side, part)),
-            ..run
-        }),
-        Given::Limits(limits) => Ok(RunEnd {
-            last: with_limits(run.last, limits),
-            ..run
-        }),
-        Given::Family(family) => Ok(RunEnd { family, ..run }),
+        Given::Script(side, part) => {
+            run.last = Some(with_script(run.last, side, part));
+            Ok(())
+        }
+        Given::Limits(limits) => {
+            run.last = with_limits(run.last, limits);
+            Ok(())
+        }
+        Given::Family(family) => {
+            run.family = family;
+            Ok(())
+        }
     }
 }
 

@@ -30,14 +30,14 @@ ghost use Rattle.mt_formula.specs.reading.WholeLists.{KeptSpan, KeptWhole, list_
 
 use crate::actions::action::{Action, FieldStart, field_start};
 use crate::actions::groups::open_brace;
-use crate::actions::table::action_here;
+use crate::actions::table::{SymbolScript, action_here, symbol_script};
 use crate::actions::table_form::{Column, TableForm, TableStep, first_column, preamble_of};
 use crate::reading::argument::{
     ArgumentEnd, ScriptArgument, after_superscript, argument_here, primes,
 };
 use crate::reading::context::{Grammar, Group};
 use crate::reading::ends::{
-    Ending, ListStop, after_first, front_code, is_at_middle, list_ends, list_stop,
+    Ending, ListStop, after_first, front_code, front_role, is_at_middle, list_ends, list_stop,
 };
 use crate::reading::fraction::{FractionHead, fraction_head, fraction_thing};
 use crate::reading::given::{
@@ -56,44 +56,45 @@ use mt_rules::{Class, Delim, Kind};
 use mt_scan::items::{after_blanks, after_spaces, scan_delimiter};
 use mt_scan::{FieldKind, Preamble, ReadCause, Roles, Scanned, Side};
 
-// A run of items after this atom at hand, up to a token that is no item.
+// A run of items after the atom at hand, up to a token that is no item: how far it is read, and the tokens from there.
 #[cycle(reading)]
 fn read_run<'a, T, R: Roles<T>>(
     arena: &mut Arena,
     grammar: Grammar<'_, R>,
     group: Group,
-    last: Option<Noad>,
+    run: &mut RunEnd,
     tokens: &'a [T],
-) -> Result<Scanned<'a, RunEnd, T>, Stop>
-    requires { KeptLast arena.old.closed last }
-    ensures is { ReadsRun (R.token grammar.entry.roles.now) result arena.old arena.new
+) -> Result<&'a [T], Stop>
+    requires { KeptLast arena.old.closed run.old.last }
+    ensures is { ReadsRun (R.token grammar.entry.roles.now) result arena.old arena.new run.new
         (whole_run (R.codes grammar.entry.roles.now) grammar.entry.units group.level group.family
-        (last_in arena.old.closed last) (map (R.token grammar.entry.roles.now) tokens.now)) }
-    ensures last { IfOk result (λ run. KeptLast arena.new.closed run.value.last) }
-    ensures falls { IfOk result (λ part. length part.rest.now ≤ length tokens.now) }
+        (last_in arena.old.closed run.old.last) (map (R.token grammar.entry.roles.now) tokens.now)) }
+    ensures last { OnOk result (KeptLast arena.new.closed run.new.last) }
+    ensures falls { IfOk result (λ rest. length rest.now ≤ length tokens.now) }
 {
-    let mut run = RunEnd {
-        last,
-        family: group.family,
-    };
+    run.family = group.family;
     let mut rest = tokens;
     loop {
         // Most tokens are symbols: what one does is read off its math code, without its role.
         if let Some(code) = front_code(grammar.roles, rest) {
-            run = put_symbol(arena, run, code)?;
+            put_symbol(arena, run, code)?;
             rest = after_first(grammar.roles, rest);
             continue;
         }
         let here = group.with_family(run.family);
-        let action = action_here(grammar, here, &run.last, rest)?;
+        let role = front_role(grammar.roles, rest);
+        if let Some(script) = symbol_script(grammar.roles, here, &run.last, role, rest) {
+            let SymbolScript { side, symbol } = script.value;
+            put_given(arena, run, Given::Script(side, Cell::Sym(symbol)))?;
+            rest = script.rest;
+            continue;
+        }
+        let action = action_here(grammar, here, &run.last, role, rest)?;
         if let Action::Stop = action.value {
-            return Ok(Scanned {
-                value: run,
-                rest: action.rest,
-            });
+            return Ok(action.rest);
         }
         let given = read_given(arena, grammar, here, action.value, action.rest)?;
-        run = put_given(arena, run, given.value)?;
+        put_given(arena, run, given.value)?;
         rest = given.rest;
     }
 }
@@ -216,85 +217,86 @@ pub fn read_list<'a, T, R: Roles<T>>(
     ensures falls { IfOk result (λ part. length part.rest.now ≤ length tokens.now) }
 {
     arena.begin()?;
-    let open = read_open(arena, grammar, group, ending, None, tokens)?;
+    let mut run = RunEnd {
+        last: None,
+        family: group.family,
+    };
+    let rest = read_open(arena, grammar, group, ending, &mut run, tokens)?;
     Ok(Scanned {
-        value: finish_list(arena, open.value)?,
-        rest: open.rest,
+        value: finish_list(arena, &run.last)?,
+        rest,
     })
 }
 
-// A list that ends so, of which some items are in the innermost open list of the arena and this is the atom at hand.
+// A list that ends so, of which some items are in the innermost open list of the arena, and one atom may be at hand.
 // The atom that is then at hand is its last item, where there is one.
 #[cycle(reading)]
+#[inline(always)]
 fn read_open<'a, T, R: Roles<T>>(
     arena: &mut Arena,
     grammar: Grammar<'_, R>,
     group: Group,
     ending: Ending,
-    last: Option<Noad>,
+    run: &mut RunEnd,
     tokens: &'a [T],
-) -> Result<Scanned<'a, Option<Noad>, T>, Stop>
-    requires last { KeptLast arena.old.closed last }
+) -> Result<&'a [T], Stop>
+    requires last { KeptLast arena.old.closed run.old.last }
     requires inner { arena.old.below ≡ first_open arena.old.below ∷ other_open arena.old.below }
     requires inside { are_inside arena.old.top ≡ true }
-    ensures is { ReadsOpen (R.token grammar.entry.roles.now) result arena.old arena.new
+    ensures is { ReadsOpen (R.token grammar.entry.roles.now) result arena.old arena.new run.new.last
         (whole list_after (R.codes grammar.entry.roles.now) grammar.entry.units (as_sequence arena.old.top)
-        (last_in arena.old.closed last) ending group.level group.family
+        (last_in arena.old.closed run.old.last) ending group.level group.family
         (map (R.token grammar.entry.roles.now) tokens.now)) }
-    ensures last { IfOk result (λ part. KeptLast arena.new.closed part.value) }
-    ensures falls { IfOk result (λ part. length part.rest.now ≤ length tokens.now) }
+    ensures last { OnOk result (KeptLast arena.new.closed run.new.last) }
+    ensures falls { IfOk result (λ rest. length rest.now ≤ length tokens.now) }
 {
-    let run = read_run(arena, grammar, group, last, tokens)?;
-    match list_stop(grammar.roles, ending, run.rest)? {
-        ListStop::Ends => Ok(Scanned {
-            value: run.value.last,
-            rest: run.rest,
-        }),
+    let rest = read_run(arena, grammar, group, run, tokens)?;
+    match list_stop(grammar.roles, ending, rest)? {
+        ListStop::Ends => Ok(rest),
         ListStop::Divides(delims, bar) => {
-            let after = after_first(grammar.roles, run.rest);
+            let after = after_first(grammar.roles, rest);
             let head = fraction_head(grammar.roles, grammar.units, delims, bar, after)?;
-            let here = group.with_family(run.value.family);
-            let last = run.value.last;
-            read_denominator(arena, grammar, here, ending, last, head.value, head.rest)
+            let here = group.with_family(run.family);
+            read_denominator(arena, grammar, here, ending, run, head.value, head.rest)
         }
     }
 }
 
-// The list after what a fraction word begins: the items that are open, with this atom at hand, are the numerator.
+// The list after what a fraction word begins: the items that are open, with the atom at hand, are the numerator.
 #[cycle(reading)]
+#[inline(never)]
 fn read_denominator<'a, T, R: Roles<T>>(
     arena: &mut Arena,
     grammar: Grammar<'_, R>,
     group: Group,
     ending: Ending,
-    last: Option<Noad>,
+    run: &mut RunEnd,
     head: FractionHead,
     tokens: &'a [T],
-) -> Result<Scanned<'a, Option<Noad>, T>, Stop>
-    requires last { KeptLast arena.old.closed last }
+) -> Result<&'a [T], Stop>
+    requires last { KeptLast arena.old.closed run.old.last }
     requires inner { arena.old.below ≡ first_open arena.old.below ∷ other_open arena.old.below }
     requires inside { are_inside arena.old.top ≡ true }
-    ensures is { ReadsOpen (R.token grammar.entry.roles.now) result arena.old arena.new
+    ensures is { ReadsOpen (R.token grammar.entry.roles.now) result arena.old arena.new run.new.last
         (whole denominator (R.codes grammar.entry.roles.now) grammar.entry.units ending group.level
         (record {
           items = append (as_sequence arena.old.top)
-              (last_atom_items (last_in arena.old.closed last));
+              (last_atom_items (last_in arena.old.closed run.old.last));
           family = group.family;
         }) head (map (R.token grammar.entry.roles.now) tokens.now)) }
-    ensures last { IfOk result (λ part. KeptLast arena.new.closed part.value) }
-    ensures falls { IfOk result (λ part. length part.rest.now ≤ length tokens.now) }
+    ensures last { OnOk result (KeptLast arena.new.closed run.new.last) }
+    ensures falls { IfOk result (λ rest. length rest.now ≤ length tokens.now) }
 {
-    let num = close_list(arena, last)?;
+    let num = close_list(arena, &run.last)?;
     arena.begin()?;
-    let run = read_run(arena, grammar, group, None, tokens)?;
-    list_ends(grammar.roles, ending, run.rest)?;
-    let den = close_list(arena, run.value.last)?;
+    run.last = None;
+    let rest = read_run(arena, grammar, group, run, tokens)?;
+    list_ends(grammar.roles, ending, rest)?;
+    let den = close_list(arena, &run.last)?;
     arena.begin()?;
+    run.last = None;
     arena.push(fraction_thing(head, num, den)?)?;
-    Ok(Scanned {
-        value: None,
-        rest: run.rest,
-    })
+    Ok(rest)
 }
 
 // A field: a symbol, or what a group is as a nucleus.
@@ -473,10 +475,14 @@ fn read_segment<'a, T, R: Roles<T>>(
     ensures falls { IfOk result (λ rest. length rest.now ≤ length tokens.now) }
 {
     arena.begin()?;
-    let open = read_open(arena, grammar, group, Ending::AtRight, None, tokens)?;
-    push_last(arena, open.value)?;
+    let mut run = RunEnd {
+        last: None,
+        family: group.family,
+    };
+    let rest = read_open(arena, grammar, group, Ending::AtRight, &mut run, tokens)?;
+    push_last(arena, &run.last)?;
     arena.join();
-    Ok(open.rest)
+    Ok(rest)
 }
 
 // The rows of a vcenter atom after its `{`, and the tokens after its `}`. So many groups are open in them.
@@ -660,10 +666,13 @@ fn read_cell<'a, T, R: Roles<T>>(
 {
     arena.begin()?;
     let group = Group::without_family(level);
-    let start = cell_start(column);
-    let open = read_open(arena, grammar, group, Ending::AtCell, start, tokens)?;
-    let step = after_cell(grammar.roles, preamble, column, open.rest)?;
-    let list = finish_list(arena, open.value)?;
+    let mut run = RunEnd {
+        last: cell_start(column),
+        family: None,
+    };
+    let end = read_open(arena, grammar, group, Ending::AtCell, &mut run, tokens)?;
+    let step = after_cell(grammar.roles, preamble, column, end)?;
+    let list = finish_list(arena, &run.last)?;
     let span = cell_list(arena, column, list)?;
     arena.push(Thing::Row(span))?;
     Ok(step)
@@ -692,7 +701,7 @@ fn read_primes<'a, T, R: Roles<T>>(
         None => {
             begin_primes(arena, more.value)?;
             Ok(Scanned {
-                value: close_list(arena, Some(prime_noad()))?,
+                value: close_list(arena, &Some(prime_noad()))?,
                 rest: more.rest,
             })
         }
@@ -744,7 +753,10 @@ fn read_after_primes<T, R: Roles<T>>(
     ensures kept { IfOk result (KeptSpan arena.new.closed) }
 {
     begin_primes(arena, count)?;
-    let last = Some(prime_noad());
-    let open = read_open(arena, grammar, group, Ending::AtEnd, last, inside)?;
-    Ok(close_list(arena, open.value)?)
+    let mut run = RunEnd {
+        last: Some(prime_noad()),
+        family: group.family,
+    };
+    read_open(arena, grammar, group, Ending::AtEnd, &mut run, inside)?;
+    Ok(close_list(arena, &run.last)?)
 }

@@ -52,7 +52,7 @@ fn displayed_group(arena: &mut Arena, list: WholeList) -> Result<Span, AllocErro
     let group = group_noad(arena, list)?;
     arena.begin()?;
     arena.push(Thing::Style(Style::D))?;
-    close_list(arena, Some(group))
+    close_list(arena, &Some(group))
 }
 
 /// The list of a cell of this column, of all that is in it.

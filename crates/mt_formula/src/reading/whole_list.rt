@@ -23,23 +23,23 @@ pub enum WholeList {
 }
 
 /// Puts the atom at hand behind the items of the innermost open list.
-pub fn push_last(arena: &mut Arena, last: Option<Noad>) -> Result<(), AllocError>
-    requires { KeptLast arena.old.closed last }
-    ensures adds { OnOk result (Adds arena.old arena.new (last_held arena.old.closed last)) }
+pub fn push_last(arena: &mut Arena, last: &Option<Noad>) -> Result<(), AllocError>
+    requires { KeptLast arena.old.closed last.now }
+    ensures adds { OnOk result (Adds arena.old arena.new (last_held arena.old.closed last.now)) }
     ensures closed { arena.new.closed ≡ arena.old.closed }
 {
     match last {
-        Some(noad) => arena.push(Thing::Atom(noad)),
+        Some(noad) => arena.push(Thing::Atom(*noad)),
         None => Ok(()),
     }
 }
 
 /// Closes the innermost open list, of which this is the last atom.
-pub fn close_list(arena: &mut Arena, last: Option<Noad>) -> Result<Span, AllocError>
-    requires last { KeptLast arena.old.closed last }
+pub fn close_list(arena: &mut Arena, last: &Option<Noad>) -> Result<Span, AllocError>
+    requires last { KeptLast arena.old.closed last.now }
     requires inside { are_inside arena.old.top ≡ true }
     ensures is { IfOk result (λ span. sequence_in arena.new.closed span
-        ≡ append (as_sequence arena.old.top) (last_atom_items (last_in arena.old.closed last))) }
+        ≡ append (as_sequence arena.old.top) (last_atom_items (last_in arena.old.closed last.now))) }
     ensures kept { IfOk result (KeptSpan arena.new.closed) }
     ensures closes { OnOk result (Closes arena.old arena.new) }
 {
@@ -48,18 +48,18 @@ pub fn close_list(arena: &mut Arena, last: Option<Noad>) -> Result<Span, AllocEr
 }
 
 /// Takes the innermost open list, of which this is the last atom, as a list that is read whole.
-pub fn finish_list(arena: &mut Arena, last: Option<Noad>) -> Result<WholeList, AllocError>
-    requires last { KeptLast arena.old.closed last }
+pub fn finish_list(arena: &mut Arena, last: &Option<Noad>) -> Result<WholeList, AllocError>
+    requires last { KeptLast arena.old.closed last.now }
     requires inside { are_inside arena.old.top ≡ true }
     ensures is { IfOk result (λ list. list_in arena.new.closed list
-        ≡ append (as_sequence arena.old.top) (last_atom_items (last_in arena.old.closed last))) }
+        ≡ append (as_sequence arena.old.top) (last_atom_items (last_in arena.old.closed last.now))) }
     ensures kept { IfOk result (KeptWhole arena.new.closed) }
     ensures closes { OnOk result (Closes arena.old arena.new) }
 {
     if let Some(noad) = last {
         if arena.is_open_list_empty() {
             arena.join();
-            return Ok(WholeList::Alone(noad));
+            return Ok(WholeList::Alone(*noad));
         }
     }
     Ok(WholeList::Spanned(close_list(arena, last)?))
@@ -76,7 +76,7 @@ pub fn span_of(arena: &mut Arena, list: WholeList) -> Result<Span, AllocError>
         WholeList::Spanned(span) => Ok(span),
         WholeList::Alone(noad) => {
             arena.begin()?;
-            close_list(arena, Some(noad))
+            close_list(arena, &Some(noad))
         }
     }
 }

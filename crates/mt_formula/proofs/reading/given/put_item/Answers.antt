@@ -9,5 +9,5 @@ push-requires-clause-lists c = subst (λ es. HeldLists (value_in es c.args.thing
 
 pub returns-clause-is : goal.returns-clause-is
 returns-clause-is c =
-    item_put _ c.push_last.new.arena _ c.args.run c.args.thing c.requires.last c.requires.thing c.in_ok-push_last.ensures.adds c.in_ok-push_last.ensures.closed
+    item_put _ c.push_last.new.arena _ c.args.run.now c.args.thing c.requires.last c.requires.thing c.in_ok-push_last.ensures.adds c.in_ok-push_last.ensures.closed
     c.in_ok-push.ensures.is c.in_ok-push.ensures.below c.in_ok-push.ensures.closed

@@ -1,7 +1,10 @@
 use Rattle.std.proofs.Common.{map, [], ◌∷◌, ◌++◌, ◌≡◌, true, refl, sym, ap, ◌∙◌, subst, arith, rules, Fits, w64}
 use Rattle.std.proofs.lemmas.Result.{err_from_is_err_and}
 use Rattle.mt_arena.specs.Arena.{CellsHeld, Extends, ItemHeld, RowHeld, as_grid, as_rows, as_sequence, first_open, other_open, rows_in, sequence_in}
+use Rattle.mt_arena.specs.declared.thing.Cell.TheVariants.{Sym}
 use Rattle.mt_arena.proofs.Putting.{extends_more, extends_same, grid_lists, rows_lists}
+use Rattle.mt_formula.specs.declared.actions.action.Action.TheVariants.{Script}
+use Rattle.mt_formula.specs.declared.reading.given.Given.TheVariants as give
 use Rattle.mt_formula.specs.declared.reading.stop.Stop.TheVariants.{Fault as AtFault}
 use Rattle.mt_scan.specs.Parts.{Got}
 use Rattle.mt_arena.specs.Keeping.{GridLists, RowsLists}
@@ -23,11 +26,11 @@ pub read_after_primes-returns-clause-is : goal.read_after_primes-returns-clause-
 read_after_primes-returns-clause-is g t c =
     let codes = g.R.Roles.codes c.args.grammar.roles.now in
     let token = g.R.Lexicon.token c.args.grammar.roles.now in (
-      closes_grows c.args.arena.now c.begin_primes.new.arena c.read_open.new.arena c.close_list.new.arena c.in_ok-begin_primes.ensures.opens.closed c.in_ok-begin_primes.ensures.opens.below c.in_ok-open.ensures.is.front c.in_ok-open.ensures.is.below c.in_ok-close_list.ensures.closes,
+      closes_grows c.args.arena.now c.begin_primes.new.arena c.read_open.new.arena c.close_list.new.arena c.in_ok-begin_primes.ensures.opens.closed c.in_ok-begin_primes.ensures.opens.below c.in_ok-read_open.ensures.is.front c.in_ok-read_open.ensures.is.below c.in_ok-close_list.ensures.closes,
       (
-        (map token c.in_ok-open.open.rest.now),
-        primes_in codes c.args.grammar.units c.begin_primes.new.arena c.read_open.new.arena c.close_list.new.arena c.args.count c.args.group.level c.args.group.family c.prime_noad.result c.in_ok-open.open.value c.in_ok-close_list.field-0 (map token c.args.inside.now) (map token c.in_ok-open.open.rest.now)
-            c.in_ok-begin_primes.ensures.is (rw (c.prime_noad.ensures) refl) c.in_ok-open.ensures.is c.in_ok-close_list.ensures.is,
+        (map token c.in_ok-read_open.field-0.now),
+        primes_in codes c.args.grammar.units c.begin_primes.new.arena c.read_open.new.arena c.close_list.new.arena c.args.count c.args.group.level c.args.group.family c.prime_noad.result c.read_open.new.run.last c.in_ok-close_list.field-0 (map token c.args.inside.now) (map token c.in_ok-read_open.field-0.now)
+            c.in_ok-begin_primes.ensures.is (rw (c.prime_noad.ensures) refl) c.in_ok-read_open.ensures.is c.in_ok-close_list.ensures.is,
       ),
     )
 
@@ -246,7 +249,7 @@ read_run-loop-code-init g t c =
     let codes = g.R.Roles.codes c.args.grammar.roles.now in
     let token = g.R.Lexicon.token c.args.grammar.roles.now in
     record {
-      so_far = run_start codes c.args.grammar.units c.args.group.level _ c.args.arena.now (record { last = c.args.last; family = c.args.group.family }) (map token c.args.tokens.now) refl;
+      so_far = run_start codes c.args.grammar.units c.args.group.level _ c.args.arena.now (record { last = c.args.run.now.last; family = c.args.group.family }) (map token c.args.tokens.now) refl;
       last = c.requires;
       falls = omega arith;
     }
@@ -256,9 +259,9 @@ read_run-loop-code-preserved-in-Some g t c =
     let codes = g.R.Roles.codes c.args.grammar.roles.now in
     let token = g.R.Lexicon.token c.args.grammar.roles.now in
     record {
-      so_far = rw (c.after_first-rest.ensures.is) (run_on_symbol codes c.args.grammar.units c.args.group.level _ c.args.arena.now c.loop-code.arena c.put_symbol.new.arena c.loop-code.run c.in_ok-run.run' (map token c.loop-code.rest.now) c.in-Some.code c.loop-code.invariant.so_far
-          (sym c.front_code.ensures ∙ c.in-Some.is) c.loop-code.invariant.last c.in_ok-run.ensures.is);
-      last = c.in_ok-run.ensures.last;
+      so_far = rw (c.after_first-rest.ensures.is) (run_on_symbol codes c.args.grammar.units c.args.group.level _ c.args.arena.now c.loop-code.arena c.put_symbol.new.arena c.loop-code.run c.put_symbol.new.run (map token c.loop-code.rest.now) c.in-Some.code c.loop-code.invariant.so_far
+          (sym c.front_code.ensures ∙ c.in-Some.is) c.loop-code.invariant.last c.in_ok-put_symbol.ensures.is);
+      last = c.in_ok-put_symbol.ensures.last;
       falls = omega (arith, c.after_first-rest.ensures.falls, c.loop-code.invariant.falls);
     }
 
@@ -291,11 +294,24 @@ read_run-returns-in_err-given g t c =
       falls = tt;
     })
 
-pub read_run-put_given-requires : goal.read_run-put_given-requires
-read_run-put_given-requires g t c =
+pub read_run-put_given-requires-in-loop-code : goal.read_run-put_given-requires-in-loop-code
+read_run-put_given-requires-in-loop-code g t c =
     record {
       last = kept_last_later _ _ c.loop-code.run.last c.in_ok-given.ensures.is.0.front c.loop-code.invariant.last;
       given = c.in_ok-given.ensures.kept;
+    }
+
+pub read_run-loop-code-preserved-in-Some-symbol_script : goal.read_run-loop-code-preserved-in-Some-symbol_script
+read_run-loop-code-preserved-in-Some-symbol_script g t c =
+    let codes = g.R.Roles.codes c.args.grammar.roles.now in
+    let token = g.R.Lexicon.token c.args.grammar.roles.now in
+    let script = c.in-Some-symbol_script.script in
+    record {
+      so_far = run_on codes c.args.grammar.units c.args.group.level _ c.args.arena.now c.loop-code.arena c.loop-code.run (map token c.loop-code.rest.now) (map token script.rest.now) (Script script.value.side script.value.symbol) c.loop-code.invariant.so_far
+          (rw (c.with_family-here.ensures.level, c.with_family-here.ensures.family) at ((rw (c.in-Some-symbol_script.is) at c.symbol_script.ensures.is) c.loop-code.arena.closed c.args.grammar.units)) c.loop-code.arena c.put_given.new.arena c.put_given.new.run (give.Script script.value.side (Sym script.value.symbol)) (map token script.rest.now)
+          c.loop-code.invariant.last (record { front = extends_same c.loop-code.arena.closed; top = refl; below = refl }) refl c.in_ok-put_given.ensures.is;
+      last = c.in_ok-put_given.ensures.last;
+      falls = omega (arith, (rw (c.in-Some-symbol_script.is) at c.symbol_script.ensures.falls), c.loop-code.invariant.falls);
     }
 
 pub read_run-loop-code-preserved : goal.read_run-loop-code-preserved
@@ -304,9 +320,9 @@ read_run-loop-code-preserved g t c =
     let token = g.R.Lexicon.token c.args.grammar.roles.now in
     record {
       so_far = run_on codes c.args.grammar.units c.args.group.level _ c.args.arena.now c.loop-code.arena c.loop-code.run (map token c.loop-code.rest.now) _ c.in_ok-action.action.value c.loop-code.invariant.so_far
-          (rw (c.with_family-here.ensures.level, c.with_family-here.ensures.family) at (c.in_ok-action.ensures.is c.loop-code.arena.closed)) _ _ c.in_ok-run-2.run' c.in_ok-given.given.value _ c.loop-code.invariant.last c.in_ok-given.ensures.is.0
-          (rw (c.with_family-here.ensures.level, c.with_family-here.ensures.family) at c.in_ok-given.ensures.is.1) c.in_ok-run-2.ensures.is;
-      last = c.in_ok-run-2.ensures.last;
+          (rw (c.with_family-here.ensures.level, c.with_family-here.ensures.family) at (c.in_ok-action.ensures.is c.loop-code.arena.closed)) _ _ c.put_given-in-loop-code.new.run c.in_ok-given.given.value _ c.loop-code.invariant.last c.in_ok-given.ensures.is.0
+          (rw (c.with_family-here.ensures.level, c.with_family-here.ensures.family) at c.in_ok-given.ensures.is.1) c.in_ok-put_given-2.ensures.is;
+      last = c.in_ok-put_given-2.ensures.last;
       falls = omega (arith, c.in_ok-given.ensures.falls, c.in_ok-action.ensures.falls, c.loop-code.invariant.falls);
     }
 
@@ -370,8 +386,8 @@ pub read_open-returns-in-Ends-clause-is : goal.read_open-returns-in-Ends-clause-
 read_open-returns-in-Ends-clause-is g t c =
     let codes = g.R.Roles.codes c.args.grammar.roles.now in
     let token = g.R.Lexicon.token c.args.grammar.roles.now in
-    open_ends codes c.args.grammar.units c.args.ending c.args.group.level c.args.group.family c.args.last c.args.arena.now c.read_run.new.arena c.in_ok-run.run'.value (map token c.args.tokens.now) (map token c.in_ok-run.run'.rest.now) c.in_ok-run.ensures.is c.requires.inside
-    ((rw (c.in-Ends.is) at c.in_ok-list_stop.ensures) c.args.grammar.units (whole_run codes c.args.grammar.units) c.args.group.level (ran codes c.args.grammar.units c.args.ending c.args.group.level c.args.group.family c.args.last c.args.arena.now c.read_run.new.arena c.in_ok-run.run'.value (map token c.args.tokens.now) (map token c.in_ok-run.run'.rest.now) c.in_ok-run.ensures.is))
+    open_ends codes c.args.grammar.units c.args.ending c.args.group.level c.args.group.family c.args.run.now.last c.args.arena.now c.read_run.new.arena c.read_run.new.run (map token c.args.tokens.now) (map token c.in_ok-rest.rest.now) c.in_ok-rest.ensures.is c.requires.inside
+    ((rw (c.in-Ends.is) at c.in_ok-list_stop.ensures) c.args.grammar.units (whole_run codes c.args.grammar.units) c.args.group.level (ran codes c.args.grammar.units c.args.ending c.args.group.level c.args.group.family c.args.run.now.last c.args.arena.now c.read_run.new.arena c.read_run.new.run (map token c.args.tokens.now) (map token c.in_ok-rest.rest.now) c.in_ok-rest.ensures.is))
 
 pub read_open-returns-in_err-head-in-Divides-clause-is : goal.read_open-returns-in_err-head-in-Divides-clause-is
 read_open-returns-in_err-head-in-Divides-clause-is g t c =
@@ -379,8 +395,8 @@ read_open-returns-in_err-head-in-Divides-clause-is g t c =
     let token = g.R.Lexicon.token c.args.grammar.roles.now in
     let p = err_from_is_err_and c.from_residual-in_err-head-in-Divides.result c.from_residual-in_err-head-in-Divides.ensures.1 in
     let f : Fits w64 c.in_err-head-in-Divides.field-0.0.left = search rules in
-    rw (p.1, p.2) (head_fails codes c.args.grammar.units c.args.ending c.args.group.level c.args.group.family c.args.last c.args.arena.now c.read_run.new.arena c.in_ok-run.run'.value (map token c.args.tokens.now) (map token c.in_ok-run.run'.rest.now) c.in_ok-run.ensures.is c.in-Divides.delims c.in-Divides.bar
-    ((rw (c.in-Divides.is) at c.in_ok-list_stop.ensures) c.args.grammar.units (whole_run codes c.args.grammar.units) c.args.group.level (ran codes c.args.grammar.units c.args.ending c.args.group.level c.args.group.family c.args.last c.args.arena.now c.read_run.new.arena c.in_ok-run.run'.value (map token c.args.tokens.now) (map token c.in_ok-run.run'.rest.now) c.in_ok-run.ensures.is)) (AtFault c.in_err-head-in-Divides.field-0.0)
+    rw (p.1, p.2) (head_fails codes c.args.grammar.units c.args.ending c.args.group.level c.args.group.family c.args.run.now.last c.args.arena.now c.read_run.new.arena c.read_run.new.run (map token c.args.tokens.now) (map token c.in_ok-rest.rest.now) c.in_ok-rest.ensures.is c.in-Divides.delims c.in-Divides.bar
+    ((rw (c.in-Divides.is) at c.in_ok-list_stop.ensures) c.args.grammar.units (whole_run codes c.args.grammar.units) c.args.group.level (ran codes c.args.grammar.units c.args.ending c.args.group.level c.args.group.family c.args.run.now.last c.args.arena.now c.read_run.new.arena c.read_run.new.run (map token c.args.tokens.now) (map token c.in_ok-rest.rest.now) c.in_ok-rest.ensures.is)) (AtFault c.in_err-head-in-Divides.field-0.0)
     (c.in_err-head-in-Divides.field-0.0.left, (rw (c.after_first-after.ensures.is) at c.in_err-head-in-Divides.ensures.is), omega (arith, f)))
 
 pub read_open-read_denominator-requires : goal.read_open-read_denominator-requires
@@ -388,17 +404,17 @@ read_open-read_denominator-requires g t c =
     let codes = g.R.Roles.codes c.args.grammar.roles.now in
     let token = g.R.Lexicon.token c.args.grammar.roles.now in
     let inner : c.read_run.new.arena.below ≡ first_open c.read_run.new.arena.below ∷ other_open c.read_run.new.arena.below =
-    c.in_ok-run.ensures.is.adds.below ∙ c.requires.inner ∙ ap (λ ls. first_open ls ∷ other_open ls) (sym c.in_ok-run.ensures.is.adds.below) in
+    c.in_ok-rest.ensures.is.adds.below ∙ c.requires.inner ∙ ap (λ ls. first_open ls ∷ other_open ls) (sym c.in_ok-rest.ensures.is.adds.below) in
     let inside : are_inside c.read_run.new.arena.top ≡ true =
-    mid_inside codes c.args.grammar.units c.args.ending c.args.group.level c.args.group.family c.args.last c.args.arena.now c.read_run.new.arena c.in_ok-run.run'.value (map token c.args.tokens.now) (map token c.in_ok-run.run'.rest.now) c.in_ok-run.ensures.is c.requires.inside in
+    mid_inside codes c.args.grammar.units c.args.ending c.args.group.level c.args.group.family c.args.run.now.last c.args.arena.now c.read_run.new.arena c.read_run.new.run (map token c.args.tokens.now) (map token c.in_ok-rest.rest.now) c.in_ok-rest.ensures.is c.requires.inside in
     search rules
 
 pub read_open-returns-in_ok-head-in-Divides-clause-is : goal.read_open-returns-in_ok-head-in-Divides-clause-is
 read_open-returns-in_ok-head-in-Divides-clause-is g t c =
     let codes = g.R.Roles.codes c.args.grammar.roles.now in
     let token = g.R.Lexicon.token c.args.grammar.roles.now in
-    open_divides codes c.args.grammar.units c.args.ending c.args.group.level c.args.group.family c.args.last c.args.arena.now c.read_run.new.arena c.in_ok-run.run'.value (map token c.args.tokens.now) (map token c.in_ok-run.run'.rest.now) c.in_ok-run.ensures.is c.in-Divides.delims c.in-Divides.bar
-    ((rw (c.in-Divides.is) at c.in_ok-list_stop.ensures) c.args.grammar.units (whole_run codes c.args.grammar.units) c.args.group.level (ran codes c.args.grammar.units c.args.ending c.args.group.level c.args.group.family c.args.last c.args.arena.now c.read_run.new.arena c.in_ok-run.run'.value (map token c.args.tokens.now) (map token c.in_ok-run.run'.rest.now) c.in_ok-run.ensures.is)) token c.read_denominator.result _ c.in_ok-head-in-Divides.head.value _
+    open_divides codes c.args.grammar.units c.args.ending c.args.group.level c.args.group.family c.args.run.now.last c.args.arena.now c.read_run.new.arena c.read_run.new.run (map token c.args.tokens.now) (map token c.in_ok-rest.rest.now) c.in_ok-rest.ensures.is c.in-Divides.delims c.in-Divides.bar
+    ((rw (c.in-Divides.is) at c.in_ok-list_stop.ensures) c.args.grammar.units (whole_run codes c.args.grammar.units) c.args.group.level (ran codes c.args.grammar.units c.args.ending c.args.group.level c.args.group.family c.args.run.now.last c.args.arena.now c.read_run.new.arena c.read_run.new.run (map token c.args.tokens.now) (map token c.in_ok-rest.rest.now) c.in_ok-rest.ensures.is)) token c.read_denominator.result c.read_denominator.new.run.last _ c.in_ok-head-in-Divides.head.value _
     (rw (c.after_first-after.ensures.is) at c.in_ok-head-in-Divides.ensures.is)
     (rw (c.with_family-here.ensures.level, c.with_family-here.ensures.family) at c.read_denominator.ensures.is)
 
@@ -408,20 +424,20 @@ read_denominator-returns-in_err-list_ends-clause-is g t c =
     let token = g.R.Lexicon.token c.args.grammar.roles.now in
     let p = err_from_is_err_and c.from_residual-in_err-list_ends.result c.from_residual-in_err-list_ends.ensures.1 in
     let f : Fits w64 c.in_err-list_ends.field-0.0.left = search rules in
-    rw (p.1, p.2) (fraction_fails codes c.args.grammar.units c.args.ending c.args.group.level c.args.group.family c.args.last c.args.arena.now c.close_list.new.arena c.begin.new.self c.read_run.new.arena c.read_run.new.arena c.read_run.new.arena c.read_run.new.arena
-    c.in_ok-num.num c.in_ok-num.num c.args.head c.in_ok-run.run'.value (map token c.args.tokens.now) _ c.in_ok-num.ensures.closes c.in_ok-num.ensures.is c.in_ok-num.ensures.kept c.in_ok-begin.ensures.closed c.in_ok-begin.ensures.top c.in_ok-begin.ensures.below c.in_ok-run.ensures.is (AtFault c.in_err-list_ends.field-0.0)
+    rw (p.1, p.2) (fraction_fails codes c.args.grammar.units c.args.ending c.args.group.level c.args.group.family c.args.run.now.last c.args.arena.now c.close_list.new.arena c.begin.new.self c.read_run.new.arena c.read_run.new.arena c.read_run.new.arena c.read_run.new.arena
+    c.in_ok-num.num c.in_ok-num.num c.args.head c.read_run.new.run (map token c.args.tokens.now) _ c.in_ok-num.ensures.closes c.in_ok-num.ensures.is c.in_ok-num.ensures.kept c.in_ok-begin.ensures.closed c.in_ok-begin.ensures.top c.in_ok-begin.ensures.below c.in_ok-rest.ensures.is (AtFault c.in_err-list_ends.field-0.0)
     (c.in_err-list_ends.field-0.0.left, c.in_err-list_ends.ensures c.args.grammar.units _, omega (arith, f)))
 
 pub read_denominator-push-requires-clause-lists : goal.read_denominator-push-requires-clause-lists
 read_denominator-push-requires-clause-lists g t c =
-    rw (c.in_ok-fraction_thing.ensures, c.in_ok-begin-2.ensures.closed) (fraction_lists c.close_list.new.arena.closed c.close_list-2.new.arena.closed c.in_ok-num.num c.in_ok-den.den (extends_more c.close_list.new.arena.closed c.read_run.new.arena.closed c.close_list-2.new.arena.closed (rw (c.in_ok-begin.ensures.closed) at c.in_ok-run.ensures.is.adds.front) c.in_ok-den.ensures.closes.front) c.in_ok-num.ensures.kept c.in_ok-den.ensures.kept)
+    rw (c.in_ok-fraction_thing.ensures, c.in_ok-begin-2.ensures.closed) (fraction_lists c.close_list.new.arena.closed c.close_list-2.new.arena.closed c.in_ok-num.num c.in_ok-den.den (extends_more c.close_list.new.arena.closed c.read_run.new.arena.closed c.close_list-2.new.arena.closed (rw (c.in_ok-begin.ensures.closed) at c.in_ok-rest.ensures.is.adds.front) c.in_ok-den.ensures.closes.front) c.in_ok-num.ensures.kept c.in_ok-den.ensures.kept)
 
 pub read_denominator-returns-clause-is : goal.read_denominator-returns-clause-is
 read_denominator-returns-clause-is g t c =
     let codes = g.R.Roles.codes c.args.grammar.roles.now in
     let token = g.R.Lexicon.token c.args.grammar.roles.now in
-    fraction_whole codes c.args.grammar.units c.args.ending c.args.group.level c.args.group.family c.args.last c.args.arena.now c.close_list.new.arena c.begin.new.self c.read_run.new.arena c.close_list-2.new.arena c.begin-2.new.self c.push.new.self
-    c.in_ok-num.num c.in_ok-den.den c.args.head c.in_ok-run.run'.value (map token c.args.tokens.now) _ c.in_ok-num.ensures.closes c.in_ok-num.ensures.is c.in_ok-num.ensures.kept c.in_ok-begin.ensures.closed c.in_ok-begin.ensures.top c.in_ok-begin.ensures.below c.in_ok-run.ensures.is
+    fraction_whole codes c.args.grammar.units c.args.ending c.args.group.level c.args.group.family c.args.run.now.last c.args.arena.now c.close_list.new.arena c.begin.new.self c.read_run.new.arena c.close_list-2.new.arena c.begin-2.new.self c.push.new.self
+    c.in_ok-num.num c.in_ok-den.den c.args.head c.read_run.new.run (map token c.args.tokens.now) _ c.in_ok-num.ensures.closes c.in_ok-num.ensures.is c.in_ok-num.ensures.kept c.in_ok-begin.ensures.closed c.in_ok-begin.ensures.top c.in_ok-begin.ensures.below c.in_ok-rest.ensures.is
     c.in_ok-den.ensures.closes c.in_ok-den.ensures.is c.in_ok-begin-2.ensures.closed c.in_ok-begin-2.ensures.top c.in_ok-begin-2.ensures.below (c.in_ok-list_ends.ensures c.args.grammar.units _)
     (rw (c.in_ok-fraction_thing.ensures) at c.in_ok-push.ensures.is) c.in_ok-push.ensures.below c.in_ok-push.ensures.closed c.requires.inner
 
@@ -433,9 +449,9 @@ pub read_segment-returns-clause-is : goal.read_segment-returns-clause-is
 read_segment-returns-clause-is g t c =
     let codes = g.R.Roles.codes c.args.grammar.roles.now in
     let token = g.R.Lexicon.token c.args.grammar.roles.now in
-    segment_joined codes c.args.grammar.units (whole_run codes c.args.grammar.units) c.args.group.level c.args.group.family (map token c.args.tokens.now) (map token c.in_ok-open.open.rest.now)
-    c.args.arena.now c.begin.new.self c.read_open.new.arena c.push_last.new.arena c.join.new.self c.in_ok-open.open.value c.in_ok-begin.ensures.closed c.in_ok-begin.ensures.top c.in_ok-begin.ensures.below
-    c.in_ok-open.ensures.is c.in_ok-push_last.ensures.adds c.in_ok-push_last.ensures.closed c.join.ensures.top c.join.ensures.below c.join.ensures.closed
+    segment_joined codes c.args.grammar.units (whole_run codes c.args.grammar.units) c.args.group.level c.args.group.family (map token c.args.tokens.now) (map token c.in_ok-rest.rest.now)
+    c.args.arena.now c.begin.new.self c.read_open.new.arena c.push_last.new.arena c.join.new.self c.read_open.new.run.last c.in_ok-begin.ensures.closed c.in_ok-begin.ensures.top c.in_ok-begin.ensures.below
+    c.in_ok-rest.ensures.is c.in_ok-push_last.ensures.adds c.in_ok-push_last.ensures.closed c.join.ensures.top c.join.ensures.below c.join.ensures.closed
 
 pub read_root-returns-in_err-list-clause-is : goal.read_root-returns-in_err-list-clause-is
 read_root-returns-in_err-list-clause-is g t c =

@@ -89,7 +89,7 @@ abbrev pub invariant-read_run-loop-code : goal.invariant-read_run-loop-code
 invariant-read_run-loop-code g l = record {
   so_far : (more : List Held) × Adds l.fn.arena l.arena more
       × Below (items_before (as_sequence more) (whole_run (g.R.Roles.codes l.grammar.roles.now) l.grammar.units l.group.level l.run.family (last_in l.arena.closed l.run.last) (map (g.R.Lexicon.token l.fn.grammar.roles.now) l.rest)))
-      (whole_run (g.R.Roles.codes l.fn.grammar.roles.now) l.fn.grammar.units l.fn.group.level l.fn.group.family (last_in l.fn.arena.closed l.fn.last) (map (g.R.Lexicon.token l.fn.grammar.roles.now) l.tokens));
+      (whole_run (g.R.Roles.codes l.fn.grammar.roles.now) l.fn.grammar.units l.fn.group.level l.fn.group.family (last_in l.fn.arena.closed l.fn.run.last) (map (g.R.Lexicon.token l.fn.grammar.roles.now) l.tokens));
   last : KeptLast l.arena.closed l.run.last;
   falls : length l.rest ≤ length l.tokens;
 }
