@@ -1,5 +1,7 @@
 -- tokens up to one that ends them
 mod Cutting
+-- the braces of a formula have their partners
+mod Matched
 -- definitions, a parameter at a time
 mod Defining
 -- how long an expanded list is

@@ -13,6 +13,7 @@ use Rattle.mt_plain.specs.CodeTables.{CodeTables, plain_codes}
 use Rattle.mt_rules.specs.declared.document.Formula.{Formula}
 use Rattle.mt_reader.specs.declared.document_error.DocError.{DocError}
 use Rattle.mt_reader.specs.declared.outside_role.OutsideRole.{OutsideRole}
+use Rattle.mt_reader.specs.declared.outside_role.OutsideRole.TheVariants.{Passed}
 use Rattle.mt_reader.specs.AheadTurns.{turn_before}
 use Rattle.mt_reader.specs.Documents.{DocumentState, DocumentTurn, Goes, Ends, document, outside_role, pages_from, start_state, turn_by}
 use Rattle.mt_reader.specs.DocumentTurns.{IsSpent, IsTaken, TakesPage, ends_page, state_of, turn_refusal}
@@ -190,6 +191,21 @@ module _ (old new : ReaderView) (role : OutsideRole) (first : IsFirst (Some role
           read_left units tokens read (pages_with read taken) i (λ list behind at.
           subst (λ (x : List Token). IsReadTo units tokens (pages_with read taken) new.state (x ++ map word_token list)) (sym whole)
           (read_taken units tokens (after ++ map word_token list) read old.state token new.state taken at (ap ends_page (sym first.3) ∙ ends) takes))
+
+      -- a word that means nothing is passed
+      pub read_passed : (units : Units) (tokens : List Token) (read : List (List Formula)) → length after ≤ left → role ≡ Passed → new.state ≡ old.state
+          → IsReadOf units tokens read old → IsReadOf units tokens read new
+      read_passed units tokens read all is state i =
+          let whole : last_tokens left after ≡ after = ap (λ (n : ℕ). drop n after) (let none : length after - left ≡ 0 = omega (arith, all) in none) in
+          read_turned units tokens read (ap ends_page is)
+          (λ list behind.
+          ap (turn_by units (state_of old.state) (after ++ map word_token list)) is
+          ∙ (ap (λ (s : StateView). Goes (state_of s) (after ++ map word_token list)) (sym state)
+          ∙ ap (λ (x : List Token). Goes (state_of new.state) (x ++ map word_token list)) (sym whole)))
+          (ap (λ (s : StateView). s.ended) state) i
+
+      pub over_passed : CanGoOn old → new.state ≡ old.state → IsOver old new
+      over_passed can state = go_same old new can (further_left can.known) state
 
       pub goes_paged : (taken : Option (List Formula)) → CanGoOn old → TakesPage taken old.state new.state → GoesOn old new (Ok taken)
       goes_paged taken can takes = go_taken old new taken can (further_left can.known) takes

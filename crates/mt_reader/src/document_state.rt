@@ -1,8 +1,9 @@
 //! What has been read of a document.
 ghost use Rattle.std.specs.Prelude.{◌≡◌, ◌≤◌, ◌<◌, ◌+◌, ◌-◌, ◌^◌, ◌==◌, ◌&&◌, ◌↔◌};
-ghost use Rattle.std.specs.Prelude.{[], length, map, true, false, IfErr, IfOk, OnOk, OnErr, IsTrue, Ok};
+ghost use Rattle.std.specs.Prelude.{[], length, map, true, false, IfErr, IfOk, OnOk, OnErr, IsTrue, None, Ok};
 ghost use Rattle.mt_scaled.specs.Number.{Within};
 ghost use Rattle.mt_token.specs.Tokens.{max_source};
+ghost use Rattle.mt_macro.specs.Braces.{first_unmatched};
 ghost use Rattle.mt_macro.specs.Definition.{define, Answers};
 ghost use Rattle.mt_macro.specs.Expansion.{Expanded, ExpandsTo, expansion};
 ghost use Rattle.mt_macro.specs.Table.{Table};
@@ -26,7 +27,7 @@ use crate::document_tables::DocumentTables;
 use crate::expanded_items::ExpandedItems;
 use crate::word_source::WordSource;
 use mt_formula::ReadError;
-use mt_macro::items::expands_to_itself;
+use mt_macro::items::matched_expands_to_itself;
 use mt_macro::{ExpandError, MacroError};
 use mt_scaled::Units;
 use mt_scan::Fault;
@@ -151,18 +152,20 @@ impl<K> DocumentState<K> {
         assign_delcode(&mut self.tables, tokens)
     }
 
-    /// Whether a formula is read by its items as they are, since nothing in them is to be expanded.
+    /// Whether a formula in which each brace has its partner is read by its items as they are, since nothing in them is
+    /// to be expanded.
     pub fn is_expanded<T>(&self, tokens: &[T]) -> bool
     where
         K: DocumentTables<T>,
+        requires { first_unmatched 0 (map (K.token self.now.tables) tokens.now) ≡ None }
         ensures is { IsTrue result ↔ (expansion (K.macros self.now.tables) (map (K.token self.now.tables) tokens.now)
             ≡ Expanded (map (K.token self.now.tables) tokens.now)) }
         ensures short { IsTrue result → length tokens.now ≤ max_tokens }
     {
-        expands_to_itself(&self.tables, tokens)
+        matched_expands_to_itself(&self.tables, tokens)
     }
 
-    /// Expands a formula: the items are then those without macros.
+    /// Expands a formula in which each brace has its partner: the items are then those without macros.
     pub fn expand<T: Drop>(
         &self,
         items: &mut ExpandedItems<T>,
@@ -170,6 +173,7 @@ impl<K> DocumentState<K> {
     ) -> Result<(), ExpandError>
     where
         K: DocumentTables<T>,
+        requires { first_unmatched 0 (map (K.token self.now.tables) tokens.now) ≡ None }
         ensures is { ExpandsTo result (map (K.token self.now.tables) items.new.items.items)
             (expansion (K.macros self.now.tables) (map (K.token self.now.tables) tokens.now)) }
         ensures short { OnOk result (length items.new.items.items ≤ max_tokens) }

@@ -1,11 +1,12 @@
 //! What becomes of a token outside of formulas, and of those after it.
-ghost use Rattle.std.specs.Prelude.{◌≡◌, ℕ, ◌≤◌, ◌<◌, ◌+◌, ◌-◌, ◌^◌, false, length, map};
+ghost use Rattle.std.specs.Prelude.{◌≡◌, ℕ, ◌≤◌, ◌<◌, ◌+◌, ◌-◌, ◌^◌, None, false, length, map};
 ghost use Rattle.mt_scaled.specs.Number.{Within};
 ghost use Rattle.mt_reader.specs.Answered.{definition_answered, math_code_answered, delcode_answered};
 ghost use Rattle.mt_reader.specs.Definitions.{macro_definition};
 ghost use Rattle.mt_reader.specs.Assignments.{math_code_assignment, delcode_assignment};
 ghost use Rattle.mt_reader.specs.Documents.{after_definition, after_assignment, after_reading};
 ghost use Rattle.mt_reader.specs.Documents.{after_expansion, formula_turn, is_page_limit, turn_by};
+ghost use Rattle.mt_macro.specs.Braces.{first_unmatched};
 ghost use Rattle.mt_macro.specs.Expansion.{Expanded, expansion};
 ghost use Rattle.mt_formula.specs.Formulas.{reading};
 ghost use Rattle.mt_reader.specs.AheadTurns.{IsFormulaFound, MeetsSome, SameWhereNone, SpendsSome};
@@ -254,6 +255,7 @@ fn formula_between<'a, T: Drop, K: DocumentTables<T>>(
     display: bool,
     taken: Taken<'a, T>,
 ) -> Result<AfterTurn<'a, T>, DocError>
+    requires matched { first_unmatched 0 (map (K.token state.old.tables) taken.argument.now) ≡ None }
     requires em { Within (2 ^ 31) units.em }
     requires ex { Within (2 ^ 31) units.ex }
     requires count { state.old.count < 2 ^ 32 - 1 }

@@ -1,5 +1,6 @@
 //! The items of a formula after expansion, in memory that later formulas take again.
-ghost use Rattle.std.specs.Prelude.{◌≡◌, ◌≤◌, OnOk, length, map};
+ghost use Rattle.std.specs.Prelude.{◌≡◌, ◌≤◌, None, OnOk, length, map};
+ghost use Rattle.mt_macro.specs.Braces.{first_unmatched};
 ghost use Rattle.mt_macro.specs.Expansion.{expansion, ExpandsTo};
 ghost use Rattle.mt_macro.specs.Limits.{max_tokens};
 
@@ -22,17 +23,18 @@ impl<T: Drop> ExpandedItems<T> {
         }
     }
 
-    /// Expands a formula: its items are then those without macros.
+    /// Expands a formula in which each brace has its partner: its items are then those without macros.
     ///
     /// # Errors
     ///
     /// Those of [`mt_macro::expand`].
     pub fn expand<B: Bodies<T>>(&mut self, tables: &B, list: &[T]) -> Result<(), ExpandError>
+        requires { first_unmatched 0 (map (B.token tables.now) list.now) ≡ None }
         ensures is { ExpandsTo result (map (B.token tables.now) self.new.items.items)
             (expansion (B.macros tables.now) (map (B.token tables.now) list.now)) }
         ensures short { OnOk result (length self.new.items.items ≤ max_tokens) }
     {
-        self.expander.expand(tables, list, &mut self.items)
+        self.expander.expand_matched(tables, list, &mut self.items)
     }
 
     /// The items of the formula that was expanded last.

@@ -27,7 +27,16 @@ pub enum OutsideRole {
 }
 
 impl OutsideRole {
+    ghost use Rattle.std.specs.Prelude.{IsTrue};
     ghost use Rattle.mt_reader.specs.DocumentTurns.{ends_page};
+    ghost use Rattle.mt_reader.specs.declared.outside_role.OutsideRole.TheVariants.{Passed};
+
+    /// Whether it means nothing.
+    pub fn is_passed(self) -> bool
+        ensures { IsTrue result → self ≡ Passed }
+    {
+        matches!(self, OutsideRole::Passed)
+    }
 
     /// Whether it ends a page.
     pub fn ends_page(self) -> bool
@@ -72,5 +81,11 @@ fn role_of_kind(kind: LentKind) -> OutsideRole
 pub fn outside_role<T, L: Lexicon<T>>(tables: &L, item: &T) -> OutsideRole
     ensures { result ≡ outside_role (L.token tables.now item.now).kind }
 {
+    if tables.code(item) == b'$' {
+        return OutsideRole::BeginsFormula;
+    }
+    if tables.is_space(item) {
+        return OutsideRole::Passed;
+    }
     role_of_kind(tables.lent(item))
 }

@@ -217,6 +217,10 @@ impl<'a> PageReader<'a> {
         ensures more { StaysOn (pages_view self.old) (pages_view self.new) result }
         ensures falls { OnOk result (room (pages_view self.new).source < room (pages_view self.old).source) }
     {
+        if role.is_passed() {
+            self.source.pass_first();
+            return Ok(());
+        }
         while !self.turn_ahead(units, role)? {
             if !self.more()? {
                 return self.last_turn(units, role);

@@ -6,6 +6,7 @@ use Rattle.mt_reader.specs.Dollars.{begins_display, between_dollars}
 use Rattle.mt_reader.specs.Lent.{taken_tokens}
 use Rattle.mt_reader.specs.Refusals.{IsRefusal}
 use Rattle.mt_reader.specs.Views.{state_view}
+use Rattle.mt_reader.proofs.Matched.{matched}
 use Rattle.mt_reader.proofs.Turning.{turn_taken}
 use Rattle.mt_reader.proofs.document_turn.formula_ahead.Goals as goal
 
@@ -15,6 +16,14 @@ returns-then-is_page_limit-clause-is g c =
 
 pub returns-then-is_page_limit-clause-found : goal.returns-then-is_page_limit-clause-found
 returns-then-is_page_limit-clause-found g c = rw (sym (c.is_page_limit.ensures g.K.Roles.codes g.K.Bodies.macros) ∙ c.if-is_page_limit.true) tt
+
+pub formula_between-requires-clause-matched : goal.formula_between-requires-clause-matched
+formula_between-requires-clause-matched g c =
+    let token = g.K.Lexicon.token in
+    let between =
+    ap (λ k. between_dollars (map (token k) c.args.tokens.now)) (sym c.tables-2.ensures)
+    ∙ (c.in-Some.ensures.is ∙ ap (λ k. Some (taken_tokens (token k) c.in-Some.taken)) c.tables-2.ensures) in
+    matched (map (token c.args.state.now.tables) c.args.tokens.now) (taken_tokens (token c.args.state.now.tables) c.in-Some.taken) between
 
 pub returns-in-Ok-clause-is : goal.returns-in-Ok-clause-is
 returns-in-Ok-clause-is g c =

@@ -5,4 +5,4 @@ use Rattle.mt_reader.proofs.expanded_items.ExpandedItems.expand.Goals as goal
 pub returns-clause-short : goal.returns-clause-short
 returns-clause-short g c =
     let token = g.B.Lexicon.token c.args.tables.now in
-    put_short token _ (g.B.Bodies.macros c.args.tables.now) (map token c.args.list.now) _ c.expand.ensures.is
+    put_short token _ (g.B.Bodies.macros c.args.tables.now) (map token c.args.list.now) _ c.expand_matched.ensures.is

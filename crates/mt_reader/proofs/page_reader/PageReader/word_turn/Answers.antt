@@ -1,10 +1,24 @@
-use Rattle.std.proofs.Common.{List, ap, arith, sym, subst, ◌∙◌}
+use Rattle.std.proofs.Common.{List, ap, arith, refl, sym, subst, ◌∙◌}
 use Rattle.std.specs.Prelude.{Some}
 use Rattle.std.proofs.lemmas.Result.{err_from_is_err_and}
 use Rattle.mt_reader.specs.SourceReading.{IsFirst, IsOver, IsReadOf, fault_ahead, room}
 use Rattle.mt_reader.specs.Views.{ReaderView, pages_view}
 use Rattle.mt_reader.proofs.Going.{over_then}
+use Rattle.mt_reader.proofs.SourceLoop.{over_passed, pass_first, read_passed}
 use Rattle.mt_reader.proofs.page_reader.PageReader.word_turn.Goals as goal
+
+pub returns-then-is_passed-clause-is : goal.returns-then-is_passed-clause-is
+returns-then-is_passed-clause-is c =
+    let old = pages_view c.args.self.now in
+    let pass = pass_first old old c.args.role c.requires.first in
+    λ tokens read i.
+    read_passed old _ c.args.role c.requires.first refl _ pass.0 c.pass_first.ensures c.args.units tokens read pass.1 (c.is_passed.ensures c.if-is_passed.true) refl i
+
+pub returns-then-is_passed-clause-more : goal.returns-then-is_passed-clause-more
+returns-then-is_passed-clause-more c =
+    let old = pages_view c.args.self.now in
+    let pass = pass_first old old c.args.role c.requires.first in
+    over_passed old _ c.args.role c.requires.first refl _ pass.0 c.pass_first.ensures c.requires.more refl
 
 pub returns-in_err-turn_ahead-clause-is : goal.returns-in_err-turn_ahead-clause-is
 returns-in_err-turn_ahead-clause-is c =
