@@ -269,6 +269,7 @@ fn set_under_limits(
 
 // The clean box of a script, and whether there is one.
 #[cycle(setting)]
+#[inline(always)]
 fn set_script(
     pieces: &mut Pieces,
     context: Context<'_>,
