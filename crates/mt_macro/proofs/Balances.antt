@@ -93,7 +93,7 @@ front_run src ms r before index h b low high e =
     ∙ (sym (take_of_take index (r.end - r.start) (drop r.start (place_tokens src r.place)) (omega (arith, within)))
     ∙ ap (take index) (sym (basic_tokens src ms r b)))) in
     record {
-      known = subst (IsRun src ms) (sym e) (basic_is_at src ms r.place r.start (r.start + index) b (omega (arith, low)) (omega (arith, within, bounds.1)));
+      known = subst (IsRun src ms) (sym e) (basic_is_at src ms r.place r.start (r.start + index) r.start r.end b h (omega (arith, low)) (omega (arith, within, bounds.1)));
       whole = subst (λ (x : Run). IsWhole x.place) (sym e) (basic_whole r.place b);
       is = ap (run_tokens src ms) e ∙ is;
     }

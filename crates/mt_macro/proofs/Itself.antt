@@ -15,7 +15,7 @@ use Rattle.mt_macro.specs.Arguments.{Arguments, arguments}
 use Rattle.mt_macro.specs.Expansion.{MacroStep, Done, Missing, Next, past, replacement, macro_step, macro_step_at}
 use Rattle.mt_macro.specs.Expansion.{Expansion, Expanded, OverBudget, ListTooLong}
 use Rattle.mt_macro.specs.Expansion.{at_last, further, within_budget, run, unless_unmatched, expansion}
-use Rattle.mt_macro.proofs.Running.{run_done, short}
+use Rattle.mt_macro.proofs.Running.{short}
 
 abbrev pub is_done : MacroStep → Bool
 is_done Done = true
@@ -114,6 +114,14 @@ itself table list e =
       partners = found.0;
       plain = not_true _ (sym (step_done table list) ∙ run_ends table max_steps 0 list list found.1);
     }
+
+within_short : (done : ℕ) (list : List Token) (o : Expansion) → length list ≤ max_tokens → within_budget done list o ≡ o
+within_short done list o h = rw (short (length list) h) refl
+
+run_done : (table : Table) (left steps : ℕ) (list : List Token) → length list ≤ max_tokens → macro_step table list ≡ Done → run table left steps list ≡ Expanded list
+unfolding run
+run_done table zero steps list h e = within_short steps list _ h ∙ ap (at_last steps list) e
+run_done table (suc left) steps list h e = within_short steps list _ h ∙ ap (further list (run table left (steps + 1))) e
 
 -- such a list expands to itself
 pub to_itself : (table : Table) (list : List Token) → IsItself table list → expansion table list ≡ Expanded list

@@ -14,6 +14,8 @@ pub mod BodyParameters
 pub mod Ending
 -- groups and arguments that are taken
 pub mod Taking
+-- tokens of one kind are read alike
+pub mod SameKinds
 -- the tokens of runs
 pub mod Runs
 -- a stack of runs
@@ -32,6 +34,10 @@ pub mod Putting
 pub mod Plains
 -- steps over runs
 pub mod Steps
+-- expansion in which tokens of bodies stay as they are
+pub mod Unplaced
+-- macros with bodies of traced tokens
+pub mod TracedBodies
 -- entries in the names' order
 pub mod Entries
 -- lists that expand to themselves

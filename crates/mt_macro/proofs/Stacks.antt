@@ -94,18 +94,19 @@ basic_tokens src ms r b = basic_tokens_at src ms r.place r.start r.end b
 
 basic_bounds_at : (src : Sources) (ms : List (List Token)) (p : Place) (s e : ℕ) → IsBasic p → IsRunAt src ms p s e → (s < e) × (e ≤ length (place_tokens src p))
 basic_bounds_at src ms Given s e b h = h
-basic_bounds_at src ms (Body n) s e b h = h
+basic_bounds_at src ms (Body c) s e b h = (h.0, h.1)
 basic_bounds_at src ms (Argument c) s e b h = absurd b
 basic_bounds_at src ms (Remainder c) s e b h = absurd b
 
 pub basic_bounds : (src : Sources) (ms : List (List Token)) (r : Run) → IsBasic r.place → IsRun src ms r → (r.start < r.end) × (r.end ≤ length (place_tokens src r.place))
 basic_bounds src ms r b h = basic_bounds_at src ms r.place r.start r.end b h
 
-pub basic_is_at : (src : Sources) (ms : List (List Token)) (p : Place) (s e : ℕ) → IsBasic p → s < e → e ≤ length (place_tokens src p) → IsRunAt src ms p s e
-basic_is_at src ms Given s e b h k = (h, k)
-basic_is_at src ms (Body n) s e b h k = (h, k)
-basic_is_at src ms (Argument c) s e b h k = absurd b
-basic_is_at src ms (Remainder c) s e b h k = absurd b
+-- an other part of a basic run
+pub basic_is_at : (src : Sources) (ms : List (List Token)) (p : Place) (s e s' e' : ℕ) → IsBasic p → IsRunAt src ms p s' e' → s < e → e ≤ length (place_tokens src p) → IsRunAt src ms p s e
+basic_is_at src ms Given s e s' e' b r h k = (h, k)
+basic_is_at src ms (Body c) s e s' e' b r h k = (h, k, r.2)
+basic_is_at src ms (Argument c) s e s' e' b r h k = absurd b
+basic_is_at src ms (Remainder c) s e s' e' b r h k = absurd b
 
 pub basic_whole : (p : Place) → IsBasic p → IsWhole p
 basic_whole Given b = tt
@@ -153,7 +154,7 @@ put_more src parts before rest r new from l h b low high e a c =
     let bounds = basic_bounds src ms r b h in
     let made : Run = record { place = r.place; start = from; end = r.end } in
     let pushed : rest.runs.items ≡ before.runs.items ++ made ∷ [] = a ∙ ap (λ (x : Run). before.runs.items ++ x ∷ []) e in
-    let is_run : IsRun src ms made = basic_is_at src ms r.place from r.end b high bounds.1 in
+    let is_run : IsRun src ms made = basic_is_at src ms r.place from r.end r.start r.end b h high bounds.1 in
     let is : left_of src parts rest ≡ part from r.end (place_tokens src r.place) ++ left_of src parts before =
     ap (left src ms) pushed ∙ (left_push src ms before.runs.items made ∙ ap (λ (x : List Token). x ++ left_of src parts before) (basic_tokens src ms made b)) in (
       record {
@@ -186,7 +187,7 @@ gives_token src parts before middle rest r one t g b l is e item =
     let split = part_split r.start (r.start + 1) r.end (place_tokens src r.place) (omega arith) (omega (arith, bounds.0)) bounds.1 in
     record {
       below = l;
-      known = subst (IsRun src ms) (sym e) (basic_is_at src ms r.place r.start (r.start + 1) b (omega arith) (omega (arith, bounds.0, bounds.1)));
+      known = subst (IsRun src ms) (sym e) (basic_is_at src ms r.place r.start (r.start + 1) r.start r.end b g.known (omega arith) (omega (arith, bounds.0, bounds.1)));
       whole = subst (λ (x : Run). IsWhole x.place) (sym e) (basic_whole r.place b);
       alone = ap (run_tokens src ms) e ∙ alone;
       is = g.is ∙ (ap (λ (x : List Token). x ++ left_of src parts middle) (basic_tokens src ms r b ∙ (split ∙ ap (λ (x : List Token). x ++ part (r.start + 1) r.end (place_tokens src r.place)) item))

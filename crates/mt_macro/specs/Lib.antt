@@ -16,6 +16,12 @@ pub mod Definition
 pub mod Arguments
 -- what a list expands to
 pub mod Expansion
+-- what it expands to where tokens of bodies are put as calls say
+pub mod PlacedExpansion
+-- what an item is read as where it is put
+pub mod Origins
+-- traced tokens
+pub mod Traced
 -- the numbers and places of errors
 pub mod Errors
 -- of steps and lent tokens: only inner contracts cite it

@@ -22,3 +22,5 @@ pub mod Marks
 pub mod Entries
 -- what the macros keep
 pub mod Kept
+-- macros with bodies of traced tokens
+pub mod Tracing

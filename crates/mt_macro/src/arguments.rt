@@ -24,15 +24,15 @@ fn closing_of<T, B: Bodies<T>>(
     level: usize,
 ) -> Closing
     requires ends { AreEnds (map (B.token tables.now) list.now) ends.now }
-    requires run { IsRun (sources (B.token tables.now) (B.body tables.now) list.now)
-        (meanings (sources (B.token tables.now) (B.body tables.now) list.now) parts.now.runs.items)
+    requires run { IsRun (sources (B.token tables.now) (B.placed tables.now) (B.body tables.now) list.now)
+        (meanings (sources (B.token tables.now) (B.placed tables.now) (B.body tables.now) list.now) parts.now.runs.items)
         run }
     requires whole { IsWhole run.place }
-    requires short { level + length (run_tokens (sources (B.token tables.now) (B.body tables.now)
-        list.now) (meanings (sources (B.token tables.now) (B.body tables.now) list.now)
+    requires short { level + length (run_tokens (sources (B.token tables.now) (B.placed tables.now) (B.body tables.now)
+        list.now) (meanings (sources (B.token tables.now) (B.placed tables.now) (B.body tables.now) list.now)
         parts.now.runs.items) run) < 2 ^ 63 }
-    ensures { ClosesRun (sources (B.token tables.now) (B.body tables.now) list.now)
-        (meanings (sources (B.token tables.now) (B.body tables.now) list.now) parts.now.runs.items)
+    ensures { ClosesRun (sources (B.token tables.now) (B.placed tables.now) (B.body tables.now) list.now)
+        (meanings (sources (B.token tables.now) (B.placed tables.now) (B.body tables.now) list.now) parts.now.runs.items)
         level run result }
 {
     if run.is_opened() {
@@ -64,13 +64,13 @@ fn push_part<T, B: Bodies<T>>(
     parts: &mut Parts,
     run: Run,
 ) -> Result<(), AllocError>
-    requires parts { AreParts (sources (B.token tables.now) (B.body tables.now) list.now) []
+    requires parts { AreParts (sources (B.token tables.now) (B.placed tables.now) (B.body tables.now) list.now) []
         parts.old.runs.items }
-    requires run { IsRun (sources (B.token tables.now) (B.body tables.now) list.now)
-        (meanings (sources (B.token tables.now) (B.body tables.now) list.now) parts.old.runs.items)
+    requires run { IsRun (sources (B.token tables.now) (B.placed tables.now) (B.body tables.now) list.now)
+        (meanings (sources (B.token tables.now) (B.placed tables.now) (B.body tables.now) list.now) parts.old.runs.items)
         run }
     requires whole { IsWhole run.place }
-    ensures { OnOk result (Pushes (sources (B.token tables.now) (B.body tables.now) list.now)
+    ensures { OnOk result (Pushes (sources (B.token tables.now) (B.placed tables.now) (B.body tables.now) list.now)
         parts.old.runs.items parts.new.runs.items run) }
 {
     parts.runs.push(run)?;
@@ -108,19 +108,19 @@ fn push_before<T, B: Bodies<T>>(
     run: Run,
     index: usize,
 ) -> Result<(), AllocError>
-    requires parts { AreParts (sources (B.token tables.now) (B.body tables.now) list.now) []
+    requires parts { AreParts (sources (B.token tables.now) (B.placed tables.now) (B.body tables.now) list.now) []
         parts.old.runs.items }
-    requires run { IsRun (sources (B.token tables.now) (B.body tables.now) list.now)
-        (meanings (sources (B.token tables.now) (B.body tables.now) list.now) parts.old.runs.items)
+    requires run { IsRun (sources (B.token tables.now) (B.placed tables.now) (B.body tables.now) list.now)
+        (meanings (sources (B.token tables.now) (B.placed tables.now) (B.body tables.now) list.now) parts.old.runs.items)
         run }
     requires basic { IsBasic run.place }
-    requires index { index < length (run_tokens (sources (B.token tables.now) (B.body tables.now)
-        list.now) (meanings (sources (B.token tables.now) (B.body tables.now) list.now)
+    requires index { index < length (run_tokens (sources (B.token tables.now) (B.placed tables.now) (B.body tables.now)
+        list.now) (meanings (sources (B.token tables.now) (B.placed tables.now) (B.body tables.now) list.now)
         parts.old.runs.items) run) }
-    ensures { OnOk result (PushesAll (sources (B.token tables.now) (B.body tables.now) list.now)
+    ensures { OnOk result (PushesAll (sources (B.token tables.now) (B.placed tables.now) (B.body tables.now) list.now)
         parts.old.runs.items parts.new.runs.items
-        (take index (run_tokens (sources (B.token tables.now) (B.body tables.now) list.now)
-        (meanings (sources (B.token tables.now) (B.body tables.now) list.now) parts.old.runs.items)
+        (take index (run_tokens (sources (B.token tables.now) (B.placed tables.now) (B.body tables.now) list.now)
+        (meanings (sources (B.token tables.now) (B.placed tables.now) (B.body tables.now) list.now) parts.old.runs.items)
         run))) }
 {
     if index == 0 {
@@ -143,13 +143,13 @@ fn take_group<T, B: Bodies<T>>(
     rest: &mut Rest,
 ) -> Result<Option<Run>, AllocError>
     requires ends { AreEnds (map (B.token tables.now) list.now) ends.now }
-    requires left { AreLeft (sources (B.token tables.now) (B.body tables.now) list.now)
+    requires left { AreLeft (sources (B.token tables.now) (B.placed tables.now) (B.body tables.now) list.now)
         parts.old.runs.items rest.old }
-    requires short { length (left_of (sources (B.token tables.now) (B.body tables.now) list.now)
+    requires short { length (left_of (sources (B.token tables.now) (B.placed tables.now) (B.body tables.now) list.now)
         parts.old.runs.items rest.old) < 2 ^ 31 }
-    ensures { IfOk result (λ taken. TakesRun (sources (B.token tables.now) (B.body tables.now)
+    ensures { IfOk result (λ taken. TakesRun (sources (B.token tables.now) (B.placed tables.now) (B.body tables.now)
         list.now) parts.old.runs.items parts.new.runs.items rest.old rest.new
-        (group 0 (left_of (sources (B.token tables.now) (B.body tables.now) list.now)
+        (group 0 (left_of (sources (B.token tables.now) (B.placed tables.now) (B.body tables.now) list.now)
         parts.old.runs.items rest.old)) taken) }
 {
     let first = parts.runs.len();
@@ -181,13 +181,13 @@ fn take_argument<T, B: Bodies<T>>(
     rest: &mut Rest,
 ) -> Result<Option<Run>, AllocError>
     requires ends { AreEnds (map (B.token tables.now) list.now) ends.now }
-    requires left { AreLeft (sources (B.token tables.now) (B.body tables.now) list.now)
+    requires left { AreLeft (sources (B.token tables.now) (B.placed tables.now) (B.body tables.now) list.now)
         parts.old.runs.items rest.old }
-    requires short { length (left_of (sources (B.token tables.now) (B.body tables.now) list.now)
+    requires short { length (left_of (sources (B.token tables.now) (B.placed tables.now) (B.body tables.now) list.now)
         parts.old.runs.items rest.old) < 2 ^ 31 }
-    ensures { IfOk result (λ taken. TakesRun (sources (B.token tables.now) (B.body tables.now)
+    ensures { IfOk result (λ taken. TakesRun (sources (B.token tables.now) (B.placed tables.now) (B.body tables.now)
         list.now) parts.old.runs.items parts.new.runs.items rest.old rest.new
-        (argument (left_of (sources (B.token tables.now) (B.body tables.now) list.now)
+        (argument (left_of (sources (B.token tables.now) (B.placed tables.now) (B.body tables.now) list.now)
         parts.old.runs.items rest.old)) taken) }
 {
     while let Some(one) = next_token(tables, list, parts, rest)? {
@@ -215,13 +215,13 @@ pub fn take_arguments<T, B: Bodies<T>>(
     taken: &mut Vec<Run>,
 ) -> Result<bool, AllocError>
     requires ends { AreEnds (map (B.token tables.now) list.now) ends.now }
-    requires left { AreLeft (sources (B.token tables.now) (B.body tables.now) list.now)
+    requires left { AreLeft (sources (B.token tables.now) (B.placed tables.now) (B.body tables.now) list.now)
         parts.old.runs.items rest.old }
-    requires short { length (left_of (sources (B.token tables.now) (B.body tables.now) list.now)
+    requires short { length (left_of (sources (B.token tables.now) (B.placed tables.now) (B.body tables.now) list.now)
         parts.old.runs.items rest.old) < 2 ^ 31 }
-    ensures { IfOk result (λ all. TakesRuns (sources (B.token tables.now) (B.body tables.now)
+    ensures { IfOk result (λ all. TakesRuns (sources (B.token tables.now) (B.placed tables.now) (B.body tables.now)
         list.now) parts.old.runs.items parts.new.runs.items rest.old rest.new
-        (arguments params (left_of (sources (B.token tables.now) (B.body tables.now) list.now)
+        (arguments params (left_of (sources (B.token tables.now) (B.placed tables.now) (B.body tables.now) list.now)
         parts.old.runs.items rest.old)) taken.new.items all) }
 {
     taken.clear();

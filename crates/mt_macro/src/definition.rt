@@ -13,8 +13,8 @@ use mt_token::{Lexicon, Token};
 use std::alloc::AllocError;
 use thiserror::Error;
 
-/// The greatest number of parameters.
-const MAX_PARAMS: u8 = 9;
+/// The greatest number of parameters of a macro (The TeXbook, chapter 20).
+pub const MAX_PARAMS: u8 = 9;
 
 /// The greatest number of names of the user's own.
 pub const MAX_OWN_NAMES: usize = 1_000;

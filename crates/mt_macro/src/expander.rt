@@ -2,21 +2,21 @@
 ghost use Rattle.std.specs.Prelude.{◌≡◌, ◌<◌, ◌≤◌, ◌+◌, ◌^◌, ◌++◌, ◌∷◌, [], IfOk, OnOk, Err, None, length, map};
 ghost use Rattle.mt_macro.specs.Limits.{max_steps, max_tokens};
 ghost use Rattle.mt_macro.specs.Braces.{first_unmatched};
-ghost use Rattle.mt_macro.specs.Expansion.{run, expansion, ExpandsTo};
+ghost use Rattle.mt_macro.specs.PlacedExpansion.{placed_run, placed_expansion, StopsAs};
 ghost use Rattle.mt_macro.specs.inner.Ends.{AreEnds};
 ghost use Rattle.mt_macro.specs.inner.Replacing.{Replaces};
-ghost use Rattle.mt_macro.specs.inner.Runs.{sources, meanings, left_of, all_tokens, AreRuns, AreLeft};
+ghost use Rattle.mt_macro.specs.inner.Runs.{sources, called_body, meanings, left_of, all_tokens, AreRuns, AreLeft};
 ghost use Rattle.mt_macro.specs.declared.expansion.ExpandError.TheVariants.{OutOfMemory};
 
 use crate::arguments::take_arguments;
-use crate::bodies::{Bodies, Found};
+use crate::bodies::Bodies;
 use crate::braces::first_unmatched;
 use crate::ends::known_ends;
 use crate::expansion::ExpandError;
 use crate::filling::{fill, put_filled};
 use crate::parts::bound_parts;
-use crate::passing::next_macro;
-use crate::run::{Place, Run};
+use crate::passing::{next_macro, push_again};
+use crate::run::{Called, Place, Run};
 use crate::stack::{Parts, Rest};
 use std::alloc::{AllocError, Global};
 
@@ -65,19 +65,22 @@ impl Expander {
     }
 
     /// The list in which no macro is left, put into `out` in place of what it has. Each step
-    /// replaces the leftmost macro, with its arguments, by its body (The TeXbook, chapter 20).
+    /// replaces the leftmost macro, with its arguments, by its body (The TeXbook, chapter 20), of
+    /// which each item is put as the tables put it.
     ///
     /// # Errors
     ///
-    /// Those of [`crate::expand`]. What is in `out` after an error is not said.
+    /// Those of [`crate::expand`]. Where a macro lacks an argument, `out` has the items before the
+    /// macro and the macro. What is in it after another error is not said.
     pub fn expand<T: Drop, B: Bodies<T>>(
         &mut self,
         tables: &B,
         list: &[T],
         out: &mut Vec<T>,
     ) -> Result<(), ExpandError>
-        ensures is { ExpandsTo result (map (B.token tables.now) out.new.items)
-            (expansion (B.macros tables.now) (map (B.token tables.now) list.now)) }
+        ensures is { StopsAs result (map (B.token tables.now) out.new.items)
+            (placed_expansion (B.placed tables.now) (B.macros tables.now)
+            (map (B.token tables.now) list.now)) }
         ensures memory { result ≡ Err OutOfMemory
             → (length list.now ≤ max_tokens)
             × (first_unmatched 0 (map (B.token tables.now) list.now) ≡ None) }
@@ -95,7 +98,7 @@ impl Expander {
     ///
     /// # Errors
     ///
-    /// Those of [`crate::expand`]. What is in `out` after an error is not said.
+    /// Those of [`Expander::expand`].
     pub fn expand_matched<T: Drop, B: Bodies<T>>(
         &mut self,
         tables: &B,
@@ -103,8 +106,9 @@ impl Expander {
         out: &mut Vec<T>,
     ) -> Result<(), ExpandError>
         requires { first_unmatched 0 (map (B.token tables.now) list.now) ≡ None }
-        ensures is { ExpandsTo result (map (B.token tables.now) out.new.items)
-            (expansion (B.macros tables.now) (map (B.token tables.now) list.now)) }
+        ensures is { StopsAs result (map (B.token tables.now) out.new.items)
+            (placed_expansion (B.placed tables.now) (B.macros tables.now)
+            (map (B.token tables.now) list.now)) }
         ensures memory { result ≡ Err OutOfMemory → length list.now ≤ max_tokens }
     {
         if list.len() > MAX_TOKENS {
@@ -124,14 +128,15 @@ impl Expander {
     ) -> Result<(), ExpandError>
         requires short { length list.now ≤ max_tokens }
         requires ends { AreEnds (map (B.token tables.now) list.now) ends.now }
-        ensures { ExpandsTo result (map (B.token tables.now) out.new.items)
-            (run (B.macros tables.now) max_steps 0 (map (B.token tables.now) list.now)) }
+        ensures { StopsAs result (map (B.token tables.now) out.new.items)
+            (placed_run (B.placed tables.now) (B.macros tables.now) max_steps 0
+            (map (B.token tables.now) list.now)) }
     {
         out.clear();
         out.reserve(list.len())?;
         start(tables, list, &mut self.parts, &mut self.rest)?;
         let mut steps = 0;
-        while let Some(found) = next_macro(
+        while let Some(next) = next_macro(
             tables,
             self.alloc,
             list,
@@ -144,9 +149,15 @@ impl Expander {
                 return Err(ExpandError::Budget { steps, length });
             }
             steps += 1;
-            match self.replace(tables, list, ends, found, out.len())? {
+            let called = Called {
+                number: next.found.body,
+                call: next.call,
+            };
+            match self.replace(tables, list, ends, next.found.params, called, out.len())? {
                 Replacement::NoArgument => {
-                    return Err(ExpandError::MissingArgument(out.len() as u32));
+                    let index = out.len() as u32;
+                    push_again(tables, self.alloc, next.item, &next.origin, out)?;
+                    return Err(ExpandError::MissingArgument(index));
                 }
                 Replacement::TooLong(length) => return Err(ExpandError::Budget { steps, length }),
                 Replacement::Done => {}
@@ -162,18 +173,22 @@ impl Expander {
         tables: &B,
         list: &[T],
         ends: &[u32],
-        found: Found,
+        params: u8,
+        called: Called,
         passed: usize,
     ) -> Result<Replacement, AllocError>
         requires ends { AreEnds (map (B.token tables.now) list.now) ends.now }
-        requires left { AreLeft (sources (B.token tables.now) (B.body tables.now) list.now)
+        requires left { AreLeft (sources (B.token tables.now) (B.placed tables.now) (B.body tables.now) list.now)
             self.old.parts.runs.items self.old.rest }
-        requires short { passed + length (left_of (sources (B.token tables.now) (B.body tables.now)
+        requires short { passed + length (left_of (sources (B.token tables.now) (B.placed tables.now) (B.body tables.now)
             list.now) self.old.parts.runs.items self.old.rest) ≤ max_tokens }
-        ensures { IfOk result (λ r. Replaces passed r found.params (B.body tables.now found.body)
-            (left_of (sources (B.token tables.now) (B.body tables.now) list.now)
+        requires call { called.call < length list.now }
+        ensures { IfOk result (λ r. Replaces passed r params
+            (called_body (B.placed tables.now) (map (B.token tables.now) list.now)
+            (B.body tables.now) called)
+            (left_of (sources (B.token tables.now) (B.placed tables.now) (B.body tables.now) list.now)
             self.old.parts.runs.items self.old.rest)
-            (sources (B.token tables.now) (B.body tables.now) list.now) self.new.parts.runs.items
+            (sources (B.token tables.now) (B.placed tables.now) (B.body tables.now) list.now) self.new.parts.runs.items
             self.new.rest) }
     {
         let all = take_arguments(
@@ -182,7 +197,7 @@ impl Expander {
             ends,
             &mut self.parts,
             &mut self.rest,
-            found.params,
+            params,
             &mut self.taken,
         )?;
         if !all {
@@ -192,7 +207,7 @@ impl Expander {
             tables,
             list,
             &self.parts,
-            found.body,
+            called,
             self.taken.as_slice(),
             &mut self.filled,
         )?;
@@ -219,9 +234,9 @@ fn start<T, B: Bodies<T>>(
     parts: &mut Parts,
     rest: &mut Rest,
 ) -> Result<(), AllocError>
-    ensures left { OnOk result (AreLeft (sources (B.token tables.now) (B.body tables.now) list.now)
+    ensures left { OnOk result (AreLeft (sources (B.token tables.now) (B.placed tables.now) (B.body tables.now) list.now)
         parts.new.runs.items rest.new) }
-    ensures is { OnOk result (left_of (sources (B.token tables.now) (B.body tables.now) list.now)
+    ensures is { OnOk result (left_of (sources (B.token tables.now) (B.placed tables.now) (B.body tables.now) list.now)
         parts.new.runs.items rest.new ≡ map (B.token tables.now) list.now) }
 {
     parts.runs.clear();

@@ -3,12 +3,12 @@ ghost use Rattle.std.specs.Prelude.{◌≡◌, ◌<◌, ◌≤◌, ◌+◌, ◌-
 ghost use Rattle.mt_token.specs.Character.{character_code};
 ghost use Rattle.mt_macro.specs.inner.Bodies.{begins_parameter, has_no_token, next_parameter};
 ghost use Rattle.mt_macro.specs.inner.Ends.{joined};
-ghost use Rattle.mt_macro.specs.inner.Runs.{sources, meanings, left_of, part, all_tokens, AreGiven, AreShort, AreRuns, AreLeft};
+ghost use Rattle.mt_macro.specs.inner.Runs.{sources, called_body, meanings, left_of, part, all_tokens, AreGiven, AreShort, AreRuns, AreLeft};
 ghost use Rattle.mt_macro.specs.inner.Fillings.{Fills, Puts};
 
 use crate::bodies::Bodies;
 use crate::parameters::is_hash;
-use crate::run::{Place, Run};
+use crate::run::{Called, Place, Run};
 use crate::stack::{Parts, Rest, item_at, items_in};
 use mt_token::Lexicon;
 use std::alloc::AllocError;
@@ -57,29 +57,31 @@ pub fn fill<T, B: Bodies<T>>(
     tables: &B,
     list: &[T],
     parts: &Parts,
-    number: usize,
+    called: Called,
     taken: &[Run],
     filled: &mut Rest,
 ) -> Result<(), AllocError>
-    requires given { AreGiven (sources (B.token tables.now) (B.body tables.now) list.now)
-        (meanings (sources (B.token tables.now) (B.body tables.now) list.now) parts.now.runs.items)
+    requires given { AreGiven (sources (B.token tables.now) (B.placed tables.now) (B.body tables.now) list.now)
+        (meanings (sources (B.token tables.now) (B.placed tables.now) (B.body tables.now) list.now) parts.now.runs.items)
         taken.now }
     requires short { AreShort taken.now }
-    ensures { OnOk result (Fills (sources (B.token tables.now) (B.body tables.now) list.now)
-        (meanings (sources (B.token tables.now) (B.body tables.now) list.now) parts.now.runs.items)
-        (B.body tables.now number) taken.now filled.new) }
+    requires call { called.call < length list.now }
+    ensures { OnOk result (Fills (sources (B.token tables.now) (B.placed tables.now) (B.body tables.now) list.now)
+        (meanings (sources (B.token tables.now) (B.placed tables.now) (B.body tables.now) list.now) parts.now.runs.items)
+        (called_body (B.placed tables.now) (map (B.token tables.now) list.now) (B.body tables.now) called)
+        taken.now filled.new) }
 {
     filled.runs.clear();
     filled.count = 0;
-    let body = tables.body(number);
+    let body = tables.body(called.number);
     let mut at = 0;
     while let Some(index) = next_parameter(tables, items_in(body, at, body.len())) {
-        put_items(tables, list, parts, number, at, at + index, filled)?;
+        put_items(tables, list, parts, called, at, at + index, filled)?;
         let digit = index_of(tables, item_at(body, at + index + 1));
         put_given(tables, list, parts, taken, digit, filled)?;
         at += index + 2;
     }
-    put_items(tables, list, parts, number, at, body.len(), filled)
+    put_items(tables, list, parts, called, at, body.len(), filled)
 }
 
 // Puts items of a body at the end.
@@ -87,22 +89,24 @@ fn put_items<T, B: Bodies<T>>(
     tables: &B,
     list: &[T],
     parts: &Parts,
-    number: usize,
+    called: Called,
     start: usize,
     end: usize,
     filled: &mut Rest,
 ) -> Result<(), AllocError>
-    requires within { end ≤ length (B.body tables.now number) }
+    requires within { end ≤ length (B.body tables.now called.number) }
+    requires call { called.call < length list.now }
     requires room { filled.old.count + (end - start) < 2 ^ 64 }
-    ensures { OnOk result (Puts (sources (B.token tables.now) (B.body tables.now) list.now)
-        (meanings (sources (B.token tables.now) (B.body tables.now) list.now) parts.now.runs.items)
-        filled.old filled.new (part start end (B.body tables.now number))) }
+    ensures { OnOk result (Puts (sources (B.token tables.now) (B.placed tables.now) (B.body tables.now) list.now)
+        (meanings (sources (B.token tables.now) (B.placed tables.now) (B.body tables.now) list.now) parts.now.runs.items)
+        filled.old filled.new (part start end (called_body (B.placed tables.now) (map (B.token tables.now) list.now)
+        (B.body tables.now) called))) }
 {
     if start >= end {
         return Ok(());
     }
     filled.runs.push(Run {
-        place: Place::Body(number),
+        place: Place::Body(called),
         start,
         end,
     })?;
@@ -127,16 +131,16 @@ fn put_given<T, B: Bodies<T>>(
     index: usize,
     filled: &mut Rest,
 ) -> Result<(), AllocError>
-    requires given { AreGiven (sources (B.token tables.now) (B.body tables.now) list.now)
-        (meanings (sources (B.token tables.now) (B.body tables.now) list.now) parts.now.runs.items)
+    requires given { AreGiven (sources (B.token tables.now) (B.placed tables.now) (B.body tables.now) list.now)
+        (meanings (sources (B.token tables.now) (B.placed tables.now) (B.body tables.now) list.now) parts.now.runs.items)
         taken.now }
     requires short { AreShort taken.now }
     requires room { filled.old.count < 2 ^ 63 + 2 ^ 62 }
-    ensures { OnOk result (Puts (sources (B.token tables.now) (B.body tables.now) list.now)
-        (meanings (sources (B.token tables.now) (B.body tables.now) list.now) parts.now.runs.items)
+    ensures { OnOk result (Puts (sources (B.token tables.now) (B.placed tables.now) (B.body tables.now) list.now)
+        (meanings (sources (B.token tables.now) (B.placed tables.now) (B.body tables.now) list.now) parts.now.runs.items)
         filled.old filled.new
-        (get_or (all_tokens (sources (B.token tables.now) (B.body tables.now) list.now)
-        (meanings (sources (B.token tables.now) (B.body tables.now) list.now) parts.now.runs.items)
+        (get_or (all_tokens (sources (B.token tables.now) (B.placed tables.now) (B.body tables.now) list.now)
+        (meanings (sources (B.token tables.now) (B.placed tables.now) (B.body tables.now) list.now) parts.now.runs.items)
         taken.now) index [])) }
 {
     if index >= taken.len() {
@@ -160,24 +164,24 @@ pub fn put_filled<T, B: Bodies<T>>(
     filled: &mut Rest,
     rest: &mut Rest,
 ) -> Result<(), AllocError>
-    requires left { AreLeft (sources (B.token tables.now) (B.body tables.now) list.now)
+    requires left { AreLeft (sources (B.token tables.now) (B.placed tables.now) (B.body tables.now) list.now)
         parts.now.runs.items rest.old }
-    requires runs { AreRuns (sources (B.token tables.now) (B.body tables.now) list.now)
-        (meanings (sources (B.token tables.now) (B.body tables.now) list.now) parts.now.runs.items)
+    requires runs { AreRuns (sources (B.token tables.now) (B.placed tables.now) (B.body tables.now) list.now)
+        (meanings (sources (B.token tables.now) (B.placed tables.now) (B.body tables.now) list.now) parts.now.runs.items)
         filled.old.runs.items }
-    requires short { length (left_of (sources (B.token tables.now) (B.body tables.now) list.now)
+    requires short { length (left_of (sources (B.token tables.now) (B.placed tables.now) (B.body tables.now) list.now)
         parts.now.runs.items rest.old)
-        + length (joined (all_tokens (sources (B.token tables.now) (B.body tables.now) list.now)
-        (meanings (sources (B.token tables.now) (B.body tables.now) list.now) parts.now.runs.items)
+        + length (joined (all_tokens (sources (B.token tables.now) (B.placed tables.now) (B.body tables.now) list.now)
+        (meanings (sources (B.token tables.now) (B.placed tables.now) (B.body tables.now) list.now) parts.now.runs.items)
         filled.old.runs.items)) < 2 ^ 63 }
-    ensures left { OnOk result (AreLeft (sources (B.token tables.now) (B.body tables.now) list.now)
+    ensures left { OnOk result (AreLeft (sources (B.token tables.now) (B.placed tables.now) (B.body tables.now) list.now)
         parts.now.runs.items rest.new) }
-    ensures is { OnOk result (left_of (sources (B.token tables.now) (B.body tables.now) list.now)
+    ensures is { OnOk result (left_of (sources (B.token tables.now) (B.placed tables.now) (B.body tables.now) list.now)
         parts.now.runs.items rest.new
-        ≡ joined (all_tokens (sources (B.token tables.now) (B.body tables.now) list.now)
-        (meanings (sources (B.token tables.now) (B.body tables.now) list.now) parts.now.runs.items)
+        ≡ joined (all_tokens (sources (B.token tables.now) (B.placed tables.now) (B.body tables.now) list.now)
+        (meanings (sources (B.token tables.now) (B.placed tables.now) (B.body tables.now) list.now) parts.now.runs.items)
         filled.old.runs.items)
-        ++ left_of (sources (B.token tables.now) (B.body tables.now) list.now) parts.now.runs.items
+        ++ left_of (sources (B.token tables.now) (B.placed tables.now) (B.body tables.now) list.now) parts.now.runs.items
         rest.old) }
 {
     while let Some(run) = filled.runs.pop() {

@@ -20,15 +20,15 @@ pub fn bound_parts<T, B: Bodies<T>>(
     rest: &mut Rest,
     used: &mut Rest,
 ) -> Result<(), AllocError>
-    requires left { AreLeft (sources (B.token tables.now) (B.body tables.now) list.now)
+    requires left { AreLeft (sources (B.token tables.now) (B.placed tables.now) (B.body tables.now) list.now)
         parts.old.runs.items rest.old }
-    requires short { length (left_of (sources (B.token tables.now) (B.body tables.now) list.now)
+    requires short { length (left_of (sources (B.token tables.now) (B.placed tables.now) (B.body tables.now) list.now)
         parts.old.runs.items rest.old) < 2 ^ 63 }
-    ensures left { OnOk result (AreLeft (sources (B.token tables.now) (B.body tables.now) list.now)
+    ensures left { OnOk result (AreLeft (sources (B.token tables.now) (B.placed tables.now) (B.body tables.now) list.now)
         parts.new.runs.items rest.new) }
-    ensures is { OnOk result (left_of (sources (B.token tables.now) (B.body tables.now) list.now)
+    ensures is { OnOk result (left_of (sources (B.token tables.now) (B.placed tables.now) (B.body tables.now) list.now)
         parts.new.runs.items rest.new
-        ≡ left_of (sources (B.token tables.now) (B.body tables.now) list.now) parts.old.runs.items
+        ≡ left_of (sources (B.token tables.now) (B.placed tables.now) (B.body tables.now) list.now) parts.old.runs.items
         rest.old) }
 {
     if parts.runs.len() <= MAX_PARTS {
@@ -49,15 +49,15 @@ fn take_basic<T, B: Bodies<T>>(
     rest: &mut Rest,
     taken: &mut Rest,
 ) -> Result<(), AllocError>
-    requires left { AreLeft (sources (B.token tables.now) (B.body tables.now) list.now)
+    requires left { AreLeft (sources (B.token tables.now) (B.placed tables.now) (B.body tables.now) list.now)
         parts.now.runs.items rest.old }
-    requires short { length (left_of (sources (B.token tables.now) (B.body tables.now) list.now)
+    requires short { length (left_of (sources (B.token tables.now) (B.placed tables.now) (B.body tables.now) list.now)
         parts.now.runs.items rest.old) < 2 ^ 63 }
-    ensures basic { OnOk result (AreBasicRuns (sources (B.token tables.now) (B.body tables.now)
+    ensures basic { OnOk result (AreBasicRuns (sources (B.token tables.now) (B.placed tables.now) (B.body tables.now)
         list.now) taken.new.runs.items) }
     ensures is { OnOk result (joined (all_tokens
-        (sources (B.token tables.now) (B.body tables.now) list.now) [] taken.new.runs.items)
-        ≡ left_of (sources (B.token tables.now) (B.body tables.now) list.now) parts.now.runs.items
+        (sources (B.token tables.now) (B.placed tables.now) (B.body tables.now) list.now) [] taken.new.runs.items)
+        ≡ left_of (sources (B.token tables.now) (B.placed tables.now) (B.body tables.now) list.now) parts.now.runs.items
         rest.old) }
 {
     taken.runs.clear();

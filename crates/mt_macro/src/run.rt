@@ -7,12 +7,22 @@ ghost use Rattle.mt_macro.specs.inner.Lengths.{run_len, is_opened, is_remainder}
 pub enum Place {
     /// In the list that is given.
     Given,
-    /// In the body with this number.
-    Body(usize),
+    /// In the body of a macro that is called.
+    Body(Called),
     /// A whole argument, of so many tokens; its parts are among those that are kept.
     Argument(usize),
     /// What is left of an argument, so many tokens, after its first parts.
     Remainder(usize),
+}
+
+/// A body that is put where its macro is called.
+#[derive(Clone, Copy, Debug)]
+pub struct Called {
+    /// The number of the body.
+    pub number: usize,
+    /// The index, in the list that is given, of the item that calls the macro, or calls the macro in
+    /// the body of which its call is, and so on.
+    pub call: usize,
 }
 
 /// A run of items, by the index of its first one and the index past its last one: in the list given

@@ -1,7 +1,7 @@
 //! A stack of runs: the tokens that are left to read.
 ghost use Rattle.std.specs.Prelude.{◌≡◌, ◌<◌, ◌≤◌, ◌^◌, ◌∷◌, [], ◌++◌, ◌+◌, ◌-◌, true, IfOk, OnOk, length, map, get_or};
 ghost use Rattle.mt_macro.specs.inner.Lengths.{run_len, depth, is_opened, IsBasic};
-ghost use Rattle.mt_macro.specs.inner.Runs.{sources, meanings, left_of, part, place_tokens, IsRun, AreParts, AreRuns, AreLeft};
+ghost use Rattle.mt_macro.specs.inner.Runs.{sources, meanings, left_of, part, place_tokens, read_at, IsRun, AreParts, AreRuns, AreLeft};
 ghost use Rattle.mt_macro.specs.inner.Runs.{Opens, Gives, GivesBasic, GivesTokenIf};
 
 use crate::bodies::Bodies;
@@ -35,12 +35,12 @@ pub struct Single<'a, T> {
 
 /// The items of the list given or of a body; none where the items are parts of an argument.
 pub fn items_of<'a, T, B: Bodies<T>>(tables: &'a B, list: &'a [T], place: Place) -> &'a [T]
-    ensures { map (B.token tables.now) result.now ≡ place_tokens
-        (sources (B.token tables.now) (B.body tables.now) list.now) place }
+    ensures { map (read_at (B.token tables.now) (B.placed tables.now) list.now place) result.now
+        ≡ place_tokens (sources (B.token tables.now) (B.placed tables.now) (B.body tables.now) list.now) place }
 {
     match place {
         Place::Given => list,
-        Place::Body(number) => tables.body(number),
+        Place::Body(called) => tables.body(called.number),
         Place::Argument(_) | Place::Remainder(_) => &[],
     }
 }
@@ -99,16 +99,16 @@ fn open<T, B: Bodies<T>>(
     run: Run,
     runs: &mut Vec<Run>,
 ) -> Result<Run, AllocError>
-    requires parts { AreParts (sources (B.token tables.now) (B.body tables.now) list.now) []
+    requires parts { AreParts (sources (B.token tables.now) (B.placed tables.now) (B.body tables.now) list.now) []
         parts.now.runs.items }
-    requires runs { AreRuns (sources (B.token tables.now) (B.body tables.now) list.now)
-        (meanings (sources (B.token tables.now) (B.body tables.now) list.now) parts.now.runs.items)
+    requires runs { AreRuns (sources (B.token tables.now) (B.placed tables.now) (B.body tables.now) list.now)
+        (meanings (sources (B.token tables.now) (B.placed tables.now) (B.body tables.now) list.now) parts.now.runs.items)
         runs.old.items }
-    requires run { IsRun (sources (B.token tables.now) (B.body tables.now) list.now)
-        (meanings (sources (B.token tables.now) (B.body tables.now) list.now) parts.now.runs.items)
+    requires run { IsRun (sources (B.token tables.now) (B.placed tables.now) (B.body tables.now) list.now)
+        (meanings (sources (B.token tables.now) (B.placed tables.now) (B.body tables.now) list.now) parts.now.runs.items)
         run }
     requires opened { is_opened run.place ≡ true }
-    ensures is { IfOk result (λ first. Opens (sources (B.token tables.now) (B.body tables.now)
+    ensures is { IfOk result (λ first. Opens (sources (B.token tables.now) (B.placed tables.now) (B.body tables.now)
         list.now) parts.now.runs.items runs.old.items runs.new.items run first) }
     ensures older { IfOk result (λ first. depth first < depth run) }
 {
@@ -132,15 +132,15 @@ fn first_whole<T, B: Bodies<T>>(
     run: Run,
     runs: &mut Vec<Run>,
 ) -> Result<Run, AllocError>
-    requires parts { AreParts (sources (B.token tables.now) (B.body tables.now) list.now) []
+    requires parts { AreParts (sources (B.token tables.now) (B.placed tables.now) (B.body tables.now) list.now) []
         parts.now.runs.items }
-    requires runs { AreRuns (sources (B.token tables.now) (B.body tables.now) list.now)
-        (meanings (sources (B.token tables.now) (B.body tables.now) list.now) parts.now.runs.items)
+    requires runs { AreRuns (sources (B.token tables.now) (B.placed tables.now) (B.body tables.now) list.now)
+        (meanings (sources (B.token tables.now) (B.placed tables.now) (B.body tables.now) list.now) parts.now.runs.items)
         runs.old.items }
-    requires run { IsRun (sources (B.token tables.now) (B.body tables.now) list.now)
-        (meanings (sources (B.token tables.now) (B.body tables.now) list.now) parts.now.runs.items)
+    requires run { IsRun (sources (B.token tables.now) (B.placed tables.now) (B.body tables.now) list.now)
+        (meanings (sources (B.token tables.now) (B.placed tables.now) (B.body tables.now) list.now) parts.now.runs.items)
         run }
-    ensures { IfOk result (λ first. Opens (sources (B.token tables.now) (B.body tables.now)
+    ensures { IfOk result (λ first. Opens (sources (B.token tables.now) (B.placed tables.now) (B.body tables.now)
         list.now) parts.now.runs.items runs.old.items runs.new.items run first) }
 {
     if run.is_remainder() {
@@ -157,9 +157,9 @@ pub fn next_run<T, B: Bodies<T>>(
     parts: &Parts,
     rest: &mut Rest,
 ) -> Result<Option<Run>, AllocError>
-    requires { AreLeft (sources (B.token tables.now) (B.body tables.now) list.now)
+    requires { AreLeft (sources (B.token tables.now) (B.placed tables.now) (B.body tables.now) list.now)
         parts.now.runs.items rest.old }
-    ensures { IfOk result (λ found. Gives (sources (B.token tables.now) (B.body tables.now)
+    ensures { IfOk result (λ found. Gives (sources (B.token tables.now) (B.placed tables.now) (B.body tables.now)
         list.now) parts.now.runs.items rest.old rest.new found) }
 {
     match rest.runs.pop() {
@@ -179,11 +179,11 @@ pub fn next_basic<T, B: Bodies<T>>(
     parts: &Parts,
     rest: &mut Rest,
 ) -> Result<Option<Run>, AllocError>
-    requires left { AreLeft (sources (B.token tables.now) (B.body tables.now) list.now)
+    requires left { AreLeft (sources (B.token tables.now) (B.placed tables.now) (B.body tables.now) list.now)
         parts.now.runs.items rest.old }
-    requires short { length (left_of (sources (B.token tables.now) (B.body tables.now) list.now)
+    requires short { length (left_of (sources (B.token tables.now) (B.placed tables.now) (B.body tables.now) list.now)
         parts.now.runs.items rest.old) < 2 ^ 63 }
-    ensures { IfOk result (λ found. GivesBasic (sources (B.token tables.now) (B.body tables.now)
+    ensures { IfOk result (λ found. GivesBasic (sources (B.token tables.now) (B.placed tables.now) (B.body tables.now)
         list.now) parts.now.runs.items rest.old rest.new found) }
 {
     let Some(mut run) = next_run(tables, list, parts, rest)? else {
@@ -204,12 +204,12 @@ pub fn next_token<'a, T, B: Bodies<T>>(
     parts: &Parts,
     rest: &mut Rest,
 ) -> Result<Option<Single<'a, T>>, AllocError>
-    requires left { AreLeft (sources (B.token tables.now) (B.body tables.now) list.now)
+    requires left { AreLeft (sources (B.token tables.now) (B.placed tables.now) (B.body tables.now) list.now)
         parts.now.runs.items rest.old }
-    requires short { length (left_of (sources (B.token tables.now) (B.body tables.now) list.now)
+    requires short { length (left_of (sources (B.token tables.now) (B.placed tables.now) (B.body tables.now) list.now)
         parts.now.runs.items rest.old) < 2 ^ 63 }
-    ensures { IfOk result (λ found. GivesTokenIf (B.token tables.now)
-        (sources (B.token tables.now) (B.body tables.now) list.now) parts.now.runs.items rest.old
+    ensures { IfOk result (λ found. GivesTokenIf (read_at (B.token tables.now) (B.placed tables.now) list.now)
+        (sources (B.token tables.now) (B.placed tables.now) (B.body tables.now) list.now) parts.now.runs.items rest.old
         rest.new found) }
 {
     let Some(run) = next_basic(tables, list, parts, rest)? else {
@@ -221,12 +221,12 @@ pub fn next_token<'a, T, B: Bodies<T>>(
 
 // The first item of a run.
 fn first_single<'a, T, B: Bodies<T>>(tables: &'a B, list: &'a [T], run: Run) -> Single<'a, T>
-    requires { run.start < length (place_tokens (sources (B.token tables.now) (B.body tables.now)
+    requires { run.start < length (place_tokens (sources (B.token tables.now) (B.placed tables.now) (B.body tables.now)
         list.now) run.place) }
     ensures run { result.run ≡ record { place = run.place; start = run.start; end = run.start + 1 } }
     ensures item { part run.start (run.start + 1)
-        (place_tokens (sources (B.token tables.now) (B.body tables.now) list.now) run.place) ≡
-        B.token tables.now result.item.now ∷ [] }
+        (place_tokens (sources (B.token tables.now) (B.placed tables.now) (B.body tables.now) list.now) run.place) ≡
+        read_at (B.token tables.now) (B.placed tables.now) list.now run.place result.item.now ∷ [] }
 {
     let items = items_of(tables, list, run.place);
     Single {
@@ -248,21 +248,21 @@ pub fn put_from<T, B: Bodies<T>>(
     from: usize,
     rest: &mut Rest,
 ) -> Result<(), AllocError>
-    requires left { AreLeft (sources (B.token tables.now) (B.body tables.now) list.now)
+    requires left { AreLeft (sources (B.token tables.now) (B.placed tables.now) (B.body tables.now) list.now)
         parts.now.runs.items rest.old }
-    requires run { IsRun (sources (B.token tables.now) (B.body tables.now) list.now)
-        (meanings (sources (B.token tables.now) (B.body tables.now) list.now) parts.now.runs.items)
+    requires run { IsRun (sources (B.token tables.now) (B.placed tables.now) (B.body tables.now) list.now)
+        (meanings (sources (B.token tables.now) (B.placed tables.now) (B.body tables.now) list.now) parts.now.runs.items)
         run }
     requires basic { IsBasic run.place }
     requires from { run.start ≤ from }
-    requires short { length (left_of (sources (B.token tables.now) (B.body tables.now) list.now)
+    requires short { length (left_of (sources (B.token tables.now) (B.placed tables.now) (B.body tables.now) list.now)
         parts.now.runs.items rest.old) + (run.end - from) < 2 ^ 63 }
-    ensures left { OnOk result (AreLeft (sources (B.token tables.now) (B.body tables.now) list.now)
+    ensures left { OnOk result (AreLeft (sources (B.token tables.now) (B.placed tables.now) (B.body tables.now) list.now)
         parts.now.runs.items rest.new) }
-    ensures is { OnOk result (left_of (sources (B.token tables.now) (B.body tables.now) list.now)
+    ensures is { OnOk result (left_of (sources (B.token tables.now) (B.placed tables.now) (B.body tables.now) list.now)
         parts.now.runs.items rest.new
-        ≡ part from run.end (place_tokens (sources (B.token tables.now) (B.body tables.now)
-        list.now) run.place) ++ left_of (sources (B.token tables.now) (B.body tables.now) list.now)
+        ≡ part from run.end (place_tokens (sources (B.token tables.now) (B.placed tables.now) (B.body tables.now)
+        list.now) run.place) ++ left_of (sources (B.token tables.now) (B.placed tables.now) (B.body tables.now) list.now)
         parts.now.runs.items rest.old) }
 {
     if from >= run.end {

@@ -11,7 +11,7 @@ ghost use Rattle.mt_macro.specs.Table.{macro_of, is_own, own_count, with_macro};
 ghost use Rattle.mt_macro.specs.inner.Entries.{table_of, body_at, HasAt, IsPlace};
 ghost use Rattle.mt_macro.specs.Naming.{IsMacro};
 
-use crate::bodies::{Bodies, Found};
+use crate::bodies::{Bodies, Call, Found};
 use crate::name_marks::NameMarks;
 use mt_scaled::Name;
 use mt_token::{LentKind, Lexicon, OwnTokens, Token, TokenKind, TokenList};
@@ -93,6 +93,17 @@ impl Macros {
     {
         match self.entries.as_slice().get(index) {
             Some(entry) => Some(entry),
+            None => None,
+        }
+    }
+
+    /// The name of the macro with a number, which is its index in the order of the names; `None` where
+    /// the macros are no more than that. [`Macros::entry`] says whether the name is the user's own.
+    pub fn name_of(&self, number: usize) -> Option<&Name>
+        ensures { option_copied result ≡ option_map (λ e. e.0) (slice_get self.now number) }
+    {
+        match self.entry(number) {
+            Some(entry) => Some(&entry.name),
             None => None,
         }
     }
@@ -194,11 +205,18 @@ impl Lexicon<Token> for Macros {
 }
 
 impl Bodies<Token> for Macros {
+    ghost use Rattle.std.specs.Prelude.{refl};
     ghost use Rattle.mt_macro.specs.inner.Entries.{body_at};
 
     ghost macros = { λ m. m };
 
     ghost body = { λ m n. body_at m n };
+
+    ghost placed = { λ _ _ t. t };
+
+    ghost kept = { λ _ _ _. refl };
+
+    ghost nested = { λ _ _ _ _. refl };
 
     fn macro_at(&self, item: &Token) -> Option<Found> {
         match &item.kind {
@@ -214,7 +232,12 @@ impl Bodies<Token> for Macros {
         }
     }
 
-    fn again(&self, alloc: Global, item: &Token) -> Result<Token, AllocError> {
+    fn put(
+        &self,
+        alloc: Global,
+        item: &Token,
+        _: &Option<Call<'_, Token>>,
+    ) -> Result<Token, AllocError> {
         item.copied(alloc)
     }
 }

@@ -5,7 +5,7 @@ use crate::kept::{body_items, kept_at};
 use crate::name_roles::role_numbered;
 use crate::tables::Tables;
 use mt_lexicon::{Word, WordKind, name_number};
-use mt_macro::{Bodies, Found};
+use mt_macro::{Bodies, Call, Found};
 use mt_scan::{Role, Roles, character_role};
 use mt_token::{LentKind, Lexicon};
 use std::alloc::{AllocError, Global};
@@ -68,9 +68,17 @@ impl Roles<Word> for Tables {
 }
 
 impl Bodies<Word> for Tables {
+    ghost use Rattle.std.specs.Prelude.{refl};
+
     ghost macros = { λ h. h.macros };
 
     ghost body = { body_numbered };
+
+    ghost placed = { λ _ _ t. t };
+
+    ghost kept = { λ _ _ _. refl };
+
+    ghost nested = { λ _ _ _ _. refl };
 
     #[inline]
     fn macro_at(&self, item: &Word) -> Option<Found> {
@@ -86,7 +94,7 @@ impl Bodies<Word> for Tables {
     }
 
     #[inline]
-    fn again(&self, _alloc: Global, item: &Word) -> Result<Word, AllocError> {
+    fn put(&self, _: Global, item: &Word, _: &Option<Call<'_, Word>>) -> Result<Word, AllocError> {
         Ok(*item)
     }
 }

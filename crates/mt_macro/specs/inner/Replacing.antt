@@ -1,9 +1,10 @@
 -- What became of a macro and its arguments in a step.
-use Rattle.std.specs.Prelude.{◌≡◌, ℕ, ◌+◌, ◌<◌, ◌≤◌, List, length}
+use Rattle.std.specs.Prelude.{◌≡◌, ℕ, ◌+◌, ◌<◌, ◌≤◌, List, length, map}
 use Rattle.mt_token.specs.declared.token.Token.{Token}
 use Rattle.mt_macro.specs.Limits.{max_tokens}
 use Rattle.mt_macro.specs.Arguments.{arguments}
-use Rattle.mt_macro.specs.Expansion.{MacroStep, Missing, Next, replacement}
+use Rattle.mt_macro.specs.Expansion.{MacroStep, Missing, Next}
+use Rattle.mt_macro.specs.PlacedExpansion.{Placing, placed_replacement}
 use Rattle.mt_macro.specs.declared.table.Macro.{Macro}
 use Rattle.mt_macro.specs.declared.run.Run.{Run}
 use Rattle.mt_macro.specs.declared.stack.Rest.{Rest}
@@ -35,7 +36,7 @@ AreLeftAfter NoArgument src parts rest = Unit {0}
 AreLeftAfter (TooLong n) src parts rest = Unit {0}
 AreLeftAfter Done src parts rest = AreLeft src parts rest
 
--- the same of each macro with so many parameters and this body, where these tokens follow it
+-- the same of each macro with so many parameters, of which this is the body where a token calls it, where these tokens follow it
 pub record Replaces (passed : ℕ) (r : Replacement) (params : ℕ) (body before : List Token) (src : Sources) (parts : List Run) (rest : Rest) : Type 0 where
-  pub is : (m : Macro) → m.params ≡ params → m.body ≡ body → ReplacesBy passed r (replacement m (arguments m.params before)) (left_of src parts rest)
+  pub is : (placed : Placing) (call : Token) (m : Macro) → m.params ≡ params → map (placed call) m.body ≡ body → ReplacesBy passed r (placed_replacement placed call m (arguments m.params before)) (left_of src parts rest)
   pub below : AreLeftAfter r src parts rest

@@ -1,9 +1,11 @@
 -- The tokens of runs.
-use Rattle.std.specs.Prelude.{◌≡◌, ℕ, ◌+◌, ◌-◌, ◌<◌, ◌≤◌, ◌^◌, Bool, true, false, List, [], ◌∷◌, ◌++◌, length, take, drop, map, Option, Some, None}
+use Rattle.std.specs.Prelude.{◌≡◌, ℕ, ◌+◌, ◌-◌, ◌<◌, ◌≤◌, ◌^◌, Bool, true, false, List, [], ◌∷◌, ◌++◌, length, take, drop, map, get_or, Option, Some, None}
 use Rattle.std.specs.Option.{option_map}
 use Rattle.mt_token.specs.declared.token.Token.{Token}
 use Rattle.mt_macro.specs.Braces.{Taken}
 use Rattle.mt_macro.specs.Arguments.{Arguments}
+use Rattle.mt_macro.specs.PlacedExpansion.{Placing}
+use Rattle.mt_macro.specs.declared.run.Called.{Called}
 use Rattle.mt_macro.specs.declared.run.Run.{Run}
 use Rattle.mt_macro.specs.declared.run.Place.{Place}
 use Rattle.mt_macro.specs.declared.run.Place.TheVariants.{Given, Body, Argument, Remainder}
@@ -15,13 +17,24 @@ use Rattle.mt_macro.specs.declared.closing.Closing.TheVariants.{At, Open}
 use Rattle.mt_macro.specs.inner.Closings.{Closes}
 use Rattle.mt_macro.specs.inner.Lengths.{run_len, IsBasic, IsWhole}
 
--- the list that is given, and the bodies by their numbers
+-- the list that is given, and the bodies that macros of it call
 pub record Sources : Type 0 where
   pub list : List Token
-  pub body : ℕ → List Token
+  pub body : Called → List Token
 
-abbrev pub sources : {T : Type 0} → (T → Token) → (ℕ → List Token) → List T → Sources
-sources token body list = record { list = map token list; body = body }
+-- a body as it is put where the token of the list with an index calls it
+abbrev pub called_body : Placing → List Token → (ℕ → List Token) → Called → List Token
+called_body placed list body c = map (λ (t : Token). placed (get_or list c.call t) t) (body c.number)
+
+abbrev pub sources : {T : Type 0} → (T → Token) → Placing → (ℕ → List Token) → List T → Sources
+sources token placed body list = record { list = map token list; body = called_body placed (map token list) body }
+
+-- what an item of a place is read as
+abbrev pub read_at : {T : Type 0} → (T → Token) → Placing → List T → Place → T → Token
+read_at token placed list Given = token
+read_at token placed list (Body c) = λ x. placed (get_or (map token list) c.call (token x)) (token x)
+read_at token placed list (Argument count) = token
+read_at token placed list (Remainder count) = token
 
 -- a part of a list, by the index of its first item and the index past its last one
 abbrev pub part : {A : Type 0} → ℕ → ℕ → List A → List A
@@ -52,7 +65,7 @@ IsBalanced xs =
 
 abbrev pub IsRunAt : Sources → List (List Token) → Place → ℕ → ℕ → Type 0
 IsRunAt src ms Given start end = (start < end) × (end ≤ length src.list)
-IsRunAt src ms (Body n) start end = (start < end) × (end ≤ length (src.body n))
+IsRunAt src ms (Body c) start end = (start < end) × (end ≤ length (src.body c)) × (c.call < length src.list)
 IsRunAt src ms (Argument count) start end =
     (start < end) × (end ≤ length ms) × (count ≡ length (joined (part start end ms))) × (0 < count)
     × IsBalanced (joined (part start end ms))
@@ -119,9 +132,9 @@ pub record GivesToken (src : Sources) (parts : List Run) (before after : Rest) (
   pub alone : run_tokens src (meanings src parts) run ≡ t ∷ []
   pub is : left_of src parts before ≡ t ∷ left_of src parts after
 
-abbrev pub GivesTokenIf : {T : Type 0} → (T → Token) → Sources → List Run → Rest → Rest → Option (Single T) → Type 0
-GivesTokenIf token src parts before after None = left_of src parts before ≡ []
-GivesTokenIf token src parts before after (Some s) = GivesToken src parts before after (token s.item.now) s.run
+abbrev pub GivesTokenIf : {T : Type 0} → (Place → T → Token) → Sources → List Run → Rest → Rest → Option (Single T) → Type 0
+GivesTokenIf read src parts before after None = left_of src parts before ≡ []
+GivesTokenIf read src parts before after (Some s) = GivesToken src parts before after (read s.run.place s.item.now) s.run
 
 -- an argument that is given to a body: it may be empty
 pub record IsGiven (src : Sources) (ms : List (List Token)) (r : Run) : Type 0 where
@@ -212,3 +225,17 @@ ends_at ends (Remainder count) start = []
 
 abbrev pub IsEndsOf : List ℕ → Run → List ℕ → Type 0
 IsEndsOf ends r known = known ≡ ends_at ends r.place r.start
+
+-- the call of a body is in the list that is given
+abbrev pub IsCallIn : {T : Type 0} → List T → Place → Type 0
+IsCallIn list Given = Unit {0}
+IsCallIn list (Body c) = c.call < length list
+IsCallIn list (Argument count) = Unit {0}
+IsCallIn list (Remainder count) = Unit {0}
+
+-- the call of a macro at an index of a place
+abbrev pub call_at : Place → ℕ → ℕ
+call_at Given index = index
+call_at (Body c) index = c.call
+call_at (Argument count) index = index
+call_at (Remainder count) index = index
