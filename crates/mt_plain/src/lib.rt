@@ -16,3 +16,4 @@ pub use codes::{Codes, MAX_DELIMITER_CODE, MAX_MATH_CODE};
 pub use error::CodeError;
 pub use macros::plain_macros;
 pub use meaning::{Command, Meaning};
+pub use names::meaning_name;

@@ -1,7 +1,7 @@
 //! What names mean.
-ghost use Rattle.std.specs.Prelude.{◌≡◌, ◌<◌, ◌≤◌, ◌-◌, length, take, drop};
+ghost use Rattle.std.specs.Prelude.{◌≡◌, ◌<◌, ◌≤◌, ◌-◌, IfSome, IsSome, length, take, drop};
 ghost use Rattle.std.specs.Str.{bytes_eq};
-ghost use Rattle.mt_plain.specs.Names.{control, row_name};
+ghost use Rattle.mt_plain.specs.Names.{control, name_length, row_name};
 ghost use Rattle.mt_plain.specs.inner.Buckets.{AreBuckets, in_rows, rows_in, slot_count, slot_of, start_of};
 
 use crate::meaning::Meaning;
@@ -80,4 +80,38 @@ pub fn meaning_of(name: &[u8]) -> Option<Meaning>
     ensures { result ≡ control name.now }
 {
     in_rows(rows_in(name_index(), slot_of(name)), name)
+}
+
+// How many bytes there are before the first blank.
+fn name_length(bytes: &[u8]) -> usize
+    ensures is { result ≡ name_length bytes.now }
+    ensures within { result ≤ length bytes.now }
+{
+    let mut count = 0;
+    for byte in bytes {
+        if *byte == b' ' {
+            return count;
+        }
+        count += 1;
+    }
+    count
+}
+
+// The name of a row.
+fn row_name(row: &'static NameRow) -> &'static [u8]
+    ensures { result.now ≡ row_name row.now }
+{
+    let bytes: &'static [u8] = &row.0;
+    &bytes[..name_length(bytes)]
+}
+
+/// The names that mean something in a formula, by their indexes from 0, in an order of their own; `None` past the last
+/// one.
+pub fn meaning_name(index: usize) -> Option<&'static [u8]>
+    ensures { IfSome result (λ name. IsSome (control name.now)) }
+{
+    match name_index().rows.get(index) {
+        Some(row) => Some(row_name(row)),
+        None => None,
+    }
 }
