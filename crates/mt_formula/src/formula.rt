@@ -18,7 +18,6 @@ ghost use Rattle.mt_formula.specs.reading.Formulas.{ReadsFormulaInto, ReadsWhole
 ghost use Rattle.mt_formula.specs.reading.Reads.{ReadsInto, whole};
 ghost use Rattle.mt_formula.specs.reading.Stops.{HasFault};
 
-use crate::read_error::ReadError;
 use crate::reading::context::{Grammar, Group};
 use crate::reading::displays::read_display;
 use crate::reading::ends::Ending;
@@ -28,7 +27,7 @@ use crate::reading::whole_list::span_of;
 use mt_arena::{Arena, Span, SpanBody, SpanFormula, SpanTag};
 use mt_scaled::Units;
 use mt_scan::items::after_blanks;
-use mt_scan::{ReadCause, Role, Roles, Scanned};
+use mt_scan::{ReadCause, ReadError, Role, Roles, Scanned};
 
 // Where the body of a formula ends.
 fn body_ending(display: bool) -> Ending
@@ -148,23 +147,11 @@ fn formula_parts<T, R: Roles<T>>(
     }
 }
 
+// The error of a cause at a place.
 fn error_at(cause: ReadCause, place: u32) -> ReadError
     ensures { IsFault result (ReadFault cause place) }
 {
-    match cause {
-        ReadCause::UnknownName => ReadError::UnknownName(place),
-        ReadCause::DoubleScript => ReadError::DoubleScript(place),
-        ReadCause::TwoFractions => ReadError::TwoFractions(place),
-        ReadCause::BadDelimiter => ReadError::BadDelimiter(place),
-        ReadCause::Unbalanced => ReadError::Unbalanced(place),
-        ReadCause::MisplacedLimits => ReadError::MisplacedLimits(place),
-        ReadCause::MissingField => ReadError::MissingField(place),
-        ReadCause::BadNumber => ReadError::BadNumber(place),
-        ReadCause::BadDimension => ReadError::BadDimension(place),
-        ReadCause::MisplacedNumber => ReadError::MisplacedNumber(place),
-        ReadCause::TooDeep => ReadError::TooDeep(place),
-        ReadCause::ExtraCell => ReadError::ExtraCell(place),
-    }
+    cause.at(place)
 }
 
 // The error of a formula of so many tokens.

@@ -5,12 +5,11 @@ mod actions;
 mod formula;
 pub mod items;
 mod laws;
-mod read_error;
 mod reading;
 mod tokens;
 
 pub use laws::{
     parts_of_lists_count_no_turns, reading_counts_no_turns, tokens_are_a_formula_or_at_fault,
 };
-pub use read_error::ReadError;
+pub use mt_scan::ReadError;
 pub use tokens::{read_formula, read_spans};

@@ -11,11 +11,11 @@ ghost use Rattle.mt_formula.specs.Tags.{IsTagPlaced};
 ghost use Rattle.mt_formula.specs.reading.Formulas.{ReadsFormulaInto};
 
 use crate::items;
-use crate::read_error::ReadError;
 use mt_arena::{Arena, SpanFormula, formula_of};
 use mt_plain::Codes;
 use mt_rules::{Body, Tag};
 use mt_scaled::Units;
+use mt_scan::ReadError;
 use mt_token::Token;
 use std::alloc::Global;
 

@@ -5,7 +5,7 @@ use Rattle.mt_arena.specs.declared.formulas.SpanFormula.{SpanFormula}
 use Rattle.mt_arena.specs.Arena.{ArenaValue, Held}
 use Rattle.mt_arena.specs.Formulas.{body_in, tag_in}
 use Rattle.mt_scan.specs.Parts.{Read, Got}
-use Rattle.mt_formula.specs.declared.read_error.ReadError.{ReadError}
+use Rattle.mt_scan.specs.declared.fault.ReadError.{ReadError}
 use Rattle.mt_formula.specs.declared.reading.stop.Stop.{Stop}
 use Rattle.mt_formula.specs.Answers.{IsFault}
 use Rattle.mt_formula.specs.Formulas.{Reading, Reads}
