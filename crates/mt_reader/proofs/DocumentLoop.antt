@@ -10,7 +10,7 @@ use Rattle.mt_reader.specs.declared.outside_role.OutsideRole.{OutsideRole}
 use Rattle.mt_reader.specs.declared.outside_role.OutsideRole.TheVariants.{Passed, Defines, SetsMathCode, SetsDelimiterCode, BeginsFormula, EndsPage, EndsDocument, Misplaced}
 use Rattle.mt_macro.specs.declared.expansion.ExpandError.{ExpandError}
 use Rattle.mt_macro.specs.declared.expansion.ExpandError.TheVariants.{Budget, MissingArgument, Unbalanced as UnbalancedList, TooLong, OutOfMemory as NoMemoryToExpand}
-use Rattle.mt_formula.specs.Errors.{PlacedCause, read_error_fault}
+use Rattle.mt_scan.specs.Errors.{PlacedCause, read_error_fault}
 use Rattle.mt_reader.specs.declared.document_error.DocError.{DocError}
 use Rattle.mt_reader.specs.declared.document_error.DocError.TheVariants.{Source, Outside, Expand, Read, Total, Pages, OutOfMemory}
 use Rattle.mt_reader.specs.Documents.{DocumentState, DocumentFault, DocumentAnswer, DocumentTurn, Goes, Ends, Stops, StopsOutside, start_state, state_pages, with_page, is_empty_page, after_page_end, turn_by, outside_role, turn_answer, pages_from, document}
@@ -32,7 +32,7 @@ at_token units whole turns s t after = refl
 
 -- ---- pages
 
-count_more : (read : List (List Formula)) (page : List Formula) → length (read ++ page ∷ []) ≡ length read + 1
+pub count_more : (read : List (List Formula)) (page : List Formula) → length (read ++ page ∷ []) ≡ length read + 1
 count_more read page = omega (arith, length-append read (page ∷ []))
 
 page_some : (read : List (List Formula)) (page : List Formula) → is_empty_page page ≡ false → with_page read page ≡ read ++ page ∷ []
@@ -45,12 +45,12 @@ pages_with read None = read
 pages_with read (Some page) = read ++ page ∷ []
 
 -- the state after a page
-state_more : (read : List (List Formula)) (page : List Formula) (old new : StateView) → IsTaken page old new → after_page_end (read_state read old) ≡ read_state (read ++ page ∷ []) new
+pub state_more : (read : List (List Formula)) (page : List Formula) (old new : StateView) → IsTaken page old new → after_page_end (read_state read old) ≡ read_state (read ++ page ∷ []) new
 state_more read page old new taken =
     let pages : with_page read old.page ≡ read ++ page ∷ [] = ap (with_page read) (sym taken.is) ∙ page_some read page taken.some in
     rw (pages, taken.empty, taken.codes, taken.macros, taken.count, taken.total) refl
 
-state_none : (read : List (List Formula)) (old new : StateView) → old.page ≡ [] → new ≡ old → after_page_end (read_state read old) ≡ read_state read new
+pub state_none : (read : List (List Formula)) (old new : StateView) → old.page ≡ [] → new ≡ old → after_page_end (read_state read old) ≡ read_state read new
 state_none read old new none same = rw same (rw none refl)
 
 -- these pages of the document were handed out, and these tokens are left
@@ -69,7 +69,7 @@ at_start units tokens s start = record {
   ended = sym (ap (λ (x : DocumentState). length x.pages) start) ∙ length-replicate s.ended [];
 }
 
-page_role : (role : OutsideRole) → ends_page role ≡ true → role ≡ EndsPage
+pub page_role : (role : OutsideRole) → ends_page role ≡ true → role ≡ EndsPage
 page_role Passed is = absurd (cc)
 page_role Defines is = absurd (cc)
 page_role SetsMathCode is = absurd (cc)

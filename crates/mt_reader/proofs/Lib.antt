@@ -49,3 +49,5 @@ mod Deciding
 pub mod Falling
 -- formulas of an arena, seen when more lists are in it
 mod PagesLater
+-- where reading stops, turn by turn
+mod Stopping

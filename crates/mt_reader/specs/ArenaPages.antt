@@ -5,7 +5,7 @@ use Rattle.mt_arena.specs.Arena.{Held}
 use Rattle.mt_formula.specs.Answers.{IsFault}
 use Rattle.mt_formula.specs.Formulas.{Reading, Reads}
 use Rattle.mt_formula.specs.Rules.{FormulaParts}
-use Rattle.mt_formula.specs.declared.read_error.ReadError.{ReadError}
+use Rattle.mt_scan.specs.declared.fault.ReadError.{ReadError}
 use Rattle.mt_arena.specs.Formulas.{FormulaLists, body_in, formula_end, tag_in}
 use Rattle.mt_reader.specs.declared.arena_page.PageFormula.{PageFormula}
 

@@ -9,8 +9,8 @@ use Rattle.mt_scan.specs.Parts.{Read}
 use Rattle.mt_scan.specs.declared.fault.Fault.{Fault as FaultFields}
 use Rattle.mt_macro.specs.declared.expansion.ExpandError.{ExpandError}
 use Rattle.mt_macro.specs.declared.expansion.ExpandError.TheVariants.{OutOfMemory as NoMemoryToExpand}
-use Rattle.mt_formula.specs.declared.read_error.ReadError.{ReadError}
-use Rattle.mt_formula.specs.declared.read_error.ReadError.TheVariants.{OutOfMemory as NoMemoryToRead}
+use Rattle.mt_scan.specs.declared.fault.ReadError.{ReadError}
+use Rattle.mt_scan.specs.declared.fault.ReadError.TheVariants.{OutOfMemory as NoMemoryToRead}
 use Rattle.mt_formula.specs.Answers.{IsFault}
 use Rattle.mt_formula.specs.Formulas.{Reading, Reads}
 use Rattle.mt_formula.specs.Rules.{FormulaParts}

@@ -31,6 +31,9 @@ pub mod SourceFaults
 -- documents that are read page by page
 pub mod SourceReading
 pub mod PageReading
+-- where the reading of a source stops
+pub mod Stops
+pub mod StopReading
 -- a turn, whatever tokens are behind those that it is taken from
 pub mod AheadTurns
 -- how many items it leaves

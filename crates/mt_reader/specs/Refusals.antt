@@ -4,8 +4,8 @@ use Rattle.mt_macro.specs.declared.expansion.ExpandError.{ExpandError}
 use Rattle.mt_macro.specs.declared.expansion.ExpandError.TheVariants.{Budget, MissingArgument, Unbalanced as UnbalancedList, TooLong, OutOfMemory as NoMemoryToExpand}
 use Rattle.mt_macro.specs.Expansion.{OverBudget, NoArgument, NoPartner, ListTooLong}
 use Rattle.mt_rules.specs.declared.document.Formula.{Formula}
-use Rattle.mt_formula.specs.declared.read_error.ReadError.{ReadError}
-use Rattle.mt_formula.specs.Errors.{PlacedCause, read_error_fault}
+use Rattle.mt_scan.specs.declared.fault.ReadError.{ReadError}
+use Rattle.mt_scan.specs.Errors.{PlacedCause, read_error_fault}
 use Rattle.mt_reader.specs.declared.document_error.DocError.{DocError}
 use Rattle.mt_reader.specs.declared.document_error.DocError.TheVariants.{Source, Outside, Expand, Read, Total, Pages, OutOfMemory}
 use Rattle.mt_reader.specs.Documents.{DocumentAnswer, NotLexed, Outside as RefusedOutside, NotExpanded, NotRead, TooManyTokens, TooManyPages}

@@ -11,6 +11,7 @@ use Rattle.mt_lexicon.specs.Meaning.{NameTable}
 use Rattle.mt_tables.specs.Held.{Held}
 use Rattle.mt_reader.specs.declared.document_state.DocumentState.{DocumentState as StateFields}
 use Rattle.mt_reader.specs.declared.page_reader.PageReader.{PageReader}
+use Rattle.mt_reader.specs.declared.token_tables.TokenTables.{TokenTables}
 use Rattle.mt_reader.specs.declared.word_source.WordSource.{WordSource}
 
 -- the codes and macros, how many pages are ended, the formulas of the page that is not, how many formulas there are, and how
@@ -36,6 +37,10 @@ state_view codes macros s = record {
 -- the same of tables of words
 abbrev pub held_view : StateFields Held → StateView
 held_view s = state_view (λ (h : Held). h.codes) (λ (h : Held). h.macros) s
+
+-- the same of tables over tokens
+abbrev pub token_view : StateFields TokenTables → StateView
+token_view s = state_view (λ (t : TokenTables). t.codes) (λ (t : TokenTables). t.macros) s
 
 -- the words that are ahead, what is ahead of the cursor behind them, how many bytes are not read, and how many tokens are
 -- before these words

@@ -1,5 +1,5 @@
 //! Assignments of codes (The TeXbook, chapter 17).
-ghost use Rattle.std.specs.Prelude.{◌≡◌, ◌≤◌, length, map, true, IfOk};
+ghost use Rattle.std.specs.Prelude.{◌≡◌, ◌≤◌, length, map, true, IfOk, OnErr};
 ghost use Rattle.mt_token.specs.declared.token.Token.{Token as TokenFields};
 ghost use Rattle.mt_plain.specs.CodeTables.{is_delcode};
 ghost use Rattle.mt_reader.specs.Assignments.{after_equals, code_or_none, delimiter_value};
@@ -71,6 +71,7 @@ pub fn assign_math_code<'a, T, K: DocumentTables<T>>(
 ) -> Result<&'a [T], Fault>
     ensures is { Assigns (K.token tables.old) result (K.codes tables.new)
         (math_code_assignment (K.codes tables.old) (map (K.token tables.old) tokens.now)) }
+    ensures err { OnErr result (K.codes tables.new ≡ K.codes tables.old) }
     ensures macros { K.macros tables.new ≡ K.macros tables.old }
     ensures tokens { K.token tables.new ≡ K.token tables.old }
     ensures names { K.names tables.new ≡ K.names tables.old }
@@ -90,6 +91,7 @@ pub fn assign_delcode<'a, T, K: DocumentTables<T>>(
 ) -> Result<&'a [T], Fault>
     ensures is { Assigns (K.token tables.old) result (K.codes tables.new)
         (delcode_assignment (K.codes tables.old) (map (K.token tables.old) tokens.now)) }
+    ensures err { OnErr result (K.codes tables.new ≡ K.codes tables.old) }
     ensures macros { K.macros tables.new ≡ K.macros tables.old }
     ensures tokens { K.token tables.new ≡ K.token tables.old }
     ensures names { K.names tables.new ≡ K.names tables.old }

@@ -72,6 +72,13 @@ impl<K> DocumentState<K> {
         &self.tables
     }
 
+    /// The codes and macros, without the rest.
+    pub fn into_tables(self) -> K
+        ensures { result ≡ self.tables }
+    {
+        self.tables
+    }
+
     /// The number of the next formula.
     pub fn next_number(&self) -> u32
         requires { self.now.count < 2 ^ 32 - 1 }
@@ -116,6 +123,7 @@ impl<K> DocumentState<K> {
             (map (K.token self.old.tables) definition.now.body.now)) }
         ensures others { state_of (state_view K.codes K.macros self.new)
             ≡ changes_macros (state_of (state_view K.codes K.macros self.old)) (K.macros self.new.tables) }
+        ensures err { OnErr result (K.macros self.new.tables ≡ K.macros self.old.tables) }
         ensures tokens { K.token self.new.tables ≡ K.token self.old.tables }
         ensures names { K.names self.new.tables ≡ K.names self.old.tables }
         ensures ended { self.new.ended ≡ self.old.ended }
@@ -131,6 +139,7 @@ impl<K> DocumentState<K> {
         ensures is { SetsTables (K.token self.new.tables) result (state_of (state_view K.codes K.macros self.old))
             (state_of (state_view K.codes K.macros self.new))
             (math_code_assignment (K.codes self.old.tables) (map (K.token self.old.tables) tokens.now)) }
+        ensures err { OnErr result (K.codes self.new.tables ≡ K.codes self.old.tables) }
         ensures ended { self.new.ended ≡ self.old.ended }
         ensures names { K.names self.new.tables ≡ K.names self.old.tables }
         ensures falls { IfOk result (λ rest. length rest.now ≤ length tokens.now) }
@@ -145,6 +154,7 @@ impl<K> DocumentState<K> {
         ensures is { SetsTables (K.token self.new.tables) result (state_of (state_view K.codes K.macros self.old))
             (state_of (state_view K.codes K.macros self.new))
             (delcode_assignment (K.codes self.old.tables) (map (K.token self.old.tables) tokens.now)) }
+        ensures err { OnErr result (K.codes self.new.tables ≡ K.codes self.old.tables) }
         ensures ended { self.new.ended ≡ self.old.ended }
         ensures names { K.names self.new.tables ≡ K.names self.old.tables }
         ensures falls { IfOk result (λ rest. length rest.now ≤ length tokens.now) }

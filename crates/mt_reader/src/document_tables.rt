@@ -1,9 +1,10 @@
 //! What the definitions and assignments of a document change.
-ghost use Rattle.std.specs.Prelude.{◌≡◌, ◌<◌, ◌≤◌, ◌^◌, true, length, map};
+ghost use Rattle.std.specs.Prelude.{◌≡◌, ◌<◌, ◌≤◌, ◌^◌, OnErr, true, length, map};
 ghost use Rattle.mt_lexicon.specs.Meaning.{NameTable};
 ghost use Rattle.mt_macro.specs.Definition.{Answers, define};
 ghost use Rattle.mt_plain.specs.CodeTables.{is_delcode, with_delcode, with_math_code};
 ghost use Rattle.mt_plain.specs.Limits.{max_math_code};
+ghost use Rattle.mt_token.specs.declared.token.Token.{Token as TokenFields};
 ghost use Rattle.mt_reader.specs.Naming.{control_name, is_control};
 
 use mt_macro::{Bodies, MacroError};
@@ -27,6 +28,7 @@ pub trait DocumentTables<T>: Roles<T> + Bodies<T> {
         ensures is { Answers result (Self.macros self.new) (define (Self.macros self.old)
             (control_name (Self.token self.old name.now).kind) params
             (map (Self.token self.old) body.now)) }
+        ensures err { OnErr result (Self.macros self.new ≡ Self.macros self.old) }
         ensures codes { Self.codes self.new ≡ Self.codes self.old }
         ensures tokens { Self.token self.new ≡ Self.token self.old }
         ensures names { names self.new ≡ names self.old };
@@ -48,4 +50,7 @@ pub trait DocumentTables<T>: Roles<T> + Bodies<T> {
         ensures macros { Self.macros self.new ≡ Self.macros self.old }
         ensures tokens { Self.token self.new ≡ Self.token self.old }
         ensures names { names self.new ≡ names self.old };
+
+    /// A token of a body is put where its macro is called as it is.
+    ghost unplaced: { (s : Self) (call t : TokenFields) → Self.placed s call t ≡ t };
 }

@@ -1,5 +1,5 @@
 //! What becomes of a token outside of formulas, and of those after it.
-ghost use Rattle.std.specs.Prelude.{◌≡◌, ℕ, ◌≤◌, ◌<◌, ◌+◌, ◌-◌, ◌^◌, None, false, length, map};
+ghost use Rattle.std.specs.Prelude.{◌≡◌, ℕ, ◌≤◌, ◌<◌, ◌+◌, ◌-◌, ◌^◌, None, OnErr, false, length, map};
 ghost use Rattle.mt_scaled.specs.Number.{Within};
 ghost use Rattle.mt_reader.specs.Answered.{definition_answered, math_code_answered, delcode_answered};
 ghost use Rattle.mt_reader.specs.Definitions.{macro_definition};
@@ -14,6 +14,7 @@ ghost use Rattle.mt_reader.specs.Dollars.{between_dollars};
 ghost use Rattle.mt_reader.specs.DocumentTurns.{state_of, MeetsTurn, Spends, ReadsOne};
 ghost use Rattle.mt_reader.specs.DocumentTurns.{ends_page, expand_error, read_error};
 ghost use Rattle.mt_reader.specs.Limits.{max_total_tokens};
+ghost use Rattle.mt_reader.specs.StopReading.{KeepsTables};
 ghost use Rattle.mt_reader.specs.Views.{state_view};
 ghost use Rattle.mt_macro.specs.Limits.{max_tokens};
 
@@ -104,6 +105,8 @@ fn definition_turn<'a, T, K: DocumentTables<T>>(
     ensures spends { Spends (K.token state.new.tables) result (state_view K.codes K.macros state.old)
         (state_view K.codes K.macros state.new) (map (K.token state.old.tables) tokens.now) }
     ensures names { K.names state.new.tables ≡ K.names state.old.tables }
+    ensures keeps { OnErr result (KeepsTables (state_view K.codes K.macros state.old)
+        (state_view K.codes K.macros state.new)) }
 {
     match macro_definition(state.tables(), tokens) {
         Ok(part) => match state.define(&part.value) {
@@ -133,6 +136,8 @@ fn math_code_turn<'a, T, K: DocumentTables<T>>(
     ensures spends { Spends (K.token state.new.tables) result (state_view K.codes K.macros state.old)
         (state_view K.codes K.macros state.new) (map (K.token state.old.tables) tokens.now) }
     ensures names { K.names state.new.tables ≡ K.names state.old.tables }
+    ensures keeps { OnErr result (KeepsTables (state_view K.codes K.macros state.old)
+        (state_view K.codes K.macros state.new)) }
 {
     match state.assign_math_code(tokens) {
         Ok(rest) => Ok(AfterTurn::Left(rest)),
@@ -158,6 +163,8 @@ fn delcode_turn<'a, T, K: DocumentTables<T>>(
     ensures spends { Spends (K.token state.new.tables) result (state_view K.codes K.macros state.old)
         (state_view K.codes K.macros state.new) (map (K.token state.old.tables) tokens.now) }
     ensures names { K.names state.new.tables ≡ K.names state.old.tables }
+    ensures keeps { OnErr result (KeepsTables (state_view K.codes K.macros state.old)
+        (state_view K.codes K.macros state.new)) }
 {
     match state.assign_delcode(tokens) {
         Ok(rest) => Ok(AfterTurn::Left(rest)),
@@ -207,6 +214,7 @@ fn read_expanded<'a, T, K: DocumentTables<T>>(
     ensures reads { ReadsOne (K.token state.new.tables) result (state_view K.codes K.macros state.old)
         (state_view K.codes K.macros state.new) display (map (K.token state.new.tables) rest.now) }
     ensures names { K.names state.new.tables ≡ K.names state.old.tables }
+    ensures tables { state.new.tables ≡ state.old.tables }
 {
     let n = state.next_number();
     match state.add_formula(units, display, list, total) {
@@ -236,6 +244,7 @@ fn count_expanded<'a, T, K: DocumentTables<T>>(
     ensures reads { ReadsOne (K.token state.new.tables) result (state_view K.codes K.macros state.old)
         (state_view K.codes K.macros state.new) display (map (K.token state.new.tables) rest.now) }
     ensures names { K.names state.new.tables ≡ K.names state.old.tables }
+    ensures tables { state.new.tables ≡ state.old.tables }
 {
     let total = state.total_with(list);
     if total > MAX_TOTAL_TOKENS {
@@ -268,6 +277,7 @@ fn formula_between<'a, T: Drop, K: DocumentTables<T>>(
     ensures reads { ReadsOne (K.token state.new.tables) result (state_view K.codes K.macros state.old)
         (state_view K.codes K.macros state.new) display (map (K.token state.new.tables) taken.entry.after.now) }
     ensures names { K.names state.new.tables ≡ K.names state.old.tables }
+    ensures tables { state.new.tables ≡ state.old.tables }
 {
     if state.is_expanded(taken.argument) {
         return count_expanded(units, state, display, taken.argument, taken.after);
@@ -300,6 +310,7 @@ pub fn formula_ahead<'a, T: Drop, K: DocumentTables<T>>(
     ensures spends { SpendsSome (K.token state.new.tables) result (state_view K.codes K.macros state.old)
         (state_view K.codes K.macros state.new) (map (K.token state.old.tables) tokens.now) }
     ensures names { K.names state.new.tables ≡ K.names state.old.tables }
+    ensures tables { state.new.tables ≡ state.old.tables }
 {
     if state.is_page_limit() {
         return Err(DocError::Pages(PAGE_TOO_MANY));
@@ -336,6 +347,7 @@ fn formula_turn<'a, T: Drop, K: DocumentTables<T>>(
     ensures spends { Spends (K.token state.new.tables) result (state_view K.codes K.macros state.old)
         (state_view K.codes K.macros state.new) (map (K.token state.old.tables) tokens.now) }
     ensures names { K.names state.new.tables ≡ K.names state.old.tables }
+    ensures tables { state.new.tables ≡ state.old.tables }
 {
     match formula_ahead(units, state, expanded, tokens) {
         Ok(Some(after)) => Ok(after),
@@ -368,6 +380,8 @@ pub fn document_turn<'a, T: Drop, K: DocumentTables<T>>(
     ensures spends { Spends (K.token state.new.tables) result (state_view K.codes K.macros state.old)
         (state_view K.codes K.macros state.new) (map (K.token state.old.tables) tokens.now) }
     ensures names { K.names state.new.tables ≡ K.names state.old.tables }
+    ensures keeps { OnErr result (KeepsTables (state_view K.codes K.macros state.old)
+        (state_view K.codes K.macros state.new)) }
 {
     match role {
         OutsideRole::Passed => Ok(AfterTurn::Left(tokens)),

@@ -4,7 +4,8 @@ ghost use Rattle.mt_macro.specs.Braces.{first_unmatched};
 ghost use Rattle.mt_macro.specs.Expansion.{expansion, ExpandsTo};
 ghost use Rattle.mt_macro.specs.Limits.{max_tokens};
 
-use mt_macro::{Bodies, ExpandError, Expander};
+use crate::document_tables::DocumentTables;
+use mt_macro::{ExpandError, Expander};
 use std::alloc::Global;
 
 /// The items of the formula that was expanded last, and the memory of its expansion.
@@ -28,7 +29,11 @@ impl<T: Drop> ExpandedItems<T> {
     /// # Errors
     ///
     /// Those of [`mt_macro::expand`].
-    pub fn expand<B: Bodies<T>>(&mut self, tables: &B, list: &[T]) -> Result<(), ExpandError>
+    pub fn expand<B: DocumentTables<T>>(
+        &mut self,
+        tables: &B,
+        list: &[T],
+    ) -> Result<(), ExpandError>
         requires { first_unmatched 0 (map (B.token tables.now) list.now) ≡ None }
         ensures is { ExpandsTo result (map (B.token tables.now) self.new.items.items)
             (expansion (B.macros tables.now) (map (B.token tables.now) list.now)) }

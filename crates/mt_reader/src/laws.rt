@@ -1,11 +1,12 @@
 //! What holds of all documents.
-ghost use Rattle.std.specs.Prelude.{◌≡◌, ◌≤◌, ◌⊎◌, ℕ, IsErr, IsOk, List, ◌∷◌, length};
+ghost use Rattle.std.specs.Prelude.{◌≡◌, ◌≤◌, ◌⊎◌, ℕ, IsErr, IsOk, List, None, ◌∷◌, length};
 ghost use Rattle.mt_token.specs.declared.token.Token.{Token};
 ghost use Rattle.mt_scaled.specs.declared.unit.Units.{Units};
 ghost use Rattle.mt_plain.specs.CodeTables.{CodeTables};
 ghost use Rattle.mt_macro.specs.Table.{Table};
 ghost use Rattle.mt_reader.specs.Documents.{DocumentState, document};
 ghost use Rattle.mt_reader.specs.Documents.{outside_role, pages_from, turn_answer, turn_by};
+ghost use Rattle.mt_reader.specs.Stops.{document_fault, stop, stop_fault};
 
 /// Tokens are a document, or there is a first fault that refuses it: one of the two, and never both.
 #[tactic(auto, using(crate::proofs::Deciding::document_or_fault, crate::proofs::Deciding::not_both))]
@@ -33,4 +34,11 @@ pub fn turns_of_a_document_are_enough()
         (λ (after : DocumentState) (left : List Token).
         pages_from units whole (length left) after left)
         (turn_by units s rest (outside_role t.kind)) }
+{}
+
+/// Where no formula is looked for, reading stops at the fault for which the document is refused, and at no other.
+#[tactic(auto, using(crate::proofs::Stopping::same_fault))]
+pub fn reading_stops_at_the_fault()
+    ensures { (units : Units) → (tables : CodeTables) → (macros : Table) → (tokens : List Token)
+        → stop_fault (stop units None tables macros tokens) ≡ document_fault (document units tables macros tokens) }
 {}

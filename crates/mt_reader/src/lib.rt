@@ -12,12 +12,12 @@ mod document_turn;
 mod documents;
 mod dollars;
 mod expanded_items;
-mod formula_search;
 mod laws;
 mod outside_cause;
 mod outside_role;
 mod page_reader;
 mod source_faults;
+mod stop;
 mod token_tables;
 mod turn_ahead;
 mod word_source;
@@ -27,8 +27,11 @@ pub use arena_page::{ArenaPage, PageFormula};
 pub use document_error::DocError;
 pub use document_tables::DocumentTables;
 pub use documents::read_document;
-pub use formula_search::{FormulaWanted, SourceFormula, find_formula};
-pub use laws::{tokens_are_a_document_or_refused, turns_of_a_document_are_enough};
+pub use laws::{
+    reading_stops_at_the_fault, tokens_are_a_document_or_refused, turns_of_a_document_are_enough,
+};
 pub use mt_formula::{ReadError, read_formula};
 pub use outside_cause::OutsideCause;
 pub use page_reader::PageReader;
+pub use stop::{Stop, StopCause, StopFormula, read_to_stop};
+pub use token_tables::TokenTables;

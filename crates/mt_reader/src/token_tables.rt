@@ -4,7 +4,7 @@ ghost use Rattle.mt_plain.specs.CodeTables.{plain_codes};
 ghost use Rattle.mt_plain.specs.PlainMacros.{plain_table};
 
 use crate::document_tables::DocumentTables;
-use mt_macro::{Bodies, Found, MacroError, Macros};
+use mt_macro::{Bodies, Call, Found, MacroError, Macros};
 use mt_plain::{CodeError, Codes, plain_macros};
 use mt_scan::{Role, Roles};
 use mt_token::{LentKind, Lexicon, OwnTokens, Token, TokenKind};
@@ -74,11 +74,18 @@ impl Roles<Token> for TokenTables {
 }
 
 impl Bodies<Token> for TokenTables {
+    ghost use Rattle.std.specs.Prelude.{refl};
     ghost use Rattle.mt_macro.specs.inner.Entries.{body_at};
 
     ghost macros = { λ tables. tables.macros };
 
     ghost body = { λ tables n. body_at tables.macros n };
+
+    ghost placed = { λ _ _ t. t };
+
+    ghost kept = { λ _ _ _. refl };
+
+    ghost nested = { λ _ _ _ _. refl };
 
     #[inline]
     fn macro_at(&self, item: &Token) -> Option<Found> {
@@ -91,15 +98,22 @@ impl Bodies<Token> for TokenTables {
     }
 
     #[inline]
-    fn again(&self, alloc: Global, item: &Token) -> Result<Token, AllocError> {
-        self.macros.again(alloc, item)
+    fn put(
+        &self,
+        alloc: Global,
+        item: &Token,
+        call: &Option<Call<'_, Token>>,
+    ) -> Result<Token, AllocError> {
+        self.macros.put(alloc, item, call)
     }
 }
 
 impl DocumentTables<Token> for TokenTables {
-    ghost use Rattle.std.specs.Prelude.{[]};
+    ghost use Rattle.std.specs.Prelude.{[], refl};
 
     ghost names = { λ _. [] };
+
+    ghost unplaced = { λ _ _ _. refl };
 
     fn define(&mut self, name: &Token, params: u8, body: &[Token]) -> Result<(), MacroError> {
         match &name.kind {

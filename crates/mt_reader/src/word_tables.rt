@@ -5,7 +5,11 @@ use mt_macro::MacroError;
 use mt_tables::Tables;
 
 impl DocumentTables<Word> for Tables {
+    ghost use Rattle.std.specs.Prelude.{refl};
+
     ghost names = { λ tables. tables.names };
+
+    ghost unplaced = { λ _ _ _. refl };
 
     fn define(&mut self, name: &Word, params: u8, body: &[Word]) -> Result<(), MacroError> {
         Tables::define(self, *name, params, body)
