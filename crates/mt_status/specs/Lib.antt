@@ -1,11 +1,13 @@
--- the line of a refusal
+-- the table of statuses: numbers, lines of the log, explanations
+pub mod Statuses
+-- what a log got
 pub mod Log
--- the line that explains a refusal
+-- the form of a line for a person
 pub mod Explanation
--- what each refusal means in words
+-- what causes mean in words
 pub mod Meanings
--- the numbers of statuses
-pub mod Codes
+-- what is noted beside a status
+pub mod Notes
 -- from what a status comes, and what a call that reads no file answers
 pub mod Origins
 -- the statuses of what is wrong with fonts

@@ -2,8 +2,9 @@
 ghost use Rattle.std.specs.Prelude.{◌≡◌, ◌∷◌, [], List, ℕ, codes};
 ghost use Rattle.std.specs.List.{concat};
 ghost use Rattle.mt_status.specs.Log.{Gets};
-ghost use Rattle.mt_status.specs.Explanation.{IsLine, explained, usage};
-ghost use Rattle.mt_status.specs.Meanings.{meaning, too_much_meaning};
+ghost use Rattle.mt_status.specs.Explanation.{IsLine, usage};
+ghost use Rattle.mt_status.specs.Statuses.{explained};
+ghost use Rattle.mt_status.specs.Statuses.{meaning, too_much_meaning};
 ghost use Rattle.mt_status.specs.inner.LogParts.{part_bytes};
 
 use crate::causes::{dvi_cause, family_cause, font_cause, list_cause, source_cause, token_cause};

@@ -6,9 +6,11 @@ mod explanation;
 mod font_refusals;
 mod log;
 mod log_part;
+mod notes;
 mod status;
 
 pub use explanation::write_explanation;
 pub use font_refusals::font_refusal;
 pub use log::write_line;
+pub use notes::Notes;
 pub use status::{MISSING_ARGUMENT, Much, Status};

@@ -1,7 +1,8 @@
 //! The line that a refusal writes to the log; the name of a file stands in it as it is, line feeds too.
 ghost use Rattle.std.specs.Prelude.{◌≡◌, ◌∷◌, [], codes, decimal};
 ghost use Rattle.std.specs.List.{concat};
-ghost use Rattle.mt_status.specs.Log.{Gets, log_line, much_text};
+ghost use Rattle.mt_status.specs.Log.{Gets};
+ghost use Rattle.mt_status.specs.Statuses.{log_line, much_text};
 ghost use Rattle.mt_status.specs.inner.LogParts.{part_bytes};
 
 use crate::log_part::{LogPart, write_parts};

@@ -1,6 +1,6 @@
 //! How a run ends.
 ghost use Rattle.std.specs.Prelude.{◌≡◌};
-ghost use Rattle.mt_status.specs.Codes.{code_of};
+ghost use Rattle.mt_status.specs.Statuses.{code_of};
 ghost use Rattle.mt_status.specs.declared.status.Status.TheVariants.{OutOfMemory};
 
 use mt_family::Size;
