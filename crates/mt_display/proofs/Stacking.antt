@@ -38,7 +38,7 @@ fault_err (Some f) here others ps e h = ap (λ (x : StackError). (let r : Result
 pub stopped : (room : ℕ) (here : NextLine) (before now : List Place) (l : LineValue) (ls : List LineValue) (whole : Result (List Place) StackError) (e : StackError)
     → whole ≡ stacked_after before here.line (room - length before) (above_value here.above) (l ∷ ls) → AddsLine room here before l (Err e) now → StackAnswers (Err e) whole
 stopped room here before now l ls whole (OutOfRange line value) is h = is ∙ fault_err _ here _ _ _ h
-stopped room here before now l ls whole TooMany is h = is ∙ fault_err _ here _ _ _ h
+stopped room here before now l ls whole (TooMany line) is h = is ∙ fault_err _ here _ _ _ h
 stopped room here before now l ls whole OutOfMemory is h = tt
 
 -- ---- the loop

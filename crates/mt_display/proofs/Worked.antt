@@ -107,7 +107,7 @@ pages =
     ∷ (
       stacked_lines 2 (line (pos 0) (pos 1) (pos 0) (pos 0) (letter (pos 0) (pos 0) ∷ letter (pos 1) (pos 0) ∷ [])
           ∷ line (pos 0) (pos 1) (pos 0) (pos 0) (letter (pos 2) (pos 0) ∷ []) ∷ []),
-      Err TooMany,
+      Err (TooMany 1),
     )
     -- out of range at the place for which there is no room
     ∷ (
@@ -116,7 +116,7 @@ pages =
       Err (OutOfRange 1 (pos 1073807359)),
     )
     -- no room for an earlier place
-    ∷ (stacked_lines 1 (line (pos 0) (pos 1) (pos 0) (pos 0) (letter (pos 0) (pos 0) ∷ letter (pos 1) (pos 0) ∷ letter (pos 1073741824) (pos 0) ∷ []) ∷ []), Err TooMany)
+    ∷ (stacked_lines 1 (line (pos 0) (pos 1) (pos 0) (pos 0) (letter (pos 0) (pos 0) ∷ letter (pos 1) (pos 0) ∷ letter (pos 1073741824) (pos 0) ∷ []) ∷ []), Err (TooMany 0))
     -- no room and no places
     ∷ (stacked_lines 0 (line (pos 5) (pos 1) (pos 0) (pos 0) [] ∷ []), Ok [])
     ∷ []

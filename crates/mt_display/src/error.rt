@@ -11,9 +11,9 @@ pub enum StackError {
     /// A coordinate of a place of this line that is out of range, in scaled points.
     #[error("a place of line {line} would be at {value}sp")]
     OutOfRange { line: u32, value: i128 },
-    /// There are more places than there is room for.
-    #[error("too many places")]
-    TooMany,
+    /// A place of this line, for which there is no room.
+    #[error("too many places, at line {line}")]
+    TooMany { line: u32 },
     /// There was no memory for the list.
     #[error("out of memory")]
     OutOfMemory,

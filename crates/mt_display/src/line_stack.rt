@@ -178,9 +178,9 @@ impl LineStack {
     ///
     /// There are at most 2^21 lines, and their shifts are at most 2^40 in size.
     ///
-    /// Refused at the first place with a coordinate out of range (`OutOfRange`, with the line), or
-    /// for which there is no room (`TooMany`); at one place h is tested first, then v, then the
-    /// room. `OutOfMemory` may come at any time.
+    /// Refused at the first place with a coordinate out of range (`OutOfRange`), or for which there
+    /// is no room (`TooMany`), both with the line of the place; at one place h is tested first, then
+    /// v, then the room. `OutOfMemory` may come at any time.
     pub fn places(&self, alloc: Global, room: u64) -> Result<PlaceList, StackError>
         requires few { length self.now.shifts.items ≤ 2 ^ 21 }
         requires shifts { All (λ s. Within (2 ^ 40) s) self.now.shifts.items }

@@ -44,9 +44,9 @@ pub(crate) const FIRST_LINE: NextLine = NextLine {
 ///
 /// There are at most 2^21 lines, and their shifts are at most 2^40 in size.
 ///
-/// Refused at the first place with a coordinate out of range (`OutOfRange`, with the line), or for
-/// which there is no room (`TooMany`); at one place h is tested first, then v, then the room.
-/// `OutOfMemory` may come at any time.
+/// Refused at the first place with a coordinate out of range (`OutOfRange`), or for which there is
+/// no room (`TooMany`), both with the line of the place; at one place h is tested first, then v, then
+/// the room. `OutOfMemory` may come at any time.
 #[tactic(auto, unfolding(crate::specs::Stack::stacked_lines))]
 pub fn stack_lines(alloc: Global, lines: &Lines, room: u64) -> Result<PlaceList, StackError>
     requires few { length lines.now ≤ 2 ^ 21 }
@@ -93,7 +93,7 @@ fn fault_in_line(line: u32, error: PlaceError) -> StackError
 {
     match error {
         PlaceError::OutOfRange(value) => StackError::OutOfRange { line, value },
-        PlaceError::TooMany => StackError::TooMany,
+        PlaceError::TooMany => StackError::TooMany { line },
         PlaceError::OutOfMemory => StackError::OutOfMemory,
     }
 }
