@@ -1,6 +1,6 @@
 -- A source that is not read is refused for a reason (`document_explains`): memory did not run out, and a formula is refused for a cause with a
 -- number.
-use Rattle.std.proofs.Common.{◌≡◌, ◌+◌, ◌-◌, ℕ, zero, suc, length, map, Bool, true, false, List, [], ◌∷◌, refl, cond, Option, Some, None, Result, Ok, Err, nat_lt, drop, sym, ap, ◌∙◌, true≢false, if◌then◌else◌}
+use Rattle.std.proofs.Common.{◌≡◌, ◌+◌, ◌-◌, ℕ, zero, suc, length, map, Bool, true, false, List, [], ◌∷◌, refl, cond, Option, Some, None, Result, Ok, Err, nat_lt, drop, sym, ap, ◌∙◌, true≢false, if◌then◌else◌, not, ◌&&◌, subst}
 use Rattle.mt_pages.proofs.Common.{Token, Expansion, Expanded, OverBudget, NoArgument, NoPartner, ListTooLong, MacroStep, Done, Missing, Next, macro_step, at_last, further, within_budget, run, unless_unmatched, expansion, CodeTables, plain_codes, plain_words, word_token, SetValue, units_of, DocumentState, DocumentAnswer, DocumentTurn, Goes, Ends, Stops, StopsOutside, after_assignment, after_definition, after_expansion, after_reading, formula_in, formula_turn, is_page_limit, outside_role, pages_from, start_state, turn_answer, turn_by, with_table, document_from, document_of, document_refusal, reading_refusal, token_refusal, OutOfMemory, Status, BadFormula, Avoids, ◌>>=◌}
 use Rattle.std.specs.Prelude.{⊤}
 use Rattle.mt_scaled.specs.declared.unit.Units.{Units}
@@ -30,16 +30,33 @@ use Rattle.mt_reader.specs.Assignments.{math_code_assignment, delcode_assignment
 use Rattle.mt_reader.specs.Definitions.{MacroDefinition, macro_definition}
 use Rattle.mt_reader.specs.Dollars.{begins_display, between_dollars, up_to_end}
 use Rattle.mt_reader.specs.Sources.{document_by}
+use Rattle.mt_status.specs.Notes.{has_too_many_places}
 use Rattle.mt_pages.proofs.Balanced.{balanced}
 use Rattle.mt_reader.specs.Answered.{definition_answered, math_code_answered, delcode_answered}
 
 -- a refusal that says what is wrong: memory did not run out, and a formula is refused for a cause with a number
-abbrev pub says_why : Status → Bool
-says_why OutOfMemory = false
-says_why (BadFormula n token zero) = false
-says_why status = true
+abbrev pub has_cause : Status → Bool
+has_cause OutOfMemory = false
+has_cause (BadFormula n token zero) = false
+has_cause status = true
 
 -- what is answered, or a refusal that says what is wrong
+abbrev pub HasCause : {T : Type 0} → Result T Status → Type 0
+HasCause (Ok x) = ⊤
+HasCause (Err status) = has_cause status ≡ true
+
+pub cause_then : {T U : Type 0} (step : Result T Status) (next : T → Result U Status) → HasCause step → ((x : T) → HasCause (next x)) → HasCause (step >>= next)
+cause_then (Ok x) next first rest = rest x
+cause_then (Err status) next first rest = first
+
+-- and which is not that there are too many places, since none is found yet
+abbrev pub says_why : Status → Bool
+says_why status = not (has_too_many_places status) && has_cause status
+
+both_say : (full cause : Bool) → (not full && cause) ≡ true → (full ≡ false) × (cause ≡ true)
+both_say true cause is = absurd (cc)
+both_say false cause is = (refl, is)
+
 abbrev pub Explains : {T : Type 0} → Result T Status → Type 0
 Explains (Ok x) = ⊤
 Explains (Err status) = says_why status ≡ true
@@ -48,16 +65,24 @@ pub explains_then : {T U : Type 0} (step : Result T Status) (next : T → Result
 explains_then (Ok x) next first rest = rest x
 explains_then (Err status) next first rest = first
 
+pub explains_cause : {T : Type 0} (answer : Result T Status) → Explains answer → HasCause answer
+explains_cause (Ok x) why = tt
+explains_cause (Err status) why = (both_say (has_too_many_places status) (has_cause status) why).1
+
+pub explains_few : {T : Type 0} (answer : Result T Status) (status : Status) → Explains answer → answer ≡ Err status → has_too_many_places status ≡ false
+explains_few answer status why same =
+    (both_say (has_too_many_places status) (has_cause status) (subst (λ (r : Result _ Status). Explains r) same why)).0
+
 pub explains_if : {T : Type 0} (b : Bool) (x y : Result T Status) → Explains x → Explains y → Explains (if b then x else y)
 explains_if true x y p q = p
 explains_if false x y p q = q
 
 -- so it is no other refusal
-pub avoids : {T : Type 0} (bad : Status) (answer : Result T Status) → says_why bad ≡ false → Explains answer → Avoids bad answer
+pub avoids : {T : Type 0} (bad : Status) (answer : Result T Status) → has_cause bad ≡ false → HasCause answer → Avoids bad answer
 avoids bad (Ok x) silent why same = absurd (cc)
 avoids bad (Err status) silent why same =
     let is : status ≡ bad = cc in
-    true≢false (sym why ∙ (ap says_why is ∙ silent))
+    true≢false (sym why ∙ (ap has_cause is ∙ silent))
 
 -- ---- tokens
 

@@ -1,6 +1,6 @@
 -- A source that is not set is refused for a reason (`source_explains`). So it is never refused for lack of memory (`typeset_avoids`), and
 -- where it is refused at a formula, the cause has a number (`source_has_cause`).
-use Rattle.std.proofs.Common.{◌≡◌, ◌+◌, ◌-◌, ◌++◌, ℕ, length, Bool, true, false, List, [], ◌∷◌, refl, ap, ℤ, Option, Some, None, Result, Ok, Err, nat_lt}
+use Rattle.std.proofs.Common.{◌≡◌, ◌+◌, ◌-◌, ◌++◌, ℕ, length, Bool, true, false, List, [], ◌∷◌, refl, ap, subst, ℤ, Option, Some, None, Result, Ok, Err, nat_lt}
 use Rattle.mt_pages.proofs.Common.{◌>>=◌, SetValue, sy, Text, Layout, Place, is_in_range, Setting, MissingFamily, MissingChar, SmartLigature, Overflow, TooTall, pack_row, Sequence, EquationLayout, Formula, D, T, equation_lines, row_lines, display_lines, inline_lines, first_stack_fault, or_fault_below, places_below, places_unless, stacked_lines, max_places, document_of, body_lines, displayed_lines, each_set, equation_boxes, equations_set, formula_box, formula_lines, formula_row, lists_of, number_row, rows_set, set_by, text_lines, PageLinesValue, document_lines, document_pages, no_lines, page_lines, page_places, pages_places, placed_by, source_pages, with_formula_lines, Status, OutOfMemory, BadFormula, Avoids, Lacks, lacks_if}
 use Rattle.mt_token.specs.Tokens.{max_source}
 use Rattle.mt_box.specs.Placing.{fault_at, first_place_fault, no_room, or_else, place_fault}
@@ -15,8 +15,10 @@ use Rattle.mt_rules.specs.declared.document.Tag.{Tag}
 use Rattle.mt_convert.specs.ListRow.{list_row}
 use Rattle.mt_display.specs.declared.error.StackError.{StackError}
 use Rattle.mt_display.specs.declared.error.StackError.TheVariants.{OutOfRange, TooMany, OutOfMemory as NoStackMemory}
+use Rattle.mt_pages.specs.inner.SetPages.{IsToldSetting}
+use Rattle.mt_status.specs.Origins.{IsPure, Origin, PureBy, Told, refusal_origin}
 use Rattle.mt_pages.specs.Typeset.{typeset_of}
-use Rattle.mt_pages.proofs.DocumentRefusals.{Explains, avoids, document_explains, explains_if, explains_then, long_refused}
+use Rattle.mt_pages.proofs.DocumentRefusals.{Explains, HasCause, avoids, cause_then, document_explains, explains_cause, explains_few, explains_if, explains_then, long_refused}
 
 -- ---- the lines of a formula
 
@@ -90,6 +92,14 @@ lines_explain set width (page ∷ pages) =
     explains_then (page_lines set width no_lines page) (λ lines. document_lines set width pages >>= (λ rest. Ok (lines ∷ rest))) (page_explains set width no_lines page)
     (λ lines. explains_then (document_lines set width pages) (λ rest. Ok (lines ∷ rest)) (lines_explain set width pages) (λ rest. tt))
 
+-- a page whose lines are refused is not refused for too many places
+pub few_refused : (set : SetValue) (width : ℤ) (fs : List Formula) (status : Status) → IsPure (page_lines set width no_lines fs) (Err status) → refusal_origin status ≡ Told
+    → IsToldSetting status
+few_refused set width fs status is told = record {
+  origin = told;
+  few = explains_few (page_lines set width no_lines fs) status (page_explains set width no_lines fs) (subst (λ (o : Origin). PureBy o (page_lines set width no_lines fs ≡ Err status)) told is);
+}
+
 -- ---- the places of these lines
 
 fault_at_lacks : (room : ℕ) (h v : ℤ) → Lacks NoPlaceMemory (fault_at room h v)
@@ -116,39 +126,39 @@ stack_lacks line room [] = λ same. cc
 stack_lacks line room (ps ∷ pss) =
     line_or_lacks line (first_place_fault room ps) (first_stack_fault (line + 1) (room - length ps) pss) (places_lack room ps) (stack_lacks (line + 1) (room - length ps) pss)
 
-placed_explains : (formulas : List ℕ) (fault : Option StackError) (ps : List Place) → Lacks NoStackMemory fault → Explains (placed_by formulas (places_unless fault ps))
+placed_explains : (formulas : List ℕ) (fault : Option StackError) (ps : List Place) → Lacks NoStackMemory fault → HasCause (placed_by formulas (places_unless fault ps))
 placed_explains formulas None ps lacks = tt
 placed_explains formulas (Some (OutOfRange line value)) ps lacks = refl
-placed_explains formulas (Some TooMany) ps lacks = refl
+placed_explains formulas (Some (TooMany line)) ps lacks = refl
 placed_explains formulas (Some NoStackMemory) ps lacks = absurd (lacks refl)
 
-places_explain : (room : ℕ) (page : PageLinesValue) → Explains (page_places room page)
+places_explain : (room : ℕ) (page : PageLinesValue) → HasCause (page_places room page)
 unfolding stacked_lines
 places_explain room page = placed_explains page.formulas (first_stack_fault 0 room (places_below None page.lines)) _ (stack_lacks 0 room (places_below None page.lines))
 
-pages_explain : (before : List (List Place)) (room : ℕ) (pages : List PageLinesValue) → Explains (pages_places before room pages)
+pages_explain : (before : List (List Place)) (room : ℕ) (pages : List PageLinesValue) → HasCause (pages_places before room pages)
 pages_explain before room [] = tt
 pages_explain before room (page ∷ pages) =
-    explains_then (page_places room page) (λ places. pages_places (before ++ places ∷ []) (room - length places) pages) (places_explain room page)
+    cause_then (page_places room page) (λ places. pages_places (before ++ places ∷ []) (room - length places) pages) (places_explain room page)
     (λ places. pages_explain (before ++ places ∷ []) (room - length places) pages)
 
 -- ---- a source
 
-document_pages_explain : (set : SetValue) (width : ℤ) (document : List (List Formula)) → Explains (document_pages set width document)
+document_pages_explain : (set : SetValue) (width : ℤ) (document : List (List Formula)) → HasCause (document_pages set width document)
 unfolding document_pages
 document_pages_explain set width document =
-    explains_then (document_lines set width document) (λ pages. pages_places [] max_places pages) (lines_explain set width document) (λ pages. pages_explain [] max_places pages)
+    cause_then (document_lines set width document) (λ pages. pages_places [] max_places pages) (explains_cause (document_lines set width document) (lines_explain set width document)) (λ pages. pages_explain [] max_places pages)
 
-source_explains : (set : SetValue) (width : ℤ) (bytes : List ℕ) → nat_lt max_source (length bytes) ≡ false → Explains (source_pages set width bytes)
+source_explains : (set : SetValue) (width : ℤ) (bytes : List ℕ) → nat_lt max_source (length bytes) ≡ false → HasCause (source_pages set width bytes)
 unfolding source_pages
 source_explains set width bytes short =
-    explains_then (document_of set bytes) (λ document. document_pages set width document) (document_explains set bytes short) (λ document. document_pages_explain set width document)
+    cause_then (document_of set bytes) (λ document. document_pages set width document) (explains_cause (document_of set bytes) (document_explains set bytes short)) (λ document. document_pages_explain set width document)
 
 -- a source within its limit is never refused for lack of memory
 pub typeset_avoids : (fonts : SetValue) (width : ℤ) (source : List ℕ) → nat_lt max_source (length source) ≡ false → Avoids OutOfMemory (typeset_of fonts width source)
 typeset_avoids fonts width source short =
     avoids OutOfMemory (typeset_of fonts width source) refl
-    (explains_then (source_pages fonts width source) (λ pages. Ok (record { fonts = fonts; pages = pages })) (source_explains fonts width source short) (λ pages. tt))
+    (cause_then (source_pages fonts width source) (λ pages. Ok (record { fonts = fonts; pages = pages })) (source_explains fonts width source short) (λ pages. tt))
 
 cause_by : (long : Bool) (set : SetValue) (width : ℤ) (source : List ℕ) (n place : ℕ) → nat_lt max_source (length source) ≡ long → source_pages set width source ≡ Err (BadFormula n place 0) → ⊥
 unfolding source_pages

@@ -1,6 +1,6 @@
 -- Pages that are set and placed one after another, with the first fault held back.
 use Rattle.std.proofs.Common.{◌≡◌, ℕ, ◌+◌, ◌≤◌, false, List, [], ◌∷◌, ◌++◌, length, map, refl, sym, ◌∙◌, ap, subst, arith, ℤ, Option, Some, None, Result, Ok, Err, All, IfSome, nat_lt}
-use Rattle.mt_pages.proofs.Common.{All-append, All-cons, All-nil, append-nil, count_by-le-length, ◌>>=◌, Token, SetValue, units_of, Place, max_dvi_pages, max_places, IsWritable, all_places, Formula, CanGoOn, GoesOn, IsBounded, IsNextPage, IsReadOf, left_to_read, pages_ended, pages_view, ReaderView, document_from, document_of, document_pages, source_pages, is_glyph_place, is_rule_place, IsPure, Origin, PureBy, Status, pure_err}
+use Rattle.mt_pages.proofs.Common.{All-append, All-cons, All-nil, append-nil, count_by-le-length, ◌>>=◌, Token, SetValue, units_of, Place, max_dvi_pages, max_places, IsWritable, all_places, Formula, CanGoOn, GoesOn, IsBounded, IsNextPage, IsReadOf, left_to_read, pages_ended, pages_view, ReaderView, document_from, document_of, document_lines, document_pages, no_lines, page_lines, PageLinesValue, source_pages, is_glyph_place, is_rule_place, IsPure, Origin, PureBy, Status, pure_err}
 use Rattle.std.proofs.lemmas.Bool.Decides.{nat_tests}
 use Rattle.std.proofs.lemmas.List.{append_assoc, length-append}
 use Rattle.mt_dvi.specs.FileOf.{CanTake, IsFileOf}
@@ -20,7 +20,10 @@ use Rattle.mt_reader.specs.declared.page_reader.PageReader.{PageReader}
 use Rattle.mt_pages.specs.inner.Texts.{AreCountsOf, HasRoom}
 use Rattle.mt_pages.specs.declared.summaries.Counts.{Counts}
 use Rattle.mt_pages.specs.inner.Added.{AreFit, CanAdd}
-use Rattle.mt_pages.specs.inner.SetPages.{AreFormulasOf, ArePagesOf, GoesOnAfter, IsNextOf, IsReadAs, IsReadFrom, SetsPage, IsTold, KeepsPlaces, count_places, end_of, rest_after, rest_pages, append_page}
+use Rattle.mt_pages.specs.inner.Placed.{PlacedValue, place_rest}
+use Rattle.mt_pages.specs.inner.SetPages.{AreFormulasOf, ArePagesOf, GoesOnAfter, IsNextOf, IsReadAs, IsReadFrom, PlacesPage, SetsPage, IsTold, KeepsPlaces, count_places, end_of, is_setting, rest_after, rest_pages, append_page}
+use Rattle.mt_status.specs.Origins.{Told, refusal_origin}
+use Rattle.mt_pages.proofs.PageRefusals.{few_refused}
 use Rattle.mt_pages.specs.declared.pages.FirstFault.{FirstFault}
 use Rattle.mt_pages.specs.declared.pages.FirstFault.TheVariants.{Nothing, Place as HeldPlace, Setting as HeldSetting}
 use Rattle.mt_pages.specs.declared.pages.PageSetter.{PageSetter}
@@ -79,13 +82,35 @@ module _ (set : SetValue) (width : ℤ) (source : List ℕ) where
 
   end_by : (pages : List (List Place)) (room : ℕ) (held : FirstFault) (new : PageSetter) → IsTold held → source_pages set width source ≡ rest_after set width pages room held [] → IsNextOf set width source pages new (end_of held)
   end_by pages room Nothing new told is = is
-  end_by pages room (HeldPlace status) new told is = subst (λ (o : Origin). PureBy o (source_pages set width source ≡ Err status)) (sym told) is
-  end_by pages room (HeldSetting status) new told is = subst (λ (o : Origin). PureBy o (source_pages set width source ≡ Err status)) (sym told) is
+  end_by pages room (HeldPlace fault) new told is = subst (λ (o : Origin). PureBy o (source_pages set width source ≡ Err fault.status)) (sym told.origin) is
+  end_by pages room (HeldSetting status) new told is = subst (λ (o : Origin). PureBy o (source_pages set width source ≡ Err status)) (sym told.origin) is
 
   -- the end, or the fault that was held back
   pub next_end : (pages : List (List Place)) (s new : PageSetter) (result : Result (Option (List Place)) Status) (are : ArePagesOf set width source pages s) → document_of set source ≡ Ok are.read
       → result ≡ end_of s.held → IsNextOf set width source pages new result
   next_end pages s new result are all ends = subst (λ (r : Result (Option (List Place)) Status). IsNextOf set width source pages new r) (sym ends) (end_by pages s.room s.held new are.told (are_all pages s are all))
+
+-- ---- a page that is not set
+
+refused_rest : (set : SetValue) (width : ℤ) (placed : Result PlacedValue Status) (page : List Formula) (rest : List (List Formula)) (status : Status) → page_lines set width no_lines page ≡ Err status
+    → rest_pages set width placed (page ∷ rest) ≡ Err status
+refused_rest set width placed page rest status same =
+    ap (λ (r : Result PageLinesValue Status). (r >>= (λ (lines : PageLinesValue). document_lines set width rest >>= (λ (more : List PageLinesValue). Ok (lines ∷ more)))) >>= place_rest placed) same
+
+refused_after : (set : SetValue) (width : ℤ) (page : List Formula) (room : ℕ) (held : FirstFault) (status : Status) → is_setting held ≡ false → page_lines set width no_lines page ≡ Err status
+    → (pages : List (List Place)) (rest : List (List Formula)) → rest_after set width pages room held (page ∷ rest) ≡ Err status
+refused_after set width page room Nothing status others same pages rest = refused_rest set width (Ok (record { pages = pages; room = room })) page rest status same
+refused_after set width page room (HeldPlace fault) status others same pages rest = refused_rest set width (Err fault.status) page rest status same
+refused_after set width page room (HeldSetting s) status others same pages rest = absurd (cc)
+
+-- its fault is held back, in place of that of a place
+pub setting_held : (set : SetValue) (width : ℤ) (page : List Formula) (room : ℕ) (held : FirstFault) (status : Status) → is_setting held ≡ false → refusal_origin status ≡ Told
+    → IsPure (page_lines set width no_lines page) (Err status) → PlacesPage set width page room held room (HeldSetting status) None
+setting_held set width page room held status others told is = record {
+  is = refused_after set width page room held status others (subst (λ (o : Origin). PureBy o (page_lines set width no_lines page ≡ Err status)) told is);
+  told = λ before. few_refused set width page status is told;
+  room = omega arith;
+}
 
 -- ---- the formulas of the next page
 

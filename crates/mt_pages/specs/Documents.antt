@@ -12,7 +12,7 @@ use Rattle.mt_rules.specs.declared.document.Formula.{Formula}
 use Rattle.mt_reader.specs.Documents.{DocumentAnswer, DocumentFault, NotLexed, Outside, NotExpanded, NotRead, TooManyTokens, TooManyPages}
 use Rattle.mt_reader.specs.Causes.{outside_number}
 use Rattle.mt_reader.specs.Sources.{source_document}
-use Rattle.mt_status.specs.Codes.{missing_argument}
+use Rattle.mt_status.specs.Statuses.{missing_argument}
 use Rattle.mt_status.specs.declared.status.Much.TheVariants.{Pages}
 use Rattle.mt_status.specs.declared.status.Status.{Status}
 use Rattle.mt_status.specs.declared.status.Status.TheVariants.{BadSource, BadFormula, Budget, TooDeep, TooMuch, OutOfMemory}

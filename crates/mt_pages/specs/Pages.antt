@@ -1,5 +1,5 @@
 -- The pages of a source (`source_pages`): the lines of all formulas, then the places of these lines, page by page.
-use Rattle.std.specs.Prelude.{ℕ, ◌+◌, ◌-◌, ℤ, List, [], ◌∷◌, ◌++◌, length, replicate, get_or, Result, Ok, Err}
+use Rattle.std.specs.Prelude.{ℕ, ◌+◌, ◌-◌, ℤ, List, [], ◌∷◌, ◌++◌, length, replicate, get_or, Option, Some, None, Result, Ok, Err}
 use Rattle.mt_scaled.specs.Results.{◌>>=◌}
 use Rattle.mt_family.specs.SetValue.{SetValue}
 use Rattle.mt_box.specs.declared.place.Place.{Place}
@@ -48,16 +48,30 @@ document_lines set width (page ∷ pages) = do
 -- a place out of range is one of the formula that its line is of
 abbrev pub stack_refusal : List ℕ → StackError → Status
 stack_refusal formulas (OutOfRange line value) = Overflow (get_or formulas line 0) value
-stack_refusal formulas TooMany = TooMuch Places (max_places + 1)
+stack_refusal formulas (TooMany line) = TooMuch Places (max_places + 1)
 stack_refusal formulas NoStackMemory = OutOfMemory
 
 abbrev pub placed_by : List ℕ → Result (List Place) StackError → Result (List Place) Status
 placed_by formulas (Ok places) = Ok places
 placed_by formulas (Err e) = Err (stack_refusal formulas e)
 
+-- the formula whose line has a place too many
+abbrev pub overfull_formula : List ℕ → StackError → Option ℕ
+overfull_formula formulas (OutOfRange line value) = None
+overfull_formula formulas (TooMany line) = Some (get_or formulas line 0)
+overfull_formula formulas NoStackMemory = None
+
+abbrev pub overfull_by : List ℕ → Result (List Place) StackError → Option ℕ
+overfull_by formulas (Ok places) = None
+overfull_by formulas (Err e) = overfull_formula formulas e
+
 -- the places of a page, where there is room for so many
 abbrev pub page_places : ℕ → PageLinesValue → Result (List Place) Status
 page_places room page = placed_by page.formulas (stacked_lines room page.lines)
+
+-- the formula of a page that has the first place for which there is no room, where that is its first fault
+abbrev pub page_overfull : ℕ → PageLinesValue → Option ℕ
+page_overfull room page = overfull_by page.formulas (stacked_lines room page.lines)
 
 -- the places of pages, after those of the pages before them, where there is room for so many more
 abbrev pub pages_places : List (List Place) → ℕ → List PageLinesValue → Result (List (List Place)) Status

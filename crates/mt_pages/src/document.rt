@@ -1,7 +1,8 @@
 //! Why a source has no document.
-ghost use Rattle.std.specs.Prelude.{◌≡◌};
+ghost use Rattle.std.specs.Prelude.{◌≡◌, false};
 ghost use Rattle.mt_reader.specs.Documents.{DocumentAnswer};
 ghost use Rattle.mt_reader.specs.Refusals.{IsExpandRefusal, IsReadRefusal, IsRefusal};
+ghost use Rattle.mt_status.specs.Notes.{has_too_many_places};
 ghost use Rattle.mt_status.specs.Origins.{IsPure};
 ghost use Rattle.mt_pages.specs.Documents.{document_from, token_refusal};
 
@@ -24,8 +25,9 @@ fn token_refusal(error: TokenError) -> Status
 
 // Formula n is not expanded.
 fn expand_refusal(n: u32, error: ExpandError) -> Status
-    ensures { (answer : DocumentAnswer) → IsExpandRefusal n error answer
+    ensures is { (answer : DocumentAnswer) → IsExpandRefusal n error answer
         → document_from answer ≡ Err result }
+    ensures few { has_too_many_places result ≡ false }
 {
     match error {
         ExpandError::Budget { .. } | ExpandError::TooLong => Status::Budget { n },
@@ -40,8 +42,9 @@ fn expand_refusal(n: u32, error: ExpandError) -> Status
 
 // Formula n is not read.
 fn read_refusal(n: u32, error: ReadError) -> Status
-    ensures { (answer : DocumentAnswer) → IsReadRefusal n error answer
+    ensures is { (answer : DocumentAnswer) → IsReadRefusal n error answer
         → document_from answer ≡ Err result }
+    ensures few { has_too_many_places result ≡ false }
 {
     let cause = error.number();
     match error {
@@ -63,8 +66,9 @@ fn read_refusal(n: u32, error: ReadError) -> Status
 
 /// Why a source has no document.
 pub fn document_refusal(error: DocError) -> Status
-    ensures { (answer : DocumentAnswer) → IsRefusal error answer
+    ensures is { (answer : DocumentAnswer) → IsRefusal error answer
         → IsPure (document_from answer) (Err result) }
+    ensures few { has_too_many_places result ≡ false }
 {
     match error {
         DocError::Source(cause) => token_refusal(cause),

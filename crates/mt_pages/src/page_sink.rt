@@ -1,15 +1,16 @@
 //! What the pages of a source are added to.
-ghost use Rattle.std.specs.Prelude.{◌++◌, ◌∷◌, [], List, OnOk};
+ghost use Rattle.std.specs.Prelude.{◌≡◌, ◌++◌, ◌∷◌, [], List, OnOk};
 ghost use Rattle.mt_box.specs.declared.place.Place.{Place as PlaceFields};
 ghost use Rattle.mt_family.specs.SetValue.{SetValue};
 ghost use Rattle.mt_pages.specs.LineWidth.{IsLineWidth};
 ghost use Rattle.mt_pages.specs.Pages.{source_pages};
+ghost use Rattle.mt_status.specs.Notes.{NotesFault};
 ghost use Rattle.mt_pages.specs.inner.Added.{AddsPages, CanAdd};
 
 use crate::pages::PageSetter;
 use mt_box::PlaceList;
 use mt_family::FontSet;
-use mt_status::Status;
+use mt_status::{Notes, Status};
 use mt_tables::Tables;
 use mt_token::MAX_SOURCE;
 use std::alloc::{AllocError, Global};
@@ -27,6 +28,7 @@ pub trait PageSink {
 }
 
 /// Adds the pages of a source, set in these fonts on lines of `width` scaled points. A page is added as soon as it is set.
+/// The number of the formula that has place 2,000,001 is noted; where there is none, that is noted too.
 ///
 /// # Errors
 ///
@@ -37,11 +39,15 @@ pub fn add_pages<S: PageSink>(
     fonts: &FontSet,
     width: i64,
     source: &[u8],
+    notes: &mut Notes,
 ) -> Result<(), Status>
     requires width { IsLineWidth width }
     requires none { S.HasPages fonts.now [] sink.old }
-    ensures { AddsPages fonts.now (S.HasPages fonts.now) (source_pages fonts.now width source.now) result sink.new }
+    ensures is { AddsPages fonts.now (S.HasPages fonts.now) (source_pages fonts.now width source.now) result sink.new }
+    ensures units { notes.new.units ≡ notes.old.units }
+    ensures formula { NotesFault result notes.new.formula }
 {
+    notes.formula = None;
     // Never: a source is no longer than its fetch allows.
     if source.len() > MAX_SOURCE {
         return Err(Status::OutOfMemory);
@@ -50,7 +56,7 @@ pub fn add_pages<S: PageSink>(
         return Err(Status::OutOfMemory);
     };
     let mut setter = PageSetter::new(alloc, tables, source)?;
-    while let Some(page) = setter.next_page(alloc, fonts, width)? {
+    while let Some(page) = setter.next_page(alloc, fonts, width, notes)? {
         sink.add(fonts, page)?;
     }
     Ok(())

@@ -1,5 +1,6 @@
 //! The pages of a source, one after another.
-ghost use Rattle.std.specs.Prelude.{◌≡◌, ◌≤◌, ◌^◌, [], All, IfOk, IfSome, List, Ok, Option, Result, length, ℕ, ℤ};
+ghost use Rattle.std.specs.Prelude.{◌≡◌, ◌≤◌, ◌^◌, [], All, IfErr, IfOk, IfSome, List, None, Ok, Option};
+ghost use Rattle.std.specs.Prelude.{Result, false, get_or, length, ℕ, ℤ};
 ghost use Rattle.mt_family.specs.SetValue.{SetValue};
 ghost use Rattle.mt_box.specs.declared.place.Place.{Place as PlaceFields};
 ghost use Rattle.mt_dvi.specs.Writable.{IsWritable};
@@ -10,12 +11,14 @@ ghost use Rattle.mt_reader.specs.PageReading.{CanGoOn, GoesOn};
 ghost use Rattle.mt_reader.specs.Sources.{plain_words};
 ghost use Rattle.mt_reader.specs.Views.{pages_view};
 ghost use Rattle.mt_reader.specs.Weights.{HasModestLists, page_weight};
-ghost use Rattle.mt_pages.specs.Pages.{PageLinesValue, no_lines, page_lines, page_places, stack_refusal};
+ghost use Rattle.mt_pages.specs.Pages.{PageLinesValue, no_lines, page_lines, page_overfull, page_places};
+ghost use Rattle.mt_pages.specs.Pages.{overfull_formula, stack_refusal};
+ghost use Rattle.mt_status.specs.Notes.{NotesFault, has_too_many_places};
 ghost use Rattle.mt_pages.specs.LineWidth.{IsLineWidth};
 ghost use Rattle.mt_pages.specs.inner.Lines.{IsPage, IsStackable, LinesHold};
-ghost use Rattle.mt_pages.specs.inner.Placed.{IsToldAnswer};
+ghost use Rattle.mt_pages.specs.inner.Placed.{IsToldAnswer, overfull_of, place_fault, status_of};
 ghost use Rattle.mt_pages.specs.inner.SetPages.{AreFormulasOf, ArePagesOf, GoesOnAfter, IsNextOf, IsReadFrom};
-ghost use Rattle.mt_pages.specs.inner.SetPages.{SetsPage, KeepsPlaces, end_of, is_nothing, is_setting};
+ghost use Rattle.mt_pages.specs.inner.SetPages.{IsTold, SetsPage, KeepsPlaces, end_of, is_nothing, is_setting};
 
 use crate::document::document_refusal;
 use crate::page_lines::{PageLines, page_lines};
@@ -24,10 +27,17 @@ use mt_display::StackError;
 use mt_dvi::MAX_PLACES;
 use mt_family::FontSet;
 use mt_reader::{ArenaPage, PageReader};
-use mt_status::{Much, Status};
+use mt_status::{Much, Notes, Status};
 use mt_tables::Tables;
 use std::alloc::{AllocError, Global};
 use std::mem;
+
+// The number of the formula of a line.
+fn formula_of(formulas: &[u32], line: u32) -> u32
+    ensures { result ≡ get_or formulas.now line 0 }
+{
+    formulas.get(line as usize).copied().unwrap_or(0)
+}
 
 // A page of these formulas, by the lines, has a place out of range, or too many.
 fn stack_refusal(formulas: &[u32], error: StackError) -> Status
@@ -35,14 +45,42 @@ fn stack_refusal(formulas: &[u32], error: StackError) -> Status
 {
     match error {
         StackError::OutOfRange { line, value } => Status::Overflow {
-            n: formulas.get(line as usize).copied().unwrap_or(0),
+            n: formula_of(formulas, line),
             value,
         },
-        StackError::TooMany => Status::TooMuch {
+        StackError::TooMany { .. } => Status::TooMuch {
             kind: Much::Places,
             count: MAX_PLACES + 1,
         },
         StackError::OutOfMemory => Status::OutOfMemory,
+    }
+}
+
+// The formula of a page of these formulas, by the lines, that has a place too many.
+fn overfull_formula(formulas: &[u32], error: StackError) -> Option<u32>
+    ensures { result ≡ overfull_formula formulas.now error }
+{
+    match error {
+        StackError::TooMany { line } => Some(formula_of(formulas, line)),
+        StackError::OutOfRange { .. } | StackError::OutOfMemory => None,
+    }
+}
+
+// Why a page has no places, and the number of the formula that has a place too many.
+#[derive(Drop)]
+struct PlaceFault {
+    status: Status,
+    formula: Option<u32>,
+}
+
+impl PlaceFault {
+    fn of(formulas: &[u32], error: StackError) -> PlaceFault
+        ensures { result ≡ place_fault formulas.now error }
+    {
+        PlaceFault {
+            status: stack_refusal(formulas, error),
+            formula: overfull_formula(formulas, error),
+        }
     }
 }
 
@@ -51,10 +89,12 @@ fn page_places(
     alloc: Global,
     page: &PageLines,
     room: u64,
-) -> Result<Result<PlaceList, Status>, AllocError>
+) -> Result<Result<PlaceList, PlaceFault>, AllocError>
     requires { IsStackable page.now }
     ensures is { (lines : PageLinesValue) → IsPage lines page.now
-        → IfOk result (λ (places : Result (List PlaceFields) Status). places ≡ page_places room lines) }
+        → IfOk result (λ places. status_of places ≡ page_places room lines) }
+    ensures formula { (lines : PageLinesValue) → IsPage lines page.now
+        → IfOk result (λ places. overfull_of places ≡ page_overfull room lines) }
     ensures told { IfOk result IsToldAnswer }
     ensures few { IfOk result (λ places. IfOk places (λ page. length page ≤ room)) }
     ensures writable { (fonts : SetValue) → (lines : PageLinesValue) → IsPage lines page.now → LinesHold fonts lines.lines
@@ -63,7 +103,7 @@ fn page_places(
     match page.stack.places(alloc, room) {
         Ok(places) => Ok(Ok(places)),
         Err(StackError::OutOfMemory) => Err(AllocError),
-        Err(error) => Ok(Err(stack_refusal(&page.formulas, error))),
+        Err(error) => Ok(Err(PlaceFault::of(&page.formulas, error))),
     }
 }
 
@@ -72,7 +112,7 @@ fn page_places(
 #[derive(Drop)]
 enum FirstFault {
     Nothing,
-    Place(Status),
+    Place(PlaceFault),
     Setting(Status),
 }
 
@@ -147,8 +187,8 @@ impl<'a> PageSetter<'a> {
                 self.room -= places.len() as u64;
                 Ok(Some(places))
             }
-            Err(status) => {
-                self.held = FirstFault::Place(status);
+            Err(fault) => {
+                self.held = FirstFault::Place(fault);
                 Ok(None)
             }
         }
@@ -210,6 +250,7 @@ impl<'a> PageSetter<'a> {
             → AreFormulasOf fonts.now source read self.new result }
         ensures keeps { KeepsPlaces self.old self.new }
         ensures more { IfOk result (λ (page : Option (List Formula)). GoesOn self.old.reader self.new.reader (Ok page)) }
+        ensures few { IfErr result (λ status. has_too_many_places status ≡ false) }
     {
         match self.reader.next_page(alloc, fonts.units()) {
             Ok(page) => Ok(page),
@@ -217,13 +258,19 @@ impl<'a> PageSetter<'a> {
         }
     }
 
-    // The end of the pages, or the fault that was held back.
-    fn end(&mut self) -> Result<Option<PlaceList>, Status>
-        ensures { result ≡ end_of self.old.held }
+    // The end of the pages, or the fault that was held back. The formula that has a place too many is noted.
+    fn end(&mut self, notes: &mut Notes) -> Result<Option<PlaceList>, Status>
+        requires none { notes.old.formula ≡ None }
+        ensures is { result ≡ end_of self.old.held }
+        ensures units { notes.new.units ≡ notes.old.units }
+        ensures formula { IsTold self.old.held → NotesFault result notes.new.formula }
     {
         match mem::replace(&mut self.held, FirstFault::Nothing) {
             FirstFault::Nothing => Ok(None),
-            FirstFault::Place(status) => Err(status),
+            FirstFault::Place(fault) => {
+                notes.formula = fault.formula;
+                Err(fault.status)
+            }
             FirstFault::Setting(status) => Err(status),
         }
     }
@@ -241,25 +288,31 @@ impl<'a> PageSetter<'a> {
     /// where too many groups of a formula are open; `TooMuch` pages, at the formula that would begin one. Where all
     /// formulas are read, the first fault of setting them, as [`page_lines`] says. Where all are set, the first of
     /// these, page by page and in the order of the places: `Overflow` with a coordinate that is out of range, and the
-    /// number of its formula; `TooMuch` at place 2,000,001. `OutOfMemory` where memory ran out.
+    /// number of its formula; `TooMuch` at place 2,000,001, with the number of its formula in `notes`. `OutOfMemory`
+    /// where memory ran out.
     pub fn next_page(
         &mut self,
         alloc: Global,
         fonts: &FontSet,
         width: i64,
+        notes: &mut Notes,
     ) -> Result<Option<PlaceList>, Status>
         requires width { IsLineWidth width }
         requires more { CanGoOn self.old.reader }
+        requires none { notes.old.formula ≡ None }
         ensures is { (source : List ℕ) → (pages : List (List PlaceFields))
             → ArePagesOf fonts.now width source pages self.old
             → IsNextOf fonts.now width source pages self.new result }
         ensures more { IfOk result (λ places. IfSome places (λ page. GoesOnAfter fonts.now self.old self.new page)) }
+        ensures units { notes.new.units ≡ notes.old.units }
+        ensures formula { (source : List ℕ) → (pages : List (List PlaceFields))
+            → ArePagesOf fonts.now width source pages self.old → NotesFault result notes.new.formula }
     {
         while let Some(page) = self.formulas(alloc, fonts)? {
             if let Some(places) = self.set_and_recycle(alloc, fonts, width, page)? {
                 return Ok(Some(places));
             }
         }
-        self.end()
+        self.end(notes)
     }
 }

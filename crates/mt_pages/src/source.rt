@@ -4,6 +4,7 @@ ghost use Rattle.mt_dvi.specs.FileOf.{IsFileOf};
 ghost use Rattle.mt_dvi.specs.Refusal.{refusal_of};
 ghost use Rattle.mt_dvi.specs.Writable.{IsWritable};
 ghost use Rattle.mt_pages.specs.LineWidth.{IsLineWidth};
+ghost use Rattle.mt_status.specs.Notes.{NotesFault};
 ghost use Rattle.mt_status.specs.Origins.{IsPure};
 ghost use Rattle.mt_pages.specs.Output.{IsFileOfSource, listed, summed_up};
 ghost use Rattle.mt_pages.specs.Pages.{source_pages};
@@ -15,7 +16,7 @@ use mt_box::{PageList, PlaceList};
 use mt_dvi::{DviBytes, DviFile};
 use mt_family::FontSet;
 use mt_scaled::{Bytes, Items};
-use mt_status::Status;
+use mt_status::{Notes, Status};
 use std::alloc::{AllocError, Global};
 
 impl PageSink for DviFile {
@@ -31,18 +32,23 @@ impl PageSink for DviFile {
 ///
 /// # Errors
 ///
-/// The first fault of the source, as [`add_pages`] says.
+/// The first fault of the source, as [`add_pages`] says. Where that is place 2,000,001, the number of its formula is
+/// noted.
 pub fn source_file(
     alloc: Global,
     fonts: &FontSet,
     width: i64,
     source: &[u8],
+    notes: &mut Notes,
 ) -> Result<DviBytes, Status>
     requires width { IsLineWidth width }
     ensures is { IsFileOfSource fonts.now (source_pages fonts.now width source.now) result }
+    ensures units { notes.new.units ≡ notes.old.units }
+    ensures formula { NotesFault result notes.new.formula }
 {
+    notes.formula = None;
     let mut file = DviFile::new(alloc, fonts)?;
-    add_pages(&mut file, alloc, fonts, width, source)?;
+    add_pages(&mut file, alloc, fonts, width, source, notes)?;
     Ok(file.finish(fonts)?)
 }
 
@@ -72,7 +78,7 @@ pub fn source_pages(
     ensures few_places { IfOk result (λ pages. refusal_of pages ≡ None) }
 {
     let mut pages = Vec::new(alloc);
-    add_pages(&mut pages, alloc, fonts, width, source)?;
+    add_pages(&mut pages, alloc, fonts, width, source, &mut Notes::none())?;
     Ok(Items::from_vec(pages))
 }
 
@@ -86,12 +92,15 @@ pub fn source_listing(
     fonts: &FontSet,
     width: i64,
     source: &[u8],
+    notes: &mut Notes,
 ) -> Result<Bytes, Status>
     requires width { IsLineWidth width }
     ensures is { IsPure (listed (source_pages fonts.now width source.now)) result }
+    ensures units { notes.new.units ≡ notes.old.units }
+    ensures formula { NotesFault result notes.new.formula }
 {
     let mut text = ListingText::new(alloc);
-    add_pages(&mut text, alloc, fonts, width, source)?;
+    add_pages(&mut text, alloc, fonts, width, source, notes)?;
     Ok(text.finish()?)
 }
 
@@ -106,11 +115,14 @@ pub fn source_summary(
     width: i64,
     formulas: u32,
     source: &[u8],
+    notes: &mut Notes,
 ) -> Result<Bytes, Status>
     requires width { IsLineWidth width }
     ensures is { IsPure (summed_up formulas (source_pages fonts.now width source.now)) result }
+    ensures units { notes.new.units ≡ notes.old.units }
+    ensures formula { NotesFault result notes.new.formula }
 {
     let mut counts = Counts::new();
-    add_pages(&mut counts, alloc, fonts, width, source)?;
+    add_pages(&mut counts, alloc, fonts, width, source, notes)?;
     Ok(counts.text(alloc, formulas)?)
 }

@@ -18,10 +18,11 @@ use Rattle.mt_reader.specs.Views.{ReaderView, pages_view}
 use Rattle.mt_reader.specs.declared.page_reader.PageReader.{PageReader}
 use Rattle.mt_pages.specs.Documents.{document_of}
 use Rattle.mt_pages.specs.Pages.{document_lines, document_pages, source_pages}
-use Rattle.mt_pages.specs.inner.Placed.{PlacedValue, place_rest}
+use Rattle.mt_pages.specs.inner.Placed.{IsToldFault, PlacedValue, place_rest}
 use Rattle.mt_pages.specs.declared.pages.FirstFault.{FirstFault}
 use Rattle.mt_pages.specs.declared.pages.FirstFault.TheVariants.{Nothing, Place as HeldPlace, Setting as HeldSetting}
 use Rattle.mt_pages.specs.declared.pages.PageSetter.{PageSetter}
+use Rattle.mt_status.specs.Notes.{has_too_many_places}
 use Rattle.mt_status.specs.Origins.{IsPure, Told, refusal_origin}
 use Rattle.mt_status.specs.declared.status.Status.{Status}
 
@@ -33,16 +34,21 @@ abbrev pub is_setting : FirstFault → Bool
 is_setting (HeldSetting status) = true
 is_setting held = false
 
+-- a refusal of setting comes of the files, and is not that there are too many places
+pub record IsToldSetting (status : Status) : Type 0 where
+  pub origin : refusal_origin status ≡ Told
+  pub few : has_too_many_places status ≡ false
+
 -- what is held back is a refusal that the source gives
 abbrev pub IsTold : FirstFault → Type 0
 IsTold Nothing = ⊤
-IsTold (HeldPlace status) = refusal_origin status ≡ Told
-IsTold (HeldSetting status) = refusal_origin status ≡ Told
+IsTold (HeldPlace fault) = IsToldFault fault
+IsTold (HeldSetting status) = IsToldSetting status
 
 -- the answer where nothing more is read
 abbrev pub end_of : FirstFault → Result (Option (List Place)) Status
 end_of Nothing = Ok None
-end_of (HeldPlace status) = Err status
+end_of (HeldPlace fault) = Err fault.status
 end_of (HeldSetting status) = Err status
 
 -- these pages of the document of a source of these tokens were handed out; or the source has this fault of a token, which is ahead
@@ -61,7 +67,7 @@ rest_pages set width placed pages = document_lines set width pages >>= place_res
 -- the same, where these pages are placed and there is room for so many places more, or by the fault that is held back
 abbrev pub rest_after : SetValue → ℤ → List (List Place) → ℕ → FirstFault → List (List Formula) → Result (List (List Place)) Status
 rest_after set width pages room Nothing rest = rest_pages set width (Ok (record { pages = pages; room = room })) rest
-rest_after set width pages room (HeldPlace status) rest = rest_pages set width (Err status) rest
+rest_after set width pages room (HeldPlace fault) rest = rest_pages set width (Err fault.status) rest
 rest_after set width pages room (HeldSetting status) rest = Err status
 
 -- these pages of the source were handed out; where it has a fault of a token, that is ahead

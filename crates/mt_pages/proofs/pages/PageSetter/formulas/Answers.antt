@@ -10,5 +10,5 @@ returns-in-Ok-clause-is c = λ source read r. formulas_ok c.args.fonts.now c.uni
 
 pub returns-in-Err-clause-is : goal.returns-in-Err-clause-is
 returns-in-Err-clause-is c =
-    λ source read r. c.document_refusal.ensures (source_document (units_of c.args.fonts.now) source)
+    λ source read r. c.document_refusal.ensures.is (source_document (units_of c.args.fonts.now) source)
     (refused_read (units_of c.args.fonts.now) (source_tokens source) read (pages_view c.args.self.now.reader) (pages_view c.next_page.new.self) c.in-Err.error (rw c.units.ensures.is at c.in-Err.ensures.is) c.in-Err.ensures.fault r)

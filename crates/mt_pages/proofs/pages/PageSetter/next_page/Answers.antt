@@ -1,6 +1,6 @@
-use Rattle.std.proofs.Common.{ap, refl, subst, to_z-of_z, ◌∙◌, List, Option, Some, None, Ok}
+use Rattle.std.proofs.Common.{ap, refl, subst, sym, to_z-of_z, ◌∙◌, List, Option, Some, None, Ok}
 use Rattle.mt_pages.proofs.Common.{err_from_is_err_and, Formula}
-use Rattle.mt_pages.specs.inner.SetPages.{AreFormulasOf, end_of}
+use Rattle.mt_pages.specs.inner.SetPages.{AreFormulasOf, IsTold, end_of}
 use Rattle.mt_pages.proofs.SetLemmas.{are_set, go_set, kept_at, next_end, source_err}
 use Rattle.mt_pages.proofs.pages.PageSetter.next_page.Goals as goal
 
@@ -35,4 +35,10 @@ returns-clause-is c =
     let a = kept_at c.args.fonts.now _ c.args.width c.args.self.now c.loop-page.self (to_z-of_z c.ranges.width) c.loop-page.invariant.is source pages are in
     next_end c.args.fonts.now c.args.width source pages c.loop-page.self _ c.end.result a
     (subst (λ (o : Option (List Formula)). AreFormulasOf c.args.fonts.now source a.read c.formulas.new.self (Ok o)) c.in_default.is (c.in_ok-page.ensures.is source a.read a.reader))
-    (c.end.ensures ∙ ap end_of c.in_ok-page.ensures.keeps.held)
+    (c.end.ensures.is ∙ ap end_of c.in_ok-page.ensures.keeps.held)
+
+pub returns-clause-formula : goal.returns-clause-formula
+returns-clause-formula c =
+    λ source pages are.
+    let a = kept_at c.args.fonts.now _ c.args.width c.args.self.now c.loop-page.self (to_z-of_z c.ranges.width) c.loop-page.invariant.is source pages are in
+    c.end.ensures.formula (subst IsTold (sym c.in_ok-page.ensures.keeps.held) a.told)
