@@ -1,8 +1,10 @@
--- where a byte of a text stands, and the line that it stands in
-pub mod Positions
--- which columns of a long line are shown
-pub mod Windows
--- places in a source, the byte at which its tokens end, and its tokens
+-- offsets in a source, and the byte at which its tokens end
 pub mod Places
--- sources with too many places, and what of one stands before them
-pub mod PlaceLimit
+-- what of a source a status is about, and whether it is that of a fault
+pub mod Subjects
+-- at which token a fault is
+pub mod FaultTokens
+-- the brace without partner
+pub mod Unmatched
+-- where a fault is
+pub mod Faults

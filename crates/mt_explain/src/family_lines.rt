@@ -1,0 +1,152 @@
+//! What is said of a family without a font, and the lines of a font list that give it its fonts.
+ghost use Rattle.std.specs.Prelude.{◌≡◌};
+
+use crate::files::{ListForms, ReadList, fetched_list};
+use crate::fonts::push_family;
+use crate::subject::{NamedFamily, Refusal};
+use crate::text::{Text, Unsaid};
+use mt_family::{FontLine, FontList, MAX_FONTS};
+use mt_outside::Cabinet;
+use mt_tfm::Wanted;
+use std::alloc::Global;
+
+/// A font of Computer Modern, and its design size in points.
+type DesignedFont = (&'static [u8], u32);
+
+/// The fonts of plain TeX's families at the sizes text, script and scriptscript; a size that plain TeX does not have is
+/// served by a smaller font of the same kind.
+#[rattlefmt::skip]
+static FAMILY_FONTS: [[DesignedFont; 3]; 8] = [
+    [(b"cmr10", 10), (b"cmr7", 7), (b"cmr5", 5)],
+    [(b"cmmi10", 10), (b"cmmi7", 7), (b"cmmi5", 5)],
+    [(b"cmsy10", 10), (b"cmsy7", 7), (b"cmsy5", 5)],
+    [(b"cmex10", 10), (b"cmex10", 10), (b"cmex10", 10)],
+    [(b"cmti10", 10), (b"cmti7", 7), (b"cmti7", 7)],
+    [(b"cmsl10", 10), (b"cmsl8", 8), (b"cmsl8", 8)],
+    [(b"cmbx10", 10), (b"cmbx7", 7), (b"cmbx5", 5)],
+    [(b"cmtt10", 10), (b"cmtt8", 8), (b"cmtt8", 8)],
+];
+
+/// The scaled points of 1pt.
+const POINT: u32 = 65_536;
+
+/// Thousandths of the design size that a font of its design size has.
+const DESIGN_SIZE: u32 = 1_000;
+
+// The size at which a list of these forms wants a font of so many points.
+fn wanted_size(forms: ListForms, points: u32) -> Wanted {
+    match forms {
+        ListForms::First => Wanted::At(i64::from(points.saturating_mul(POINT))),
+        ListForms::Second => Wanted::Scaled(DESIGN_SIZE),
+    }
+}
+
+// The number of a font in the list.
+fn listed_number(lines: &[FontLine], name: &[u8], wanted: Wanted) -> Option<usize> {
+    lines.iter().position(|line| line.name.as_slice() == name && line.wanted == wanted)
+}
+
+// Adds the line of a font.
+fn push_font_line(out: &mut Text, forms: ListForms, name: &[u8], points: u32) {
+    out.push_all(&[b"font ", name]);
+    match forms {
+        ListForms::First => {
+            out.push(b" ");
+            out.push_number(points.saturating_mul(POINT));
+            out.push(b" -\n")
+        }
+        ListForms::Second => out.push(b" scaled 1000\n"),
+    }
+}
+
+// The number of a font, whose line is added where neither the list nor the lines before have it.
+fn push_font_once(
+    out: &mut Text,
+    list: &ReadList,
+    added: &mut Vec<&'static [u8]>,
+    font: DesignedFont,
+) -> Result<usize, Unsaid> {
+    let (name, points) = font;
+    let lines = list.list.lines.as_slice();
+    if let Some(number) = listed_number(lines, name, wanted_size(list.forms, points)) {
+        return Ok(number);
+    }
+    let first = lines.len();
+    if let Some(place) = added.iter().position(|known| *known == name) {
+        return Ok(first.saturating_add(place));
+    }
+    let number = first.saturating_add(added.len());
+    push_font_line(out, list.forms, name, points);
+    added.push(name)?;
+    Ok(number)
+}
+
+// Adds the lines of a family and of its fonts.
+fn push_lines(
+    alloc: Global,
+    out: &mut Text,
+    list: &ReadList,
+    family: u8,
+    fonts: &[DesignedFont; 3],
+) -> Result<(), Unsaid> {
+    let [text, script, scriptscript] = *fonts;
+    let mut added = Vec::new(alloc);
+    let text = push_font_once(out, list, &mut added, text)?;
+    let script = push_font_once(out, list, &mut added, script)?;
+    let scriptscript = push_font_once(out, list, &mut added, scriptscript)?;
+    out.push(b"family ");
+    out.push_number(family);
+    for number in [text, script, scriptscript] {
+        out.push(b" ");
+        out.push_number(number);
+    }
+    out.push(b"\n");
+    Ok(())
+}
+
+// Whether the list has a line for a family, or no room for three fonts more.
+fn is_full(list: &FontList, family: u8) -> bool {
+    list.lines.len().saturating_add(3) > MAX_FONTS
+        || list
+            .families
+            .as_slice()
+            .iter()
+            .any(|line| line.fam == family)
+}
+
+/// Adds the lines that give a family its fonts, where the list of this name has no line for it and room for three fonts
+/// more, and plain TeX has such a family.
+pub fn push_family_lines(
+    alloc: Global,
+    out: &mut Text,
+    name: &str,
+    list: &ReadList,
+    family: u8,
+) -> Result<(), Unsaid> {
+    match FAMILY_FONTS.get(usize::from(family)) {
+        Some(fonts) if !is_full(&list.list, family) => {
+            out.push_all(&[b"add these lines to ", name.as_bytes(), b":\n"]);
+            push_lines(alloc, out, list, family, fonts)
+        }
+        _ => Ok(()),
+    }
+}
+
+/// Adds the lines for a family that the fonts do not serve: the list's name, the family's font, and the lines to be
+/// added.
+pub fn explain_family<C: Cabinet>(
+    out: &mut Text,
+    run: Refusal<'_>,
+    name: &str,
+    named: NamedFamily,
+    cabinet: &mut C,
+) -> Result<(), Unsaid>
+    ensures holds { C.holds cabinet.new ≡ C.holds cabinet.old }
+{
+    let list = fetched_list(run.alloc, cabinet, name)?;
+    out.push_all(&[name.as_bytes(), b": "]);
+    out.push_explanation(run.alloc, run.status);
+    push_family(out, &list.list, named);
+    out.push(b"\n");
+    push_family_lines(run.alloc, out, name, &list, named.family)
+}

@@ -1,0 +1,90 @@
+//! What is said of a font whose TFM file has a fault or cannot be read.
+ghost use Rattle.std.specs.Prelude.{◌≡◌};
+
+use crate::files::{fetched, fetched_list};
+use crate::fonts::push_character;
+use crate::list_lines::{ListLine, line_of, push_list_line};
+use crate::subject::Refusal;
+use crate::text::{Text, Unsaid};
+use mt_family::MAX_LIST_BYTES;
+use mt_outside::Cabinet;
+use mt_scaled::Name;
+use mt_tfm::{MAX_TFM, TfmError, Wanted, read_tfm_wanted};
+use std::alloc::Global;
+
+/// Thousandths of the design size at which a font is read, to find the character at fault.
+const DESIGN_SIZE: Wanted = Wanted::Scaled(1_000);
+
+// The name of a font's file.
+fn tfm_name(alloc: Global, name: &Name) -> Result<String, Unsaid> {
+    let mut bytes = Vec::from_slice(alloc, name.as_slice())?;
+    bytes.extend_from_slice(b".tfm")?;
+    Ok(String::from_utf8_lossy(alloc, &bytes)?)
+}
+
+// The character of a font that is at fault, where one is.
+fn character_at_fault(alloc: Global, font: &[u8]) -> Option<u8> {
+    match read_tfm_wanted(alloc, font, DESIGN_SIZE, None) {
+        Err(TfmError::BadIndex(code) | TfmError::ChainCycle(code)) => Some(code),
+        _ => None,
+    }
+}
+
+/// Adds the line for the font of a number, counted from 0, whose TFM file has a fault: the file's name, and the
+/// character, where one is at fault.
+pub fn explain_font<C: Cabinet>(
+    out: &mut Text,
+    run: Refusal<'_>,
+    list: &str,
+    number: u32,
+    cabinet: &mut C,
+) -> Result<(), Unsaid>
+    ensures holds { C.holds cabinet.new ≡ C.holds cabinet.old }
+{
+    let read = fetched_list(run.alloc, cabinet, list)?;
+    let line = read.list.lines.get(number as usize).ok_or(Unsaid)?;
+    let file = tfm_name(run.alloc, &line.name)?;
+    let font = fetched(run.alloc, cabinet, &file, MAX_TFM)?;
+    out.push_all(&[file.as_bytes(), b": "]);
+    out.push_explanation(run.alloc, run.status);
+    if let Some(code) = character_at_fault(run.alloc, font.as_slice()) {
+        out.push(b": character ");
+        push_character(out, code);
+    }
+    out.push(b"\n");
+    Ok(())
+}
+
+// Whether a line of a list is that of the font of this name.
+fn is_of_font(line: &[u8], font: &[u8]) -> bool {
+    let mut fields = line
+        .split(|byte| *byte == b' ')
+        .filter(|field| !field.is_empty());
+    fields.next() == Some(b"font".as_slice()) && fields.next() == Some(font)
+}
+
+// The first line of a list for the font of this name.
+fn line_of_font<'a>(list: &'a [u8], font: &[u8]) -> Option<ListLine<'a>> {
+    let mut lines = list.split(|byte| *byte == b'\n');
+    let index = lines.position(|line| is_of_font(line, font))?;
+    line_of(list, index.saturating_add(1))
+}
+
+/// Adds the lines for a TFM file that cannot be read, by the first line of the list that names its font.
+pub fn explain_unread<C: Cabinet>(
+    out: &mut Text,
+    run: Refusal<'_>,
+    list: &str,
+    file: &Name,
+    cabinet: &mut C,
+) -> Result<(), Unsaid>
+    ensures holds { C.holds cabinet.new ≡ C.holds cabinet.old }
+{
+    let font = file.as_slice().strip_suffix(b".tfm").ok_or(Unsaid)?;
+    let bytes = fetched(run.alloc, cabinet, list, MAX_LIST_BYTES)?;
+    let line = line_of_font(bytes.as_slice(), font).ok_or(Unsaid)?;
+    let fetches = b"; examples/fetch-fonts ";
+    let copies = b" copies the TFM files of TeX's fonts";
+    push_list_line(out, run, list, line, &[fetches, list.as_bytes(), copies]);
+    Ok(())
+}

@@ -1,0 +1,87 @@
+//! What is said of a name that means nothing where it is.
+use crate::names_data::{IN_FORMULAS, OTHER_NAMES, OUTSIDE_ALONE, OUTSIDE_FORMULAS, Replacement};
+use crate::nearest::{Candidate, Nearest};
+use crate::text::Text;
+use mt_macro::Macros;
+use mt_plain::{Codes, meaning_name};
+use std::alloc::Global;
+
+/// More than the names that have a meaning of mt_plain's.
+const NAME_BOUND: usize = 512;
+
+// Adds what to write in place of a name, and a definition of it.
+fn push_replacement(out: &mut Text, known: &Replacement) {
+    out.push_all(&[b" is not defined: write ", known.1]);
+    if !known.2.is_empty() {
+        out.push_all(&[b", or define ", known.2]);
+    }
+}
+
+// The name of the macro of an index.
+fn macro_name(macros: &Macros, index: usize) -> Option<Candidate<'_>> {
+    let entry = macros.entry(index)?;
+    Some(Candidate {
+        name: entry.name.as_slice(),
+        is_own: entry.meaning.own,
+    })
+}
+
+// The name of an index that means something in a formula.
+fn formula_name(index: usize) -> Option<Candidate<'static>> {
+    let name = meaning_name(index)?;
+    Some(Candidate {
+        name,
+        is_own: false,
+    })
+}
+
+// The nearest name to another one: a macro's, or one that means something in a formula.
+fn nearest_name<'a>(alloc: Global, macros: &'a Macros, wanted: &'a [u8]) -> Option<&'a [u8]> {
+    let mut nearest = Nearest::to(wanted);
+    for index in 0..macros.len() {
+        nearest = nearest.or(alloc, macro_name(macros, index));
+    }
+    for index in 0..NAME_BOUND {
+        nearest = nearest.or(alloc, formula_name(index));
+    }
+    nearest.found()
+}
+
+// Adds the nearest name, where one is near.
+fn push_nearest(alloc: Global, out: &mut Text, macros: &Macros, name: &[u8]) {
+    if let Some(near) = nearest_name(alloc, macros, name) {
+        out.push_all(&[b"; did you mean \\", near, b"?"]);
+    }
+}
+
+/// Adds that a name means nothing in a formula, and what to write in its place, where it is known.
+pub fn push_unknown_name(alloc: Global, out: &mut Text, macros: &Macros, name: &[u8]) {
+    out.push_all(&[b"\\", name]);
+    if name == b"hbox".as_slice() {
+        return out.push(b" is allowed only in \\vcenter");
+    }
+    if let Some(known) = IN_FORMULAS.iter().find(|known| known.0 == name) {
+        return push_replacement(out, known);
+    }
+    if OUTSIDE_ALONE.contains(&name) {
+        return out.push(b" is allowed only outside formulas");
+    }
+    if OTHER_NAMES.contains(&name) {
+        let text = b" is a name of plain TeX that mathset does not have";
+        return out.push(text);
+    }
+    out.push(b" is not defined");
+    push_nearest(alloc, out, macros, name)
+}
+
+/// Whether a name means nothing in formulas, or nothing outside of `\vcenter`.
+pub fn is_unknown(codes: &Codes, name: &[u8]) -> bool {
+    name == b"hbox".as_slice() || codes.control(name).is_none()
+}
+
+/// Adds what to write in place of a name that is not allowed outside of formulas, where it is one of LaTeX's.
+pub fn push_name_outside(out: &mut Text, name: &[u8]) {
+    if let Some(known) = OUTSIDE_FORMULAS.iter().find(|known| known.0 == name) {
+        out.push(known.1);
+    }
+}

@@ -1,0 +1,93 @@
+//! Names that mean nothing where authors type them, and what is said of each.
+
+/// A name of LaTeX's that authors often type, what to write in plain TeX in its place, and a definition of it, which is
+/// empty where there is none.
+pub type Replacement = (&'static [u8], &'static [u8], &'static [u8]);
+
+/// Those of formulas.
+#[rattlefmt::skip]
+pub static IN_FORMULAS: [Replacement; 39] = [
+    (b"\\", b"\\cr", b""),
+    (b"frac", b"{a\\over b}", b"\\def\\frac#1#2{{{#1}\\over{#2}}}"),
+    (b"dfrac", b"{\\displaystyle{a\\over b}}", b"\\def\\dfrac#1#2{{\\displaystyle{{#1}\\over{#2}}}}"),
+    (b"tfrac", b"{\\textstyle{a\\over b}}", b"\\def\\tfrac#1#2{{\\textstyle{{#1}\\over{#2}}}}"),
+    (b"binom", b"{n\\choose k}", b"\\def\\binom#1#2{{{#1}\\choose{#2}}}"),
+    (b"text", b"{\\rm if\\;}, with \\; for each space", b"\\def\\text#1{{\\rm#1}}"),
+    (b"mbox", b"{\\rm if\\;}, with \\; for each space", b"\\def\\mbox#1{{\\rm#1}}"),
+    (b"mathrm", b"{\\rm d}", b"\\def\\mathrm#1{{\\rm#1}}"),
+    (b"operatorname", b"\\mathop{\\rm name}\\nolimits", b"\\def\\operatorname#1{\\mathop{\\rm#1}\\nolimits}"),
+    (b"mathcal", b"{\\cal L}", b"\\def\\mathcal#1{{\\cal#1}}"),
+    (b"mathit", b"{\\it x}, for which the font list needs a family 4", b"\\def\\mathit#1{{\\it#1}}"),
+    (b"mathbf", b"{\\bf x}, for which the font list needs a family 6", b"\\def\\mathbf#1{{\\bf#1}}"),
+    (b"mathbb", b"{\\bf R}, for which the font list needs a family 6", b"\\def\\mathbb#1{{\\bf#1}}"),
+    (b"textbf", b"{\\bf if\\;}, for which the font list needs a family 6", b"\\def\\textbf#1{{\\bf#1}}"),
+    (b"lvert", b"\\vert", b"\\def\\lvert{\\vert}"),
+    (b"rvert", b"\\vert", b"\\def\\rvert{\\vert}"),
+    (b"lVert", b"\\Vert", b"\\def\\lVert{\\Vert}"),
+    (b"rVert", b"\\Vert", b"\\def\\rVert{\\Vert}"),
+    (b"dots", b"\\ldots or \\cdots", b"\\def\\dots{\\ldots}"),
+    (b"overset", b"\\mathrel{\\mathop{=}\\limits^a}", b"\\def\\overset#1#2{\\mathrel{\\mathop{#2}\\limits^{#1}}}"),
+    (b"stackrel", b"\\mathrel{\\mathop{=}\\limits^a}", b"\\def\\stackrel#1#2{\\mathrel{\\mathop{#2}\\limits^{#1}}}"),
+    (b"underset", b"\\mathrel{\\mathop{=}\\limits_a}", b"\\def\\underset#1#2{\\mathrel{\\mathop{#2}\\limits_{#1}}}"),
+    (b"substack", b"{\\scriptstyle a\\atop\\scriptstyle b}", b""),
+    (b"cases", b"\\left\\{\\matrix{a&b\\cr c&d\\cr}\\right. with centered columns", b"\\def\\cases#1{\\left\\{\\matrix{#1}\\right.}"),
+    (b"bmod", b"\\mathbin{\\rm mod}", b"\\def\\bmod{\\mathbin{\\rm mod}}"),
+    (b"pmod", b"\\quad({\\rm mod}\\;n)", b"\\def\\pmod#1{\\quad({\\rm mod}\\;#1)}"),
+    (b"hspace", b"\\hskip1em", b"\\def\\hspace#1{\\hskip#1\\relax}"),
+    (b"color", b"nothing, since there are no colors", b"\\def\\color#1{}"),
+    (b"textcolor", b"nothing, since there are no colors", b"\\def\\textcolor#1#2{{#2}}"),
+    (b"begin", b"\\matrix{a&b\\cr}, \\pmatrix{a&b\\cr} or \\eqalign{a&=b\\cr}", b""),
+    (b"end", b"\\matrix{a&b\\cr}, \\pmatrix{a&b\\cr} or \\eqalign{a&=b\\cr}", b""),
+    (b"tag", b"\\eqno(1) at the end of a display", b""),
+    (b"label", b"\\eqno(1) at the end of a display, since there are no labels", b""),
+    (b"nonumber", b"nothing, since no number is set by itself", b"\\def\\nonumber{}"),
+    (b"notag", b"nothing, since no number is set by itself", b"\\def\\notag{}"),
+    (b"[", b"$$", b""),
+    (b"]", b"$$", b""),
+    (b"(", b"$", b""),
+    (b")", b"$", b""),
+];
+
+/// Names that mean something outside of formulas alone.
+pub static OUTSIDE_ALONE: [&[u8]; 6] = [b"par", b"def", b"mathcode", b"delcode", b"eject", b"bye"];
+
+/// Outside of formulas: a name and what to say of it.
+#[rattlefmt::skip]
+pub static OUTSIDE_FORMULAS: [(&[u8], &[u8]); 12] = [
+    (b"documentclass", b": only formulas, definitions and ends of pages are allowed here"),
+    (b"usepackage", b": only formulas, definitions and ends of pages are allowed here"),
+    (b"begin", b": environments are LaTeX's; a display is $$..$$"),
+    (b"[", b": write $$"),
+    (b"]", b": write $$"),
+    (b"(", b": write $"),
+    (b")", b": write $"),
+    (b"newcommand", b": write \\def\\a{..}, or \\def\\a#1{..} with an argument"),
+    (b"renewcommand", b": write \\def\\a{..}, or \\def\\a#1{..} with an argument"),
+    (b"providecommand", b": write \\def\\a{..}, or \\def\\a#1{..} with an argument"),
+    (b"DeclareMathOperator", b": write \\def\\a{\\mathop{\\rm a}\\nolimits}"),
+    (b"let", b": write \\def\\a{\\b}"),
+];
+
+/// Names of plain TeX's and TeX's own that authors type in formulas, and that mathset does not have.
+#[rattlefmt::skip]
+pub static OTHER_NAMES: [&[u8]; 162] = [
+    b"Longleftarrow", b"Longleftrightarrow", b"Longrightarrow", b"Relbar", b"active", b"allowbreak", b"angle",
+    b"arrowvert", b"begingroup", b"bgroup", b"bigbreak", b"bordermatrix", b"bowtie", b"box", b"braceld",
+    b"bracelu", b"bracerd", b"braceru", b"bracevert", b"buildrel", b"centerline", b"char", b"cong", b"copy",
+    b"ddots", b"displ", b"displaywidth", b"doteq", b"dots", b"egroup", b"endgroup", b"endinsert", b"enskip",
+    b"enspace", b"fi", b"footnote", b"global", b"goodbreak", b"halign", b"hang", b"hbar", b"hfil", b"hfill",
+    b"hfilneg", b"hidewidth", b"hookleftarrow", b"hookrightarrow", b"hrule", b"hrulefill", b"hss", b"ialign", b"if",
+    b"iff", b"ifmmode", b"ifx", b"item", b"itemitem", b"joinrel", b"jot", b"lbrack", b"leftarrowfill", b"leftline",
+    b"let", b"lgroup", b"lhook", b"liminf", b"limsup", b"line", b"llap", b"lmoustache", b"long", b"longleftarrow",
+    b"longleftrightarrow", b"longmapsto", b"longrightarrow", b"loop", b"lower", b"magnification", b"magstep",
+    b"mathpalette", b"mathsurround", b"medmuskip", b"medskip", b"midinsert", b"models", b"moveleft", b"moveright",
+    b"multispan", b"muskip", b"narrower", b"negthinspace", b"noalign", b"nobreak", b"noindent", b"nointerlineskip",
+    b"normalbaselines", b"notin", b"null", b"nulldelimiterspace", b"number", b"oalign", b"offinterlineskip",
+    b"oldstyle", b"omit", b"ooalign", b"openup", b"overbrace", b"overleftarrow", b"overrightarrow", b"pageno",
+    b"parindent", b"penalty", b"raise", b"rbrack", b"relbar", b"repeat", b"rgroup", b"rhook",
+    b"rightarrowfill", b"rightleftharpoons", b"rightline", b"rlap", b"rmoustache", b"sb", b"scriptfont",
+    b"scriptscriptfont", b"scriptspace", b"setbox", b"skew", b"slash", b"smallskip", b"sp", b"space", b"span",
+    b"special", b"strut", b"surd", b"tabskip", b"textfont", b"textindent", b"the", b"thickmuskip", b"thinmuskip",
+    b"thinspace", b"topinsert", b"underbar", b"underbrace", b"unhbox", b"unskip", b"upbracefill", b"vadjust",
+    b"valign", b"vbox", b"vdots", b"vfil", b"vfill", b"vfootnote", b"vglue", b"vrule", b"vskip", b"vss", b"vtop",
+];

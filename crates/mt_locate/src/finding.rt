@@ -1,0 +1,328 @@
+//! Where in a source a refusal is.
+ghost use Rattle.std.specs.Prelude.{◌≡◌, ◌≤◌, ◌^◌, ◌↔◌, ℕ, List, IfOk, IfSome, IsTrue, None, Ok, Some, length, map};
+ghost use Rattle.std.specs.Option.{option_copied};
+ghost use Rattle.mt_scaled.specs.Number.{Within};
+ghost use Rattle.mt_scaled.specs.declared.unit.Units.{Units as UnitFields};
+ghost use Rattle.mt_token.specs.Tokens.{max_source, source_tokens, spanned};
+ghost use Rattle.mt_token.specs.declared.token.Token.{Token as TokenFields};
+ghost use Rattle.mt_plain.specs.CodeTables.{plain_codes};
+ghost use Rattle.mt_plain.specs.PlainMacros.{plain_table};
+ghost use Rattle.mt_reader.specs.Stops.{StopReason, formula_from, stop, stop_view};
+ghost use Rattle.mt_locate.specs.Places.{byte_found, located_offset};
+ghost use Rattle.mt_locate.specs.Faults.{IsFaultFound, IsRead, expanded_token, fault_offset, first_token};
+ghost use Rattle.mt_locate.specs.Faults.{formula_found, told_offset, token_offset};
+ghost use Rattle.mt_locate.specs.FaultTokens.{is_told};
+ghost use Rattle.mt_locate.specs.Subjects.{subject_of};
+ghost use Rattle.mt_locate.specs.declared.subject.Numbers.{Numbers as NumbersFields};
+ghost use Rattle.mt_locate.specs.declared.subject.Subject.TheVariants.{Byte, Fault, Formula, Nothing};
+
+use crate::definitions::{definition_of, name_of};
+use crate::fault_token::{FaultToken, fault_token, is_told};
+use crate::places::{Definition, FaultyFormula, Located, located_at};
+use crate::subject::{Numbers, Subject, subject_of};
+use crate::traces::{TracedFormula, Wanted, traced_formula};
+use crate::unmatched::unmatched_token;
+use mt_reader::{DocError, Stop, StopCause, read_to_stop};
+use mt_scaled::{Name, Units};
+use mt_status::{Notes, Status};
+use mt_token::{Token, TokenError, TokenList, first_fault, tokens};
+use std::alloc::{AllocError, Global};
+
+/// The greatest size of a unit of a font, in scaled points.
+const MAX_UNIT: i64 = 2_147_483_648;
+
+// The place of a byte that is not allowed where it is, by its offset and its cause; none where the tokens of the source do
+// not end at it for this cause.
+fn locate_byte(source: &[u8], offset: u64, cause: u8) -> Option<Located>
+    ensures is { IfSome result (λ located. located.offset ≤ length source.now) }
+    ensures byte { located_offset result ≡ byte_found source.now offset cause }
+{
+    let fault = first_fault(source)?;
+    let at = fault.place()?;
+    if u64::from(at) == offset && fault.number() == cause {
+        return located_at(source, at as usize, Some(DocError::Source(fault)));
+    }
+    None
+}
+
+// A fault at the first of these tokens, where no single token is at fault.
+fn located_first(source: &[u8], tokens: &[Token], fault: Option<DocError>) -> Option<Located>
+    ensures is { IfSome result (λ located. located.offset ≤ length source.now) }
+    ensures at { located_offset result ≡ token_offset source.now (first_token tokens.now) }
+{
+    match tokens {
+        [token, ..] => located_at(source, token.start as usize, fault),
+        [] => None,
+    }
+}
+
+// A fault at a token of the source, if there is one.
+fn located_token(
+    alloc: Global,
+    source: &[u8],
+    fault: DocError,
+    token: Option<&Token>,
+) -> Result<Option<Located>, AllocError>
+    ensures is { IfOk result (λ found. IfSome found (λ located. located.offset ≤ length source.now)) }
+    ensures at { IfOk result (λ found. located_offset found ≡ token_offset source.now (option_copied token.entry)) }
+{
+    let Some(token) = token else {
+        return Ok(None);
+    };
+    let Some(mut located) = located_at(source, token.start as usize, Some(fault)) else {
+        return Ok(None);
+    };
+    located.token = Some(token.copied(alloc)?);
+    Ok(Some(located))
+}
+
+// The name of the macro in whose body the token of an index is, or which lacks an argument there.
+fn macro_name<'a>(
+    stop: &'a Stop<'_>,
+    traced: &'a TracedFormula<'_>,
+    wanted: Wanted,
+    index: usize,
+) -> Option<&'a Name> {
+    let token = traced.tokens.as_slice().get(index)?;
+    match wanted {
+        Wanted::Expanded => stop.tables.macros.name_of(token.body?),
+        Wanted::ToMacro => name_of(&token.token),
+    }
+}
+
+// A fault at a token of the formula at which reading stops, after its macros are expanded.
+fn locate_in_formula(
+    alloc: Global,
+    source: &[u8],
+    fault: DocError,
+    stop: Stop<'_>,
+    wanted: Wanted,
+    index: usize,
+) -> Result<Option<Located>, AllocError>
+    ensures is { IfOk result (λ found. IfSome found (λ located. located.offset ≤ length source.now)) }
+    ensures at { IfOk result (λ found. located_offset found ≡ token_offset source.now
+        (expanded_token stop.entry.tables.macros wanted (formula_from stop.entry.from.now) index)) }
+{
+    let Some(traced) = traced_formula(alloc, &stop, wanted)? else {
+        return Ok(None);
+    };
+    let Some(token) = traced.token_at(index) else {
+        return Ok(None);
+    };
+    let Some(mut located) = located_at(source, token.start as usize, Some(fault)) else {
+        return Ok(None);
+    };
+    let name = macro_name(&stop, &traced, wanted, index);
+    located.definition = definition_of(alloc, stop.definitions.as_slice(), name)?;
+    if let Some(found) = traced.tokens.as_slice().get(index) {
+        located.token = Some(found.token.copied(alloc)?);
+    }
+    located.formula = Some(FaultyFormula {
+        tokens: traced.tokens,
+        index,
+        is_display: traced.formula.display,
+        tables: stop.tables,
+    });
+    Ok(Some(located))
+}
+
+// The fault at which the reading of these tokens stops.
+fn locate_fault(
+    alloc: Global,
+    source: &[u8],
+    tokens: &[Token],
+    fault: DocError,
+    stop: Stop<'_>,
+) -> Result<Option<Located>, AllocError>
+    ensures is { IfOk result (λ found. IfSome found (λ located. located.offset ≤ length source.now)) }
+    ensures at { (reason : StopReason) → IfOk result (λ found. located_offset found
+        ≡ fault_offset source.now tokens.now (stop_view reason stop.entry) fault) }
+{
+    match fault_token(fault) {
+        FaultToken::OfSource(index) => {
+            located_token(alloc, source, fault, tokens.get(index as usize))
+        }
+        FaultToken::Unmatched(index) => {
+            located_token(
+                alloc,
+                source,
+                fault,
+                unmatched_token(tokens, index as usize),
+            )
+        }
+        FaultToken::Expanded(index) => {
+            locate_in_formula(alloc, source, fault, stop, Wanted::Expanded, index as usize)
+        }
+        FaultToken::Macro(index) => {
+            locate_in_formula(alloc, source, fault, stop, Wanted::ToMacro, index as usize)
+        }
+        FaultToken::First => Ok(located_first(source, stop.from, Some(fault))),
+        FaultToken::Nowhere => Ok(None),
+    }
+}
+
+// The same, where the fault has these numbers.
+fn locate_told(
+    alloc: Global,
+    source: &[u8],
+    tokens: &[Token],
+    numbers: Numbers,
+    fault: DocError,
+    stop: Stop<'_>,
+) -> Result<Option<Located>, AllocError>
+    ensures is { IfOk result (λ found. IfSome found (λ located. located.offset ≤ length source.now)) }
+    ensures at { (reason : StopReason) → IfOk result (λ found. located_offset found
+        ≡ told_offset (is_told numbers fault)
+        (fault_offset source.now tokens.now (stop_view reason stop.entry) fault)) }
+{
+    if is_told(numbers, fault) {
+        locate_fault(alloc, source, tokens, fault, stop)
+    } else {
+        Ok(None)
+    }
+}
+
+// The tokens of a source, if it has them.
+fn source_list(alloc: Global, source: &[u8]) -> Result<Option<TokenList>, AllocError>
+    ensures is { (list : List TokenFields) → source_tokens source.now ≡ Ok (map spanned list)
+        → IfOk result (λ found. found ≡ Some list) }
+    ensures short { IfOk result (λ found. IfSome found (λ list. length list ≤ max_source)) }
+{
+    match tokens(alloc, source) {
+        Ok(list) => Ok(Some(list)),
+        Err(TokenError::OutOfMemory) => Err(AllocError),
+        Err(TokenError::NotAscii(_) | TokenError::BadByte(_) | TokenError::TooLong) => Ok(None),
+    }
+}
+
+// The fault at which reading stops, where it has these numbers.
+fn locate_reading(
+    alloc: Global,
+    source: &[u8],
+    tokens: &[Token],
+    units: Units,
+    numbers: Numbers,
+) -> Result<Option<Located>, AllocError>
+    requires em { Within (2 ^ 31) units.em }
+    requires ex { Within (2 ^ 31) units.ex }
+    requires short { length tokens.now ≤ max_source }
+    ensures is { IfOk result (λ found. IfSome found (λ located. located.offset ≤ length source.now)) }
+    ensures at { IfOk result (λ found. IsFaultFound (located_offset found) numbers source.now tokens.now
+        (stop units None plain_codes plain_table tokens.now)) }
+{
+    let Some(stop) = read_to_stop(alloc, units, tokens, None)? else {
+        return Ok(None);
+    };
+    match stop.cause {
+        StopCause::Fault(fault) => locate_told(alloc, source, tokens, numbers, fault, stop),
+        StopCause::Formula => Ok(None),
+    }
+}
+
+// The first `$` of a formula.
+fn locate_formula(
+    alloc: Global,
+    source: &[u8],
+    tokens: &[Token],
+    units: Units,
+    n: u32,
+) -> Result<Option<Located>, AllocError>
+    requires em { Within (2 ^ 31) units.em }
+    requires ex { Within (2 ^ 31) units.ex }
+    requires short { length tokens.now ≤ max_source }
+    ensures is { IfOk result (λ found. IfSome found (λ located. located.offset ≤ length source.now)) }
+    ensures at { IfOk result (λ found. located_offset found
+        ≡ formula_found source.now (stop units (Some n) plain_codes plain_table tokens.now)) }
+{
+    let Some(stop) = read_to_stop(alloc, units, tokens, Some(n))? else {
+        return Ok(None);
+    };
+    match stop.cause {
+        StopCause::Formula => Ok(located_first(source, stop.from, None)),
+        StopCause::Fault(_) => Ok(None),
+    }
+}
+
+fn is_within(unit: i64) -> bool
+    ensures { IsTrue result ↔ Within (2 ^ 31) unit }
+{
+    -MAX_UNIT <= unit && unit <= MAX_UNIT
+}
+
+// The units of a run, where they are within bounds.
+fn usable(units: Option<Units>) -> Option<Units>
+    ensures is { (own : UnitFields) → units ≡ Some own → Within (2 ^ 31) own.em → Within (2 ^ 31) own.ex
+        → result ≡ Some own }
+    ensures em { IfSome result (λ own. Within (2 ^ 31) own.em) }
+    ensures ex { IfSome result (λ own. Within (2 ^ 31) own.ex) }
+{
+    match units {
+        Some(own) if is_within(own.em) && is_within(own.ex) => Some(own),
+        _ => None,
+    }
+}
+
+// What is found by reading the source.
+fn locate_read(
+    alloc: Global,
+    source: &[u8],
+    subject: Subject,
+    units: Option<Units>,
+) -> Result<Option<Located>, AllocError>
+    ensures is { IfOk result (λ found. IfSome found (λ located. located.offset ≤ length source.now)) }
+    ensures fault { (own : UnitFields) → (tokens : List TokenFields) → IsRead units source.now own tokens
+        → (numbers : NumbersFields) → subject ≡ Fault numbers
+        → IfOk result (λ found. IsFaultFound (located_offset found) numbers source.now tokens
+        (stop own None plain_codes plain_table tokens)) }
+    ensures formula { (n : ℕ) → (own : UnitFields) → (tokens : List TokenFields) → IsRead units source.now own tokens
+        → subject ≡ Formula n → IfOk result (λ found. located_offset found
+        ≡ formula_found source.now (stop own (Some n) plain_codes plain_table tokens)) }
+{
+    let Some(units) = usable(units) else {
+        return Ok(None);
+    };
+    let Some(list) = source_list(alloc, source)? else {
+        return Ok(None);
+    };
+    match subject {
+        Subject::Fault(numbers) => locate_reading(alloc, source, list.as_slice(), units, numbers),
+        Subject::Formula(n) => locate_formula(alloc, source, list.as_slice(), units, n),
+        Subject::Byte(..) | Subject::Nothing => Ok(None),
+    }
+}
+
+/// Where a refusal is in the source of which its status tells, with what the run noted. A byte and a token outside of
+/// formulas are where they are, but a formula without its end is where the brace is that has no partner. A token of a
+/// formula after expansion is where it is written, and one of a macro's body where the formula calls the macro; behind the
+/// last one it is the closing `$`. A macro that lacks an argument is where the formula calls it, or the macro in whose body
+/// it is. What is wrong with a formula as a whole, a page too many and a place too many are at the first `$` of the
+/// formula. `None` where the status tells of no place in a source, or the source does not have what it tells.
+///
+/// # Errors
+///
+/// `AllocError` where memory ran out.
+pub fn locate(
+    alloc: Global,
+    source: &[u8],
+    status: &Status,
+    notes: Notes,
+) -> Result<Option<Located>, AllocError>
+    ensures is { IfOk result (λ found. IfSome found (λ located. located.offset ≤ length source.now)) }
+    ensures byte { (offset cause : ℕ) → subject_of status.now notes ≡ Byte offset cause
+        → IfOk result (λ found. located_offset found ≡ byte_found source.now offset cause) }
+    ensures fault { (own : UnitFields) → (tokens : List TokenFields) → IsRead notes.units source.now own tokens
+        → (numbers : NumbersFields) → subject_of status.now notes ≡ Fault numbers
+        → IfOk result (λ found. IsFaultFound (located_offset found) numbers source.now tokens
+        (stop own None plain_codes plain_table tokens)) }
+    ensures formula { (n : ℕ) → (own : UnitFields) → (tokens : List TokenFields) → IsRead notes.units source.now own tokens
+        → subject_of status.now notes ≡ Formula n → IfOk result (λ found. located_offset found
+        ≡ formula_found source.now (stop own (Some n) plain_codes plain_table tokens)) }
+    ensures nothing { subject_of status.now notes ≡ Nothing → result ≡ Ok None }
+{
+    let subject = subject_of(status, notes);
+    match subject {
+        Subject::Byte(offset, cause) => Ok(locate_byte(source, offset, cause)),
+        Subject::Fault(_) | Subject::Formula(_) => locate_read(alloc, source, subject, notes.units),
+        Subject::Nothing => Ok(None),
+    }
+}

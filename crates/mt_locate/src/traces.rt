@@ -1,0 +1,81 @@
+//! The token of a formula at which a fault is, after its macros are expanded.
+ghost use Rattle.std.specs.Prelude.{◌≡◌, ℕ, IfOk};
+ghost use Rattle.std.specs.Option.{option_copied};
+ghost use Rattle.mt_reader.specs.Stops.{formula_from};
+ghost use Rattle.mt_locate.specs.Faults.{expanded_token, has_wanted, traced_token};
+
+use crate::places::FaultyFormula;
+use mt_macro::{ExpandError, Trace, Traced, trace};
+use mt_reader::{Stop, StopFormula};
+use mt_scaled::Items;
+use mt_token::Token;
+use std::alloc::{AllocError, Global};
+
+/// Which tokens of an expansion are wanted.
+#[derive(Clone, Copy, Debug, PartialEq, Eq)]
+pub enum Wanted {
+    /// All, without macros.
+    Expanded,
+    /// Those up to the macro that lacks an argument.
+    ToMacro,
+}
+
+/// A formula at which reading stops, with its tokens as they are traced.
+#[derive(Drop)]
+pub struct TracedFormula<'a> {
+    /// The formula in the source.
+    pub formula: StopFormula<'a>,
+    /// The tokens that are wanted.
+    pub tokens: Items<Traced>,
+}
+
+// Whether an expansion ends so that it has the tokens that are wanted.
+fn has_wanted(end: &Result<(), ExpandError>, wanted: Wanted) -> bool
+    ensures { result ≡ has_wanted end.now wanted }
+{
+    match (end, wanted) {
+        (Ok(()), Wanted::Expanded) => true,
+        (Err(ExpandError::MissingArgument(_)), Wanted::ToMacro) => true,
+        _ => false,
+    }
+}
+
+/// The formula at which reading stops, traced; `None` where it has no end, or not the tokens that are wanted.
+///
+/// # Errors
+///
+/// `AllocError` where memory ran out.
+pub fn traced_formula<'a>(
+    alloc: Global,
+    stop: &Stop<'a>,
+    wanted: Wanted,
+) -> Result<Option<TracedFormula<'a>>, AllocError>
+    ensures { IfOk result (λ found. (index : ℕ) → traced_token found index
+        ≡ expanded_token stop.now.tables.macros wanted (formula_from stop.now.from.now) index) }
+{
+    let Some(formula) = stop.formula() else {
+        return Ok(None);
+    };
+    let Trace { tokens, end } = trace(alloc, &stop.tables.macros, formula.tokens)?;
+    if !has_wanted(&end, wanted) {
+        return Ok(None);
+    }
+    Ok(Some(TracedFormula {
+        formula,
+        tokens: Items::from_vec(tokens),
+    }))
+}
+
+impl<'a> TracedFormula<'a> {
+    ghost use Rattle.std.specs.Prelude.{Some};
+
+    /// The token of an index with its span, or the closing `$` at the end.
+    pub fn token_at(&self, index: usize) -> Option<&Token>
+        ensures { option_copied result ≡ traced_token (Some self.now) index }
+    {
+        match self.tokens.as_slice().get(index) {
+            Some(traced) => Some(&traced.token),
+            None => self.formula.closing.first(),
+        }
+    }
+}
