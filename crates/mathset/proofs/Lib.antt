@@ -14,3 +14,5 @@ mod FormLemmas
 mod MadeLemmas
 -- files that are fetched one after another, and the pages that are copied of them
 mod CopyLemmas
+-- what a run notes beside its status
+pub mod NoteLemmas

@@ -19,7 +19,7 @@ use Rattle.mathset.specs.DviSteps.{dvi_by, dvi_listing, dvi_step}
 use Rattle.mathset.specs.FontSteps.{font_set_of, font_set_step, font_step, fonts_step, line_font, list_step, loaded_step, tfm_name}
 use Rattle.mt_family.specs.Limits.{max_list_bytes}
 use Rattle.mt_dvi.specs.Limits.{max_dvi}
-use Rattle.mathset.specs.Limits.{max_tfm}
+use Rattle.mt_tfm.specs.Limits.{max_tfm}
 use Rattle.mt_pages.specs.Listing.{listing}
 use Rattle.mathset.specs.Outcome.{Outcome, outcome_after, plain, ◌>>=◌}
 use Rattle.mathset.specs.Reads.{file_of}

@@ -1,5 +1,7 @@
 -- what a run answers: the first refusal of its steps, else the product
 pub mod Answer
+-- what a run notes beside its status
+pub mod Noted
 -- how a run of `set` ends
 pub mod SetEnds
 -- how a run ends, and what its output got
@@ -12,8 +14,6 @@ pub mod Steps
 pub mod Outcome
 -- a step that reads a file
 pub mod Reads
--- how many bytes are taken
-pub mod Limits
 -- the steps that read the fonts
 pub mod FontSteps
 -- the step that reads a DVI file

@@ -10,7 +10,7 @@ use crate::typesetting::{Form, typeset};
 use mt_outside::{FileList, Held, SteadyCabinet};
 use mt_samples::{Toy, generate, toy_list, toy_tfm};
 use mt_scaled::{Bytes, Name};
-use mt_status::Status;
+use mt_status::{Notes, Status};
 use mt_words::{DEFAULT_LINE, Sample, Source};
 use std::alloc::{AllocError, Global};
 
@@ -52,5 +52,6 @@ pub fn generated_summary(alloc: Global, sample: &Sample) -> Result<Bytes, Status
         source: "generated.tex",
         line: DEFAULT_LINE,
     };
-    typeset(alloc, &words, Form::Summary(sample.count), &mut cabinet)
+    let form = Form::Summary(sample.count);
+    typeset(alloc, &words, form, &mut cabinet, &mut Notes::none())
 }

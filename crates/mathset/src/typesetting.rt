@@ -1,7 +1,11 @@
 //! A source set in the fonts of a font list.
-ghost use Rattle.std.specs.Prelude.{◌≤◌, length};
+ghost use Rattle.std.specs.Prelude.{◌≡◌, ◌≤◌, List, None, Some, length};
+ghost use Rattle.mt_outside.specs.declared.files.Held.{Held};
+ghost use Rattle.mt_status.specs.Notes.{NotesFault};
 ghost use Rattle.mt_pages.specs.LineWidth.{IsLineWidth};
 ghost use Rattle.mt_pages.specs.Typeset.{typeset_of};
+ghost use Rattle.mathset.specs.FontSteps.{font_set_step};
+ghost use Rattle.mathset.specs.Noted.{AreUnitsIn};
 ghost use Rattle.mathset.specs.inner.Forms.{IsPutOut, IsTypesetStep};
 ghost use Rattle.mathset.specs.Steps.{source_step, typeset_steps};
 
@@ -11,7 +15,7 @@ use mt_family::FontSet;
 use mt_outside::Cabinet;
 use mt_pages::{source_file, source_listing, source_summary};
 use mt_scaled::Bytes;
-use mt_status::Status;
+use mt_status::{Notes, Status};
 use mt_token::MAX_SOURCE;
 use mt_words::Source;
 use std::alloc::Global;
@@ -34,14 +38,17 @@ fn source_in_form(
     fonts: &FontSet,
     width: i64,
     source: &[u8],
+    notes: &mut Notes,
 ) -> Result<Bytes, Status>
     requires width { IsLineWidth width }
     ensures is { IsPutOut form (typeset_of fonts.now width source.now) result }
+    ensures units { notes.new.units ≡ notes.old.units }
+    ensures formula { NotesFault result notes.new.formula }
 {
     match form {
-        Form::File => source_file(alloc, fonts, width, source),
-        Form::Listing => source_listing(alloc, fonts, width, source),
-        Form::Summary(formulas) => source_summary(alloc, fonts, width, formulas, source),
+        Form::File => source_file(alloc, fonts, width, source, notes),
+        Form::Listing => source_listing(alloc, fonts, width, source, notes),
+        Form::Summary(formulas) => source_summary(alloc, fonts, width, formulas, source, notes),
     }
 }
 
@@ -51,15 +58,20 @@ fn set_source<C: Cabinet>(
     form: Form,
     fonts: &FontSet,
     cabinet: &mut C,
+    notes: &mut Notes,
 ) -> Result<Bytes, Status>
     ensures is { IsTypesetStep C.holds C.faults C.lost cabinet.old cabinet.new
         (source_step words.now.source words.now.line fonts.now) form result }
+    ensures units { notes.new.units ≡ notes.old.units }
+    ensures formula { NotesFault result notes.new.formula }
 {
+    notes.formula = None;
     let source = fetch_file(alloc, cabinet, words.source, MAX_SOURCE as u64)?;
-    source_in_form(alloc, form, fonts, words.line, source.as_slice())
+    source_in_form(alloc, form, fonts, words.line, source.as_slice(), notes)
 }
 
-/// Reads the font list, its fonts and the source, sets the source in these fonts and makes its pages in this form.
+/// Reads the font list, its fonts and the source, sets the source in these fonts and makes its pages in this form. What
+/// em and ex are is noted once the fonts are read, and so is the number of the formula that has a place too many.
 ///
 /// # Errors
 ///
@@ -69,10 +81,17 @@ pub fn typeset<C: Cabinet>(
     words: &Source<'_>,
     form: Form,
     cabinet: &mut C,
+    notes: &mut Notes,
 ) -> Result<Bytes, Status>
+    requires none { notes.old.units ≡ None }
     ensures is { IsTypesetStep C.holds C.faults C.lost cabinet.old cabinet.new
         (typeset_steps words.now) form result }
+    ensures units { (files : List Held) → C.holds cabinet.old ≡ Some files
+        → AreUnitsIn (font_set_step words.now.fonts files).result notes.new.units }
+    ensures formula { NotesFault result notes.new.formula }
 {
+    notes.formula = None;
     let fonts = read_font_set(alloc, words.fonts, cabinet)?;
-    set_source(alloc, words, form, &fonts, cabinet)
+    notes.units = Some(fonts.units());
+    set_source(alloc, words, form, &fonts, cabinet, notes)
 }

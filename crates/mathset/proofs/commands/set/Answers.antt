@@ -2,5 +2,5 @@ use Rattle.mathset.specs.Steps.{typeset_steps}
 use Rattle.mathset.proofs.MadeLemmas.{file_made}
 use Rattle.mathset.proofs.commands.set.Goals as goal
 
-pub returns : goal.returns
-returns g c = record { is = file_made _ _ (typeset_steps c.args.words.now) c.typeset.result c.typeset.ensures.is }
+pub returns-clause-is : goal.returns-clause-is
+returns-clause-is g c = file_made _ _ (typeset_steps c.args.words.now) c.typeset.result c.typeset.ensures.is

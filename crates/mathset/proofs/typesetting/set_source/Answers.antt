@@ -1,4 +1,4 @@
-use Rattle.std.proofs.Common.{ℕ, List}
+use Rattle.std.proofs.Common.{ℕ, List, sym}
 use Rattle.std.proofs.lemmas.Result.{err_from_is_err_and}
 use Rattle.mt_outside.specs.declared.files.Held.{Held}
 use Rattle.mt_token.specs.Tokens.{max_source}
@@ -10,18 +10,19 @@ use Rattle.mathset.proofs.StepLemmas.{step_err}
 use Rattle.mathset.proofs.WidthLemmas.{line_kept}
 use Rattle.mathset.proofs.typesetting.set_source.Goals as goal
 
-pub returns : goal.returns
-returns g c = record {
-  is =
-      rw (← c.words.view_is)
-      (put_step _ _ (file_of c.words.inside.source.now max_source) _ (typeset_of c.args.fonts.now c.words.inside.line) c.args.form c.source_in_form.result c.in_ok-source.ensures.is
-      (rw (line_kept c.words.inside.line c.words.invariant.0 c.words.invariant.1, c.as_slice.ensures) at c.source_in_form.ensures.is));
-}
+pub returns-clause-is : goal.returns-clause-is
+returns-clause-is g c =
+    rw (← c.words.view_is)
+    (put_step _ _ (file_of c.words.inside.source.now max_source) _ (typeset_of c.args.fonts.now c.words.inside.line) c.args.form c.source_in_form.result c.in_ok-source.ensures.is
+    (rw (line_kept c.words.inside.line c.words.invariant.0 c.words.invariant.1, c.as_slice.ensures) at c.source_in_form.ensures.is))
 
-pub returns-in_err-source : goal.returns-in_err-source
-returns-in_err-source g c = record {
-  is =
-      let p = err_from_is_err_and c.from_residual.result c.from_residual.ensures.1 in
-      rw (p.1, p.2, ← c.words.view_is)
-      (step_err {T = List ℕ} {U = TypesetValue} _ _ (file_of c.words.inside.source.now max_source) (λ (held : List Held) (source : List ℕ). plain (typeset_of c.args.fonts.now c.words.inside.line source)) c.in_err-source.field-0.0 c.in_err-source.ensures.is);
-}
+pub returns-in_err-source-clause-is : goal.returns-in_err-source-clause-is
+returns-in_err-source-clause-is g c =
+    let p = err_from_is_err_and c.from_residual.result c.from_residual.ensures.1 in
+    rw (p.1, p.2, ← c.words.view_is)
+    (step_err {T = List ℕ} {U = TypesetValue} _ _ (file_of c.words.inside.source.now max_source) (λ (held : List Held) (source : List ℕ). plain (typeset_of c.args.fonts.now c.words.inside.line source)) c.in_err-source.field-0.0 c.in_err-source.ensures.is)
+
+pub returns-in_err-source-clause-formula : goal.returns-in_err-source-clause-formula
+returns-in_err-source-clause-formula g c =
+    let p = err_from_is_err_and c.from_residual.result c.from_residual.ensures.1 in
+    rw (p.1, p.2) (sym c.in_err-source.ensures.few)

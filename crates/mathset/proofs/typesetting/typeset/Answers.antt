@@ -1,4 +1,4 @@
-use Rattle.std.proofs.Common.{List}
+use Rattle.std.proofs.Common.{List, sym}
 use Rattle.std.proofs.lemmas.Result.{err_from_is_err_and}
 use Rattle.mt_outside.specs.declared.files.Held.{Held}
 use Rattle.mt_family.specs.SetValue.{SetValue}
@@ -9,17 +9,18 @@ use Rattle.mathset.proofs.MadeLemmas.{puts_then}
 use Rattle.mathset.proofs.StepLemmas.{step_err}
 use Rattle.mathset.proofs.typesetting.typeset.Goals as goal
 
-pub returns : goal.returns
-returns g c = record {
-  is =
-      rw (← c.words.view_is)
-      (puts_then _ _ _ (font_set_step c.words.inside.fonts.now) c.in_ok-fonts.fonts (source_step c.words.inside.source.now c.words.inside.line) c.args.form c.set_source.result c.in_ok-fonts.ensures.is (rw (← c.words.view_is) at c.set_source.ensures.is));
-}
+pub returns-clause-is : goal.returns-clause-is
+returns-clause-is g c =
+    rw (← c.words.view_is)
+    (puts_then _ _ _ (font_set_step c.words.inside.fonts.now) c.in_ok-fonts.fonts (source_step c.words.inside.source.now c.words.inside.line) c.args.form c.set_source.result c.in_ok-fonts.ensures.is (rw (← c.words.view_is) at c.set_source.ensures.is))
 
-pub returns-in_err-fonts : goal.returns-in_err-fonts
-returns-in_err-fonts g c = record {
-  is =
-      let p = err_from_is_err_and c.from_residual.result c.from_residual.ensures.1 in
-      rw (p.1, p.2, ← c.words.view_is)
-      (step_err {T = SetValue} {U = TypesetValue} _ _ (font_set_step c.words.inside.fonts.now) (λ (held : List Held) (fonts : SetValue). source_step c.words.inside.source.now c.words.inside.line fonts held) c.in_err-fonts.field-0.0 c.in_err-fonts.ensures.is);
-}
+pub returns-in_err-fonts-clause-is : goal.returns-in_err-fonts-clause-is
+returns-in_err-fonts-clause-is g c =
+    let p = err_from_is_err_and c.from_residual.result c.from_residual.ensures.1 in
+    rw (p.1, p.2, ← c.words.view_is)
+    (step_err {T = SetValue} {U = TypesetValue} _ _ (font_set_step c.words.inside.fonts.now) (λ (held : List Held) (fonts : SetValue). source_step c.words.inside.source.now c.words.inside.line fonts held) c.in_err-fonts.field-0.0 c.in_err-fonts.ensures.is)
+
+pub returns-in_err-fonts-clause-formula : goal.returns-in_err-fonts-clause-formula
+returns-in_err-fonts-clause-formula g c =
+    let p = err_from_is_err_and c.from_residual.result c.from_residual.ensures.1 in
+    rw (p.1, p.2) (sym c.in_err-fonts.ensures.few)
