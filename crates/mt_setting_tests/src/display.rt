@@ -163,7 +163,7 @@ fn stacks_lines(rt: HostRuntime) {
 fn refuses_a_place_too_many(rt: HostRuntime) {
     let lines = column(rt.alloc(), LETTER).expect(&rt, "memory");
     let refusal = stack_lines(rt.alloc(), &lines, 3).err();
-    assert!(rt; refusal == Some(StackError::TooMany));
+    assert!(rt; refusal == Some(StackError::TooMany { line: 3 }));
 }
 
 #[test]

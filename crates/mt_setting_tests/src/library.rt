@@ -9,6 +9,7 @@ use mt_family::FontSet;
 use mt_pages::source_file;
 use mt_rules::{Atom, Class, Field, Item, Kind, Limits, MathList, Style, Symbol};
 use mt_samples::{Toy, toy_fonts, toy_tfm};
+use mt_status::Notes;
 use mt_tfm::read_tfm;
 use std::alloc::{AllocError, Global};
 use std::process::Abort;
@@ -80,7 +81,8 @@ fn reads_a_dvi_file(rt: HostRuntime) -> Result<(), Fail> {
     let alloc = rt.alloc();
     let fonts = toy_fonts(alloc)?;
     // The file of a source of one formula, on lines of 6.5in.
-    let file = source_file(alloc, &fonts, 30785863, b"$x^2$").expect(&rt, "a file");
+    let mut notes = Notes::none();
+    let file = source_file(alloc, &fonts, 30785863, b"$x^2$", &mut notes).expect(&rt, "a file");
     let pages = read_dvi(alloc, &fonts, file.as_slice()).expect(&rt, "its pages");
     assert!(rt;
         pages
