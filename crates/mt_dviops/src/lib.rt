@@ -11,8 +11,6 @@ mod page;
 mod select;
 mod selected;
 mod source;
-#[cfg(test)]
-mod tests;
 mod totals;
 mod write;
 

@@ -15,8 +15,6 @@ mod rows;
 mod runs;
 mod scripts;
 mod tables;
-#[cfg(test)]
-mod tests;
 
 pub use gaps::{Gap, Run};
 pub use items::PlacedItem;

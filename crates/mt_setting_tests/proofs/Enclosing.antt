@@ -27,7 +27,7 @@ abbrev pub AllBetween : List Item → Type 0
 AllBetween [] = ⊤
 AllBetween (i ∷ is) = StandsBetween (element_of i) × AllBetween is
 
--- a left boundary, and then what stands between
+-- a left boundary, and then what is between
 abbrev pub BeginsWithLeft : List Item → Type 0
 BeginsWithLeft (Left d ∷ is) = AllBetween is
 BeginsWithLeft _ = ⊥

@@ -4,7 +4,7 @@ use Rattle.mt_rules.specs.Facts.{StandsInside}
 use Rattle.mt_rules.specs.Modest.{ElementAmounts, element_items, element_nesting}
 use Rattle.mt_rules.specs.Sequence.{Element, MiddleElement}
 
--- a middle, or what may stand between two of the boundaries and middles
+-- a middle, or what may be between two of the boundaries and middles
 abbrev pub StandsBetween : Element → Type 0
 StandsBetween (MiddleElement delim) = ⊤
 StandsBetween e = StandsInside e

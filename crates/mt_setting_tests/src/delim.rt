@@ -43,7 +43,7 @@ fn characters_by_the_wanted_size(rt: HostRuntime) -> Result<(), Fail> {
     Ok(())
 }
 
-// What stands in the column of a brace with so many repeats in a row.
+// What is in the column of a brace with so many repeats in a row.
 fn brace_marks(repeats: u64) -> [Mark; 5] {
     let stack = Mark::Stack {
         font: 9,

@@ -20,7 +20,7 @@ fn packed(alloc: Global, pieces: Vec<Piece>) -> Result<Packed, PackError>
     hpack(alloc, Row::from_vec(pieces))
 }
 
-// = and a letter, as they stand on the right side of an equation.
+// = and a letter, as they are on the right side of an equation.
 fn right_side(alloc: Global) -> Result<Packed, PackError>
     ensures { IfOk result (λ b. b.level ≡ 1) }
 {
@@ -112,7 +112,7 @@ fn rows(alloc: Global, first: Extents) -> Result<PackedList, PackError>
     Ok(Items::from_vec(vec![in alloc; first, second].map_err(AllocError::from)?))
 }
 
-// They stand in a line of 500001sp.
+// They are in a line of 500001sp.
 fn centred(alloc: Global, first: Extents) -> Result<Lines, PackError>
     ensures few { IfOk result (λ lines. length lines ≤ 2 ^ 21) }
     ensures shifts { IfOk result (All (λ (l : LineFields). Within (2 ^ 40) l.shift)) }

@@ -19,6 +19,8 @@ mod display_rows;
 #[cfg(test)]
 mod dvi;
 #[cfg(test)]
+mod dviops;
+#[cfg(test)]
 mod dviread;
 #[cfg(test)]
 mod family;
@@ -32,6 +34,8 @@ mod middles;
 mod pages;
 #[cfg(test)]
 mod parts;
+#[cfg(test)]
+mod piece_stack;
 #[cfg(test)]
 mod pieces;
 #[cfg(test)]

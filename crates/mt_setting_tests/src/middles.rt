@@ -43,7 +43,7 @@ const BRACE: Delim = Delim {
     large: Symbol { fam: 3, code: 8 },
 };
 
-// What stands between the boundaries of a list.
+// What is between the boundaries of a list.
 #[derive(Clone, Copy)]
 enum Between {
     // An atom of one character.
@@ -381,7 +381,7 @@ fn sets_null_delimiters(rt: HostRuntime) -> Result<(), Fail> {
     Ok(())
 }
 
-// What stands after a middle is set too, and its fault is told.
+// What is after a middle is set too, and its fault is reported.
 #[test]
 fn refuses_a_missing_family_after_a_middle(rt: HostRuntime) -> Result<(), Fail> {
     let alloc = rt.alloc();

@@ -205,7 +205,7 @@ fn small_letter(rt: &impl Abort, alloc: Global, code: u8) -> Packed
     glyph_box(alloc, 4, code, SMALL).expect(rt, "a letter")
 }
 
-// A letter over a letter, with a rule 3sp thick: half of 3 is 2, so the denominator stands 1sp higher than
+// A letter over a letter, with a rule 3sp thick: half of 3 is 2, so the denominator is 1sp higher than
 // its shift says.
 #[test]
 fn a_rule_of_odd_thickness(rt: HostRuntime) -> Result<(), Fail> {

@@ -15,7 +15,7 @@ const CLASSES: [Class; 8] = [
     Class::Inner,
 ];
 
-// The table of The TeXbook, chapter 18: 0 none, 1 thin, 2 medium, 3 thick. In script styles, what stands there in
+// The table of The TeXbook, chapter 18: 0 none, 1 thin, 2 medium, 3 thick. In script styles, what is there in
 // parentheses is none.
 const IN_DISPLAY: [&[u8; 8]; 8] = [
     b"01230001",

@@ -1,16 +1,12 @@
+//! The pieces of a row on one stack.
 ghost use Rattle.std.specs.Prelude.{◌≡◌, length, IfOk};
 
-use crate::{Pieces, PlacedItem, Space};
-use mt_box::{Extents, Piece, Place, PlaceError, glyph_box, places};
+use crate::pieces::{LETTER, glyph};
+use mt_box::{Extents, Piece, PlaceError, glyph_box, places};
+use mt_pieces::{Pieces, PlacedItem, Space};
 use mt_scaled::Length;
 use std::alloc::{AllocError, Global};
 use std::test::Fail;
-
-const LETTER: Extents = Extents {
-    width: 327680,
-    height: 327680,
-    depth: 0,
-};
 
 // A letter, a kern and another letter.
 fn three_pieces(alloc: Global) -> Result<Pieces, AllocError>
@@ -21,15 +17,6 @@ fn three_pieces(alloc: Global) -> Result<Pieces, AllocError>
     pieces.put_kern(Length { sp: 1000 })?;
     pieces.put_glyph(3, 98, LETTER)?;
     Ok(pieces)
-}
-
-fn glyph(code: u8, h: i64) -> Place {
-    Place::Glyph {
-        font: 3,
-        code,
-        h,
-        v: 0,
-    }
 }
 
 #[test]
@@ -46,7 +33,7 @@ fn packs_a_row_and_takes_it(rt: HostRuntime) -> Result<(), Fail> {
     let page = places(alloc, body, 0, 0, 2).expect(&rt, "two places");
     assert_eq!(rt;
         page.as_slice(),
-        [glyph(97, 0), glyph(98, 328680)].as_slice()
+        [glyph(3, 97, 0, 0), glyph(3, 98, 328680, 0)].as_slice()
     );
     assert_eq!(rt; pieces.len(), 0);
     Ok(())
@@ -108,7 +95,7 @@ fn puts_boxes_on_a_page(rt: HostRuntime) -> Result<(), Fail> {
         .expect(&rt, "a place");
     let full = pieces.put_places(first, &mut page, 0, 0, 1);
     assert!(rt; matches!(full, Err(PlaceError::TooMany)));
-    assert_eq!(rt; page.as_slice(), [glyph(98, 10)].as_slice());
+    assert_eq!(rt; page.as_slice(), [glyph(3, 98, 10, 0)].as_slice());
     let body = pieces.take_box(alloc)?;
     assert!(rt; body.extents().width == 327680 && pieces.len() == 1);
     Ok(())

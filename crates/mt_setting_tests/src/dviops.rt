@@ -1,8 +1,7 @@
 //! The file of one page, picked and joined.
-
 ghost use Rattle.std.specs.Prelude.{◌≡◌, ◌≤◌, IfOk, length};
 
-use crate::{FileBytes, OpError, append_files, select_pages};
+use mt_dviops::{FileBytes, OpError, append_files, select_pages};
 use mt_dviread::DviError;
 use mt_samples::toy_fonts;
 use mt_scaled::{Bytes, Items};
