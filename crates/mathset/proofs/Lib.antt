@@ -6,7 +6,7 @@ pub mod StepLemmas
 pub mod FontLemmas
 -- the width of a line
 pub mod WidthLemmas
--- no words and files ask for a refusal for want of memory
+-- no words and files ask for a refusal for lack of memory
 pub mod NoMemory
 -- the pages of a source, in the form in which they are put out
 mod FormLemmas

@@ -1,4 +1,4 @@
--- No words and files ask for a refusal for want of memory (`answer_avoids`).
+-- No words and files ask for a refusal for lack of memory (`answer_avoids`).
 use Rattle.std.proofs.Common.{◌≡◌, ◌++◌, ℕ, length, Bool, true, false, List, [], ◌∷◌, refl, ap}
 use Rattle.std.specs.Prelude.{ℤ, Option, Some, None, Result, Ok, Err, nat_lt, if◌then◌else◌}
 use Rattle.mt_outside.specs.Files.{content}
@@ -39,7 +39,7 @@ use Rattle.mt_pages.proofs.PageRefusals.{typeset_avoids}
 
 -- ---- steps one after another
 
--- a step that is not refused for want of memory
+-- a step that is not refused for lack of memory
 abbrev StepAvoids : {T : Type 0} → Outcome T → Type 0
 StepAvoids step = Avoids OutOfMemory step.result
 

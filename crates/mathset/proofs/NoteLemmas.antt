@@ -7,10 +7,11 @@ use Rattle.mt_outside.specs.declared.files.Held.{Held}
 use Rattle.mt_scaled.specs.declared.unit.Units.{Units}
 use Rattle.mt_status.specs.Notes.{NotesFault, has_too_many_places, is_noted, is_too_many}
 use Rattle.mt_status.specs.declared.status.Status.{Status}
-use Rattle.mt_status.specs.declared.status.Status.TheVariants.{Done, WriteFault}
+use Rattle.mt_status.specs.declared.status.Much.TheVariants as much
+use Rattle.mt_status.specs.declared.status.Status.TheVariants.{Done, TooMuch, WriteFault}
 use Rattle.mt_words.specs.declared.request.Request.{Request}
 use Rattle.mt_words.specs.declared.request.Request.TheVariants.{Set, Places}
-use Rattle.mathset.specs.Noted.{AreUnitsIn, AreUnitsOf}
+use Rattle.mathset.specs.Noted.{AreUnitsIn, AreUnitsOf, is_refused_source, refuses_source}
 use Rattle.mathset.specs.Outcome.{Outcome}
 use Rattle.mathset.specs.Product.{Product}
 use Rattle.mathset.specs.inner.Runs.{EndLeaves, LeavesOutput}
@@ -38,6 +39,25 @@ pub ended_noted : {C K : Type 0} (holds : C → Option (List Held)) (reads : C �
 ended_noted holds reads last written writes steps cabinet cabinet' out out' (Ok bytes) status made end =
     written_few written writes made.product out out' status (end made.product made.made made.lean)
 ended_noted holds reads last written writes steps cabinet cabinet' out out' (Err refusal) status step end = ap has_too_many_places end.0
+
+-- a status of a file is none of too many places
+pub few_of_file : (status : Status) → refuses_source status ≡ false → has_too_many_places status ≡ false
+few_of_file (TooMuch much.Places count) never = absurd (cc)
+few_of_file status of_file = refl
+
+written_whole : {K : Type 0} (written : K → Option (List ℕ)) (writes : K → ℕ) (product : Product) (out out' : K) (status : Status) → LeavesOutput written writes product out out' status
+    → refuses_source status ≡ false
+written_whole written writes product out out' Done end = refl
+written_whole written writes product out out' (WriteFault count) end = refl
+written_whole written writes product out out' status end = absurd end
+
+-- the end of a run refuses a source exactly where what was to be made is refused so
+pub ended_refused : {C K : Type 0} (holds : C → Option (List Held)) (reads : C → ℕ) (last : C → Option (List ℕ)) (written : K → Option (List ℕ)) (writes : K → ℕ) (steps : List Held → Outcome Product)
+    (cabinet cabinet' : C) (out out' : K) (made : Result (List ℕ) Status) (status : Status) → IsMade holds reads last cabinet cabinet' steps made
+    → EndLeaves written writes made out out' status → refuses_source status ≡ is_refused_source made
+ended_refused holds reads last written writes steps cabinet cabinet' out out' (Ok bytes) status made end =
+    written_whole written writes made.product out out' status (end made.product made.made made.lean)
+ended_refused holds reads last written writes steps cabinet cabinet' out out' (Err refusal) status step end = ap refuses_source end.0
 
 -- nothing is noted
 pub no_units : (request : Option Request) (files : List Held) → AreUnitsOf request files None

@@ -33,7 +33,7 @@ use Rattle.mt_words.specs.declared.request.Request.TheVariants.{Join, Pick, Read
 use Rattle.mt_status.specs.declared.status.Status.{Status}
 use Rattle.mt_status.specs.declared.status.Status.TheVariants.{Done, BadWords, ReadFault, TooLong, WriteFault, FontList, BadTfm, BadFamily, BadSource, BadFormula, Budget, MissingFamily, MissingChar, SmartLigature, Overflow, TooTall, TooDeep, TooMuch, BadDvi, BadPick, MagClash, BadFile, OutOfMemory}
 
--- a status is Done, a fault, want of memory, or a refusal that the words and the files give
+-- a status is Done, a fault, lack of memory, or a refusal that the words and the files give
 by_status : (P : Status → Type 0) → P Done → ((name : List ℕ) → P (ReadFault name)) → ((count : ℕ) → P (WriteFault count)) → P OutOfMemory
     → ((status : Status) → IsToldRefusal status → IsQuiet status → P status) → (status : Status) → P status
 by_status P done lost cut memory told Done = done
@@ -172,7 +172,7 @@ bad_words_run holds reads last written writes words cabinet out none = record {
   kept = refl;
 }
 
--- want of memory while the words are read
+-- lack of memory while the words are read
 pub no_words_run : {C K : Type 0} (holds : C → Option (List Held)) (reads : C → ℕ) (last : C → Option (List ℕ)) (written : K → Option (List ℕ)) (writes : K → ℕ) (steps : List Held → Outcome Product)
     (cabinet : C) (out : K) → IsRun holds reads last written writes steps cabinet cabinet out out OutOfMemory
 no_words_run holds reads last written writes steps cabinet out = record {

@@ -14,7 +14,7 @@ use Rattle.mt_status.specs.declared.status.Much.TheVariants.{Pages, Places, Byte
 use Rattle.mt_status.specs.declared.status.Status.{Status}
 use Rattle.mt_status.specs.declared.status.Status.TheVariants.{TooMuch, BadPick, MagClash, BadFile}
 
--- why there is no file of joined files: a file at fault is told by its number from 0
+-- why there is no file of joined files: a file at fault is reported by its number from 0
 abbrev pub join_refusal : Refusal → Status
 join_refusal (FileFault file fault) = BadFile file fault.at (dvi_cause_number fault.cause)
 join_refusal (PageOutOfRange page) = BadPick page

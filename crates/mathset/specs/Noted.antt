@@ -1,12 +1,15 @@
--- What a run notes beside its status (`AreUnitsOf`, `sets_source`).
-use Rattle.std.specs.Prelude.{◌≡◌, ℕ, Bool, true, false, List, Option, Some, None, Result, Ok, Err, ⊤}
+-- What a run notes beside its status (`AreUnitsOf`), and where (`sets_source`, `refuses_source`).
+use Rattle.std.specs.Prelude.{◌≡◌, Bool, true, false, List, Option, Some, None, Result, Ok, Err, ⊤}
 use Rattle.mt_family.specs.SetValue.{SetValue}
 use Rattle.mt_family.specs.Sets.{units_of}
 use Rattle.mt_outside.specs.declared.files.Held.{Held}
 use Rattle.mt_scaled.specs.declared.unit.Units.{Units}
 use Rattle.mt_words.specs.declared.request.Request.{Request}
-use Rattle.mt_words.specs.declared.request.Request.TheVariants.{Set, Places, Read, Pick, Join, Gen}
+use Rattle.mt_words.specs.declared.request.Request.TheVariants.{Set, Places}
+use Rattle.mt_status.specs.Statuses.{subject_of}
 use Rattle.mt_status.specs.declared.status.Status.{Status}
+use Rattle.mt_status.specs.declared.subject.Subject.{Subject}
+use Rattle.mt_status.specs.declared.subject.Subject.TheVariants as subjects
 use Rattle.mathset.specs.FontSteps.{font_set_step}
 
 -- whether a source of the files is to be set
@@ -14,6 +17,21 @@ abbrev pub sets_source : Option Request → Bool
 sets_source (Some (Set words)) = true
 sets_source (Some (Places words)) = true
 sets_source request = false
+
+-- whether a status tells of a source: of a byte, a formula or a page
+abbrev pub is_of_source : Subject → Bool
+is_of_source (subjects.Byte offset cause) = true
+is_of_source (subjects.Fault numbers) = true
+is_of_source (subjects.Formula n family) = true
+is_of_source subjects.Places = true
+is_of_source subject = false
+
+abbrev pub refuses_source : Status → Bool
+refuses_source status = is_of_source (subject_of status)
+
+abbrev pub is_refused_source : {T : Type 0} → Result T Status → Bool
+is_refused_source (Ok value) = false
+is_refused_source (Err status) = refuses_source status
 
 -- what em and ex are in these fonts, where they are noted
 abbrev pub AreUnitsIn : Result SetValue Status → Option Units → Type 0

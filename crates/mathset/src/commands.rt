@@ -1,8 +1,8 @@
 //! The commands, from their files to what is to be written.
-ghost use Rattle.std.specs.Prelude.{◌≡◌, ◌&&◌, List, None, Some};
+ghost use Rattle.std.specs.Prelude.{◌≡◌, ◌&&◌, IsSome, List, None, Some, true};
 ghost use Rattle.mt_outside.specs.declared.files.Held.{Held};
 ghost use Rattle.mathset.specs.FontSteps.{font_set_step};
-ghost use Rattle.mathset.specs.Noted.{AreUnitsIn, AreUnitsOf, sets_source};
+ghost use Rattle.mathset.specs.Noted.{AreUnitsIn, AreUnitsOf, is_refused_source, sets_source};
 ghost use Rattle.mathset.specs.inner.Steps.{IsMade, text_of};
 ghost use Rattle.mathset.specs.Steps.{gen_answer, places_steps, request_steps, set_steps};
 ghost use Rattle.mt_status.specs.Notes.{NotesFault, is_noted, is_too_many};
@@ -32,6 +32,7 @@ fn set<C: Cabinet>(
         (set_steps words.now) result }
     ensures units { (files : List Held) → C.holds cabinet.old ≡ Some files
         → AreUnitsIn (font_set_step words.now.fonts files).result notes.new.units }
+    ensures noted { is_refused_source result ≡ true → IsSome notes.new.units }
     ensures formula { NotesFault result notes.new.formula }
 {
     typeset(alloc, words, Form::File, cabinet, notes)
@@ -49,6 +50,7 @@ fn places<C: Cabinet>(
         (places_steps words.now) result }
     ensures units { (files : List Held) → C.holds cabinet.old ≡ Some files
         → AreUnitsIn (font_set_step words.now.fonts files).result notes.new.units }
+    ensures noted { is_refused_source result ≡ true → IsSome notes.new.units }
     ensures formula { NotesFault result notes.new.formula }
 {
     typeset(alloc, words, Form::Listing, cabinet, notes)
@@ -75,6 +77,8 @@ pub fn perform<C: Cabinet>(
         → cabinet.new ≡ cabinet.old }
     ensures units { (files : List Held) → C.holds cabinet.old ≡ Some files
         → AreUnitsOf (Some request.now) files notes.new.units }
+    ensures noted { sets_source (Some request.now) ≡ true → is_refused_source result ≡ true
+        → IsSome notes.new.units }
     ensures formula { is_noted notes.new.formula
         ≡ (sets_source (Some request.now) && is_too_many result) }
 {

@@ -1,7 +1,6 @@
 //! The commands `pick` and `join`: pages of DVI files, copied to a new one.
 ghost use Rattle.std.specs.Prelude.{[], ◌≡◌, ◌≤◌, Err, IfOk, IfSome, List, None, Result, ℕ, length, map};
-ghost use Rattle.mt_dviread.specs.Errors.{dvi_cause_number};
-ghost use Rattle.mt_dviread.specs.Faults.{fault_of};
+ghost use Rattle.mt_dviread.specs.Errors.{dvi_cause_number, fault_of};
 ghost use Rattle.mt_words.specs.Limits.{max_joined};
 ghost use Rattle.mt_dviops.specs.Copied.{Refusal};
 ghost use Rattle.mt_dviops.specs.Refused.{Refuses};

@@ -1,7 +1,7 @@
 //! The command `read`: the pages of a DVI file.
 ghost use Rattle.std.specs.Prelude.{◌≡◌, IfSome};
 ghost use Rattle.mt_dvi.specs.File.{Fault};
-ghost use Rattle.mt_dviread.specs.Faults.{fault_of};
+ghost use Rattle.mt_dviread.specs.Errors.{fault_of};
 ghost use Rattle.mathset.specs.DviSteps.{dvi_listing, dvi_refusal, dvi_step};
 ghost use Rattle.mt_status.specs.Origins.{IsPure};
 ghost use Rattle.mathset.specs.inner.Steps.{IsMade, IsStep, text_of};

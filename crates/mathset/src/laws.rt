@@ -5,11 +5,11 @@ ghost use Rattle.mathset.specs.Answer.{answer};
 
 use mt_status::Status;
 
-/// No words and files ask for a refusal for want of memory: the first refusal that the definitions
+/// No words and files ask for a refusal for lack of memory: the first refusal that the definitions
 /// give is never `OutOfMemory`.
 ///
 /// So the lines of the definitions that have it stand for faults that do not occur: a source that
-/// is too long for its tokens, a brace of a formula without partner, and want of memory of the
+/// is too long for its tokens, a brace of a formula without partner, and lack of memory of the
 /// layers below.
 #[tactic(auto, using(crate::proofs::NoMemory::answer_avoids))]
 pub fn answer_is_never_want_of_memory()

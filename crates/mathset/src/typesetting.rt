@@ -1,11 +1,11 @@
 //! A source set in the fonts of a font list.
-ghost use Rattle.std.specs.Prelude.{◌≡◌, ◌≤◌, List, None, Some, length};
+ghost use Rattle.std.specs.Prelude.{◌≡◌, ◌≤◌, IsSome, List, None, Some, length, true};
 ghost use Rattle.mt_outside.specs.declared.files.Held.{Held};
 ghost use Rattle.mt_status.specs.Notes.{NotesFault};
 ghost use Rattle.mt_pages.specs.LineWidth.{IsLineWidth};
 ghost use Rattle.mt_pages.specs.Typeset.{typeset_of};
 ghost use Rattle.mathset.specs.FontSteps.{font_set_step};
-ghost use Rattle.mathset.specs.Noted.{AreUnitsIn};
+ghost use Rattle.mathset.specs.Noted.{AreUnitsIn, is_refused_source};
 ghost use Rattle.mathset.specs.inner.Forms.{IsPutOut, IsTypesetStep};
 ghost use Rattle.mathset.specs.Steps.{source_step, typeset_steps};
 
@@ -88,6 +88,7 @@ pub fn typeset<C: Cabinet>(
         (typeset_steps words.now) form result }
     ensures units { (files : List Held) → C.holds cabinet.old ≡ Some files
         → AreUnitsIn (font_set_step words.now.fonts files).result notes.new.units }
+    ensures noted { is_refused_source result ≡ true → IsSome notes.new.units }
     ensures formula { NotesFault result notes.new.formula }
 {
     notes.formula = None;

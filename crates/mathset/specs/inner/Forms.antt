@@ -23,7 +23,7 @@ pub record HasForm (form : Form) (answer : Result TypesetValue Status) (bytes : 
   pub is : answer ≡ Ok typeset
   pub made : IsInForm form typeset bytes
 
--- the bytes are what is set, in this form; or the refusal is the answer, or memory was wanting
+-- the bytes are what is set, in this form; or the refusal is the answer, or memory ran out
 abbrev pub IsPutOut : Form → Result TypesetValue Status → Result (List ℕ) Status → Type 0
 IsPutOut form answer (Ok bytes) = HasForm form answer bytes
 IsPutOut form answer (Err status) = IsPure answer (Err status)

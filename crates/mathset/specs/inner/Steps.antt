@@ -23,7 +23,7 @@ StepBy Memory before now says asks = before.faults ≤ now.faults
 StepBy Never before now says asks = ⊥
 
 -- A step leaves the cabinet's files. Its answer is theirs, and no call failed; or a call failed, the cabinet keeps its name,
--- and it is one of the files that the steps ask for; or memory was wanting.
+-- and it is one of the files that the steps ask for; or memory ran out.
 pub record StepLeaves {T : Type 0} (before now : CabinetValue) (steps : List Held → Outcome T) (result : Result T Status) : Type 0 where
   pub kept : now.holds ≡ before.holds
   pub origin : StepBy (origin_of result) before now (λ files. (steps files).result ≡ result) (λ name files. Contains (steps files).asked name)
@@ -61,7 +61,7 @@ abbrev pub IsMade : {C : Type 0} → (C → Option (List Held)) → (C → ℕ) 
 IsMade holds faults lost before now steps result =
     StepMakes (record { holds = holds before; faults = faults before; lost = lost before }) (record { holds = holds now; faults = faults now; lost = lost now }) steps result
 
--- the bytes are the product that is answered, and lean; or the refusal is the answer, or memory was wanting
+-- the bytes are the product that is answered, and lean; or the refusal is the answer, or memory ran out
 pub record HasProduct (answer : Result Product Status) (bytes : List ℕ) : Type 0 where
   pub product : Product
   pub is : answer ≡ Ok product

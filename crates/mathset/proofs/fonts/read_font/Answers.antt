@@ -17,7 +17,7 @@ returns-in_err-bytes-clause-is g c =
     (step_err {T = List ℕ} {U = Metrics} _ _ (file_of (tfm_name c.args.line.now.name) max_tfm) (λ (held : List Held) (bytes : List ℕ). plain (line_font c.args.number c.args.line.now bytes)) c.in_err-bytes.field-0.0
     (rw name at c.in_err-bytes.ensures.is))
 
-pub returns-in_err-bytes-clause-few : goal.returns-in_err-bytes-clause-few
-returns-in_err-bytes-clause-few g c =
+pub returns-in_err-bytes-clause-of_file : goal.returns-in_err-bytes-clause-of_file
+returns-in_err-bytes-clause-of_file g c =
     let p = err_from_is_err_and c.from_residual-in_err-bytes.result c.from_residual-in_err-bytes.ensures.1 in
-    rw (p.1, p.2) c.in_err-bytes.ensures.few
+    rw (p.1, p.2) c.in_err-bytes.ensures.of_file

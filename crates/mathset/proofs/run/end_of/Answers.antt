@@ -1,13 +1,13 @@
-use Rattle.std.proofs.Common.{◌≡◌, ◌∙◌, Bool, ap, sym, subst, inr}
-use Rattle.std.specs.Prelude.{◌&&◌, Option, Some}
+use Rattle.std.proofs.Common.{◌≡◌, ◌∙◌, Bool, true, ap, sym, subst, inr}
+use Rattle.std.specs.Prelude.{◌&&◌, IsSome, Option, Some}
 use Rattle.mathset.specs.Answer.{steps_by}
 use Rattle.mathset.specs.Steps.{request_steps}
 use Rattle.mt_words.specs.declared.request.Request.{Request}
 use Rattle.mt_words.specs.declared.request.Request.TheVariants.{Gen}
 use Rattle.mathset.specs.inner.Runs.{IsRun}
 use Rattle.mathset.proofs.RunLemmas.{gen_ends, is_run, not_words}
-use Rattle.mathset.proofs.NoteLemmas.{ended_noted, no_formula, no_units}
-use Rattle.mathset.specs.Noted.{AreUnitsOf, sets_source}
+use Rattle.mathset.proofs.NoteLemmas.{ended_noted, ended_refused, no_formula, no_units}
+use Rattle.mathset.specs.Noted.{AreUnitsOf, refuses_source, sets_source}
 use Rattle.mt_status.specs.Notes.{has_too_many_places, is_noted}
 use Rattle.mathset.proofs.run.end_of.Goals as goal
 
@@ -57,6 +57,14 @@ returns-in-Ok-Some-clause-formula g c =
     ∙ ap (λ (b : Bool). sets_source (Some c.in-Ok-Some.request) && b)
     (sym (ended_noted g.C.Cabinet.holds g.C.Cabinet.faults g.C.Cabinet.lost g.K.Sink.written g.K.Sink.faults (request_steps c.in-Ok-Some.request) c.args.cabinet.now c.perform.new.cabinet c.args.out.now c.write_end.new.out c.perform.result
     c.write_end.result c.perform.ensures.is c.write_end.ensures)))
+
+pub returns-in-Ok-Some-clause-noted : goal.returns-in-Ok-Some-clause-noted
+returns-in-Ok-Some-clause-noted g c =
+    subst (λ (r : Option Request). sets_source r ≡ true → refuses_source c.write_end.result ≡ true → IsSome c.perform.new.notes.units) (sym c.in-Ok-Some.field-0-is ∙ c.in-Ok-Some.ensures)
+    (λ sets refused.
+    c.perform.ensures.noted sets
+    (sym (ended_refused g.C.Cabinet.holds g.C.Cabinet.faults g.C.Cabinet.lost g.K.Sink.written g.K.Sink.faults (request_steps c.in-Ok-Some.request) c.args.cabinet.now c.perform.new.cabinet c.args.out.now c.write_end.new.out c.perform.result
+    c.write_end.result c.perform.ensures.is c.write_end.ensures) ∙ refused))
 
 pub returns-in-Err-clause-units : goal.returns-in-Err-clause-units
 returns-in-Err-clause-units g c = λ files told. rw c.none.ensures (no_units _ files)

@@ -6,6 +6,7 @@ use Rattle.mathset.specs.Outcome.{plain}
 use Rattle.mathset.specs.Reads.{file_of}
 use Rattle.mt_pages.specs.Typeset.{TypesetValue, typeset_of}
 use Rattle.mathset.proofs.MadeLemmas.{put_step}
+use Rattle.mathset.proofs.NoteLemmas.{few_of_file}
 use Rattle.mathset.proofs.StepLemmas.{step_err}
 use Rattle.mathset.proofs.WidthLemmas.{line_kept}
 use Rattle.mathset.proofs.typesetting.set_source.Goals as goal
@@ -25,4 +26,4 @@ returns-in_err-source-clause-is g c =
 pub returns-in_err-source-clause-formula : goal.returns-in_err-source-clause-formula
 returns-in_err-source-clause-formula g c =
     let p = err_from_is_err_and c.from_residual.result c.from_residual.ensures.1 in
-    rw (p.1, p.2) (sym c.in_err-source.ensures.few)
+    rw (p.1, p.2) (sym (few_of_file _ c.in_err-source.ensures.of_file))

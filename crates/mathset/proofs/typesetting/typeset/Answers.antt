@@ -6,6 +6,7 @@ use Rattle.mathset.specs.FontSteps.{font_set_step}
 use Rattle.mathset.specs.Steps.{source_step}
 use Rattle.mt_pages.specs.Typeset.{TypesetValue}
 use Rattle.mathset.proofs.MadeLemmas.{puts_then}
+use Rattle.mathset.proofs.NoteLemmas.{few_of_file}
 use Rattle.mathset.proofs.StepLemmas.{step_err}
 use Rattle.mathset.proofs.typesetting.typeset.Goals as goal
 
@@ -23,4 +24,9 @@ returns-in_err-fonts-clause-is g c =
 pub returns-in_err-fonts-clause-formula : goal.returns-in_err-fonts-clause-formula
 returns-in_err-fonts-clause-formula g c =
     let p = err_from_is_err_and c.from_residual.result c.from_residual.ensures.1 in
-    rw (p.1, p.2) (sym c.in_err-fonts.ensures.few)
+    rw (p.1, p.2) (sym (few_of_file _ c.in_err-fonts.ensures.of_file))
+
+pub returns-in_err-fonts-clause-noted : goal.returns-in_err-fonts-clause-noted
+returns-in_err-fonts-clause-noted g c =
+    let p = err_from_is_err_and c.from_residual.result c.from_residual.ensures.1 in
+    rw (p.1, p.2, c.in_err-fonts.ensures.of_file) (λ never. absurd (cc))
