@@ -1,4 +1,4 @@
--- Where a byte of a text stands (`position_of`), and the line that it stands in (`line_at`).
+-- Where a byte of a text is (`position_of`), and the line that it is in (`line_at`).
 use Rattle.std.specs.Prelude.{ℕ, ◌+◌, ◌-◌, ◌==◌, List, [], ◌∷◌, take, drop, nat_eq, if◌then◌else◌}
 use Rattle.std.specs.List.{fold, count_by}
 use Rattle.mt_explain.specs.declared.position.Position.{Position}
@@ -18,7 +18,7 @@ column_of text offset = fold column_after 1 (take offset text)
 abbrev pub position_of : List ℕ → ℕ → Position
 position_of text offset = record { line = line_number text offset; column = column_of text offset }
 
--- how many bytes stand before the first line feed, or all
+-- how many bytes are before the first line feed, or all
 abbrev pub before_feed : List ℕ → ℕ
 before_feed [] = 0
 before_feed (b ∷ rest) = if b == 10 then 0 else before_feed rest + 1

@@ -1,44 +1,45 @@
-//! What is said of a DVI file that is refused: its name stands before the explanation.
+//! What is said of a DVI file that is refused: its name is before the explanation.
 ghost use Rattle.std.specs.Prelude.{◌≡◌};
 
 use crate::dvi_fonts::{FontFault, font_fault_at, push_font_fault};
 use crate::files::fetched;
-use crate::subject::{DviFault, Refusal};
+use crate::refusal::Refusal;
 use crate::text::{Text, Unsaid};
 use mt_dviread::{DviError, MAX_DVI};
 use mt_outside::Cabinet;
+use mt_status::DviFault;
 
 // The offset of the opcode at fault, where it is at fault for its font.
 fn font_offset(fault: DviFault) -> Option<u64> {
     match fault {
-        DviFault::Byte { offset, cause } | DviFault::ByteOfFile { offset, cause, .. } => {
+        DviFault::Byte(offset, cause) | DviFault::ByteOfFile(_, offset, cause) => {
             let is_of_font = cause == DviError::UnknownFont(offset).number();
             is_of_font.then_some(offset)
         }
-        DviFault::Page | DviFault::Magnification { .. } => None,
+        DviFault::Page | DviFault::Magnification(_) => None,
     }
 }
 
 // The number of the file that has a fault.
 fn number_of(fault: DviFault) -> u32 {
     match fault {
-        DviFault::Byte { .. } | DviFault::Page => 0,
-        DviFault::ByteOfFile { file, .. } | DviFault::Magnification { file } => file,
+        DviFault::Byte(..) | DviFault::Page => 0,
+        DviFault::ByteOfFile(file, ..) | DviFault::Magnification(file) => file,
     }
 }
 
 // Adds what is said of a font, with the place in the file.
 fn push_font(out: &mut Text, fault: DviFault, font: FontFault<'_>) {
     match fault {
-        DviFault::Byte { offset, .. } => {
+        DviFault::Byte(offset, _) => {
             out.push(b"dvi byte ");
             out.push_number(offset);
         }
-        DviFault::ByteOfFile { file, .. } => {
+        DviFault::ByteOfFile(file, ..) => {
             out.push(b"file ");
             out.push_number(file);
         }
-        DviFault::Page | DviFault::Magnification { .. } => {}
+        DviFault::Page | DviFault::Magnification(_) => {}
     }
     out.push(b": ");
     push_font_fault(out, font);
@@ -69,7 +70,7 @@ pub fn explain_dvi<C: Cabinet>(
         Some(font) => push_font(out, fault, font),
         None => out.push_explanation(run.alloc, run.status),
     }
-    if let (DviFault::Magnification { .. }, Some(first)) = (fault, files.first()) {
+    if let (DviFault::Magnification(_), Some(first)) = (fault, files.first()) {
         out.push_all(&[b", ", first.as_bytes()]);
     }
     out.push(b"\n");

@@ -7,7 +7,7 @@ use crate::text::Text;
 use crate::window::shown_columns;
 use itoa::Buffer;
 
-/// The columns in which the number of a line stands, to the right.
+/// The columns in which the number of a line is, to the right.
 const NUMBER_COLUMNS: usize = 5;
 
 // A byte as it is shown: a tab as a blank, and one that is not printable ASCII as `?`.

@@ -6,11 +6,11 @@ use crate::dvi_files::explain_dvi;
 use crate::family_lines::explain_family;
 use crate::font_files::{explain_font, explain_unread};
 use crate::list_lines::explain_list;
+use crate::refusal::Refusal;
 use crate::source_lines::explain_source;
-use crate::subject::{Refusal, Subject, subject_of};
 use crate::text::{Text, Unsaid};
 use mt_outside::{Cabinet, Sink, write_all};
-use mt_status::{Notes, Status, write_explanation};
+use mt_status::{Notes, Status, Subject, write_explanation};
 use mt_words::{Request, read_words};
 use std::alloc::Global;
 
@@ -44,16 +44,22 @@ fn explain_files<C: Cabinet>(
 ) -> Result<(), Unsaid>
     ensures holds { C.holds cabinet.new ≡ C.holds cabinet.old }
 {
-    match (subject_of(run.status), input) {
+    match (run.status.subject(), input) {
         (Subject::ListLine(line), _) => explain_list(out, run, list, line, input.first(), cabinet),
         (Subject::Font(number), _) => explain_font(out, run, list, number, cabinet),
         (Subject::Family(named), _) => explain_family(out, run, list, named, cabinet),
-        (Subject::Unread(name), _) => explain_unread(out, run, list, name, cabinet),
-        (Subject::Source(named), Input::Source(file)) => {
+        (Subject::Unread, _) => explain_unread(out, run, list, cabinet),
+        (Subject::Byte(..) | Subject::Fault(_) | Subject::Places, Input::Source(file)) => {
+            explain_source(out, run, list, file, None, cabinet)
+        }
+        (Subject::Formula(_, named), Input::Source(file)) => {
             explain_source(out, run, list, file, named, cabinet)
         }
         (Subject::Dvi(fault), Input::Dvi(files)) => explain_dvi(out, run, files, fault, cabinet),
-        (Subject::Source(_), Input::Dvi(_))
+        (
+            Subject::Byte(..) | Subject::Fault(_) | Subject::Places | Subject::Formula(..),
+            Input::Dvi(_),
+        )
         | (Subject::Dvi(_), Input::Source(_))
         | (Subject::Nothing, _) => Err(Unsaid),
     }

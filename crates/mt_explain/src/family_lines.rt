@@ -3,10 +3,11 @@ ghost use Rattle.std.specs.Prelude.{◌≡◌};
 
 use crate::files::{ListForms, ReadList, fetched_list};
 use crate::fonts::push_family;
-use crate::subject::{NamedFamily, Refusal};
+use crate::refusal::Refusal;
 use crate::text::{Text, Unsaid};
 use mt_family::{FontLine, FontList, MAX_FONTS};
 use mt_outside::Cabinet;
+use mt_status::NamedFamily;
 use mt_tfm::Wanted;
 use std::alloc::Global;
 

@@ -4,11 +4,12 @@ ghost use Rattle.std.specs.Prelude.{◌≡◌};
 use crate::files::{fetched, fetched_list};
 use crate::fonts::push_character;
 use crate::list_lines::{ListLine, line_of, push_list_line};
-use crate::subject::Refusal;
+use crate::refusal::Refusal;
 use crate::text::{Text, Unsaid};
 use mt_family::MAX_LIST_BYTES;
 use mt_outside::Cabinet;
 use mt_scaled::Name;
+use mt_status::Status;
 use mt_tfm::{MAX_TFM, TfmError, Wanted, read_tfm_wanted};
 use std::alloc::Global;
 
@@ -75,12 +76,14 @@ pub fn explain_unread<C: Cabinet>(
     out: &mut Text,
     run: Refusal<'_>,
     list: &str,
-    file: &Name,
     cabinet: &mut C,
 ) -> Result<(), Unsaid>
     ensures holds { C.holds cabinet.new ≡ C.holds cabinet.old }
 {
-    let font = file.as_slice().strip_suffix(b".tfm").ok_or(Unsaid)?;
+    let Status::ReadFault { name } = run.status else {
+        return Err(Unsaid);
+    };
+    let font = name.as_slice().strip_suffix(b".tfm").ok_or(Unsaid)?;
     let bytes = fetched(run.alloc, cabinet, list, MAX_LIST_BYTES)?;
     let line = line_of_font(bytes.as_slice(), font).ok_or(Unsaid)?;
     let fetches = b"; examples/fetch-fonts ";

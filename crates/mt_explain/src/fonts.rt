@@ -1,7 +1,7 @@
 //! Families, fonts and characters in words.
-use crate::subject::{Characters, NamedFamily};
 use crate::text::Text;
 use mt_family::{FontLine, FontList, Size};
+use mt_status::{Characters, NamedFamily};
 use mt_tfm::Wanted;
 
 /// The scaled points of 1pt.

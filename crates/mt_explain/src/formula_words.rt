@@ -3,7 +3,7 @@ use crate::group_words::group_words;
 use crate::missing_words::{missing_delimiter_words, missing_group_words};
 use crate::names::{is_unknown, push_unknown_name};
 use crate::text::{Text, text_of};
-use crate::tokens::{is_written, name_of};
+use crate::tokens::is_written;
 use mt_locate::{FaultyFormula, Located};
 use mt_macro::Traced;
 use mt_reader::ReadError;
@@ -32,15 +32,7 @@ pub fn cause_words(
         ReadError::BadDelimiter(_) => missing_delimiter_words(alloc, formula),
         ReadError::Unbalanced(_) => group_words(alloc, source, formula),
         ReadError::MissingField(_) => missing_group_words(alloc, formula),
-        ReadError::UnknownName(_)
-        | ReadError::TwoFractions(_)
-        | ReadError::MisplacedLimits(_)
-        | ReadError::BadNumber(_)
-        | ReadError::BadDimension(_)
-        | ReadError::MisplacedNumber(_)
-        | ReadError::TooDeep(_)
-        | ReadError::ExtraCell(_)
-        | ReadError::OutOfMemory => None,
+        _ => None,
     }
 }
 
@@ -53,7 +45,7 @@ fn is_empty_line(source: &[u8], located: &Located, name: &[u8]) -> bool {
 /// What is said of the name of the token at fault, where it means nothing in the formula.
 pub fn name_words(alloc: Global, source: &[u8], located: &Located) -> Option<Text> {
     let formula = located.formula.as_ref()?;
-    let name = name_of(located.token.as_ref()?)?;
+    let name = located.token.as_ref()?.kind.name()?.as_slice();
     if is_empty_line(source, located, name) {
         let text = b"a formula cannot have an empty line; is the closing $ missing?";
         return text_of(alloc, text);

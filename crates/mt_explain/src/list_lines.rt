@@ -3,7 +3,7 @@ ghost use Rattle.std.specs.Prelude.{◌≡◌};
 
 use crate::excerpt::push_line;
 use crate::files::fetched;
-use crate::subject::Refusal;
+use crate::refusal::Refusal;
 use crate::text::{Text, Unsaid};
 use crate::window::shown_columns;
 use mt_family::MAX_LIST_BYTES;

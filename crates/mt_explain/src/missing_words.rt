@@ -1,6 +1,6 @@
 //! What is missing in a formula, and behind which command.
 use crate::text::Text;
-use crate::tokens::{is_written, name_of, push_token};
+use crate::tokens::{is_written, push_token};
 use Wants::{Delimiter, Field, Group};
 use mt_locate::FaultyFormula;
 use mt_macro::{Macros, Traced};
@@ -35,7 +35,7 @@ static COMMANDS: [(&[u8], Wants); 45] = [
 
 // What has to follow a token.
 fn wanted_behind(traced: &Traced) -> Option<Wants> {
-    let name = name_of(&traced.token)?;
+    let name = traced.token.kind.name()?.as_slice();
     let row = COMMANDS.iter().find(|row| row.0 == name)?;
     Some(row.1)
 }

@@ -3,7 +3,7 @@ ghost use Rattle.std.specs.Prelude.{◌≡◌, ◌≤◌, ◌<◌, ◌+◌, ◌^
 ghost use Rattle.std.specs.List.{count_by, fold};
 ghost use Rattle.mt_explain.specs.Positions.{before_feed, column_after, line_at, position_of};
 
-/// Where a byte of a text stands. Lines and columns count from 1, columns in bytes, so that a tab is one column.
+/// Where a byte of a text is. Lines and columns count from 1, columns in bytes, so that a tab is one column.
 #[derive(Clone, Copy, Debug, PartialEq, Eq)]
 pub struct Position {
     /// The line.
@@ -47,7 +47,7 @@ fn column_after(column: usize, byte: u8) -> usize
     if byte == b'\n' { 1 } else { column + 1 }
 }
 
-// How many bytes stand before the first line feed.
+// How many bytes are before the first line feed.
 fn before_feed(rest: &[u8]) -> usize
     ensures is { result ≡ before_feed rest.now }
     ensures within { result ≤ length rest.now }
@@ -62,7 +62,7 @@ fn before_feed(rest: &[u8]) -> usize
     count
 }
 
-/// Where the byte at an offset stands. The offset may be that of the end, and then it is where a next byte would stand.
+/// Where the byte at an offset is. The offset may be that of the end, and then it is where a next byte would be.
 pub fn position_at(text: &[u8], offset: usize) -> Position
     requires { offset ≤ length text.now }
     ensures is { result ≡ position_of text.now offset }
@@ -76,7 +76,7 @@ pub fn position_at(text: &[u8], offset: usize) -> Position
     }
 }
 
-/// The line in which the byte at an offset stands, without its line feed. A line feed stands in the line that it ends.
+/// The line in which the byte at an offset is, without its line feed. A line feed is in the line that it ends.
 pub fn line_around(text: &[u8], offset: usize) -> &[u8]
     requires { offset ≤ length text.now }
     ensures is { result.now ≡ line_at text.now offset }

@@ -6,11 +6,12 @@ use crate::family_lines::push_family_lines;
 use crate::files::{ReadList, fetched, fetched_list};
 use crate::fonts::push_family;
 use crate::place::place_at;
+use crate::refusal::Refusal;
 use crate::source_words::push_words;
-use crate::subject::{NamedFamily, Refusal};
 use crate::text::{Text, Unsaid};
 use mt_locate::{Definition, locate};
 use mt_outside::Cabinet;
+use mt_status::NamedFamily;
 use mt_token::MAX_SOURCE;
 
 // Adds where the macro is defined in whose expansion the fault is found.

@@ -1,9 +1,8 @@
 //! What is said of a fault at its place in a source.
 use crate::formula_words::{cause_words, name_words};
 use crate::names::push_name_outside;
-use crate::subject::Refusal;
+use crate::refusal::Refusal;
 use crate::text::{Text, text_of};
-use crate::tokens::name_of;
 use mt_locate::Located;
 use mt_reader::{DocError, OutsideCause, ReadError};
 
@@ -53,14 +52,11 @@ fn push_outside(
         }
         OutsideCause::Misplaced => {
             out.push_explanation(run.alloc, run.status);
-            if let Some(name) = located.token.as_ref().and_then(name_of) {
-                push_name_outside(out, name);
+            if let Some(name) = located.token.as_ref().and_then(|token| token.kind.name()) {
+                push_name_outside(out, name.as_slice());
             }
         }
-        OutsideCause::BadDefinition
-        | OutsideCause::OpenBody
-        | OutsideCause::TooManyNames
-        | OutsideCause::BadAssignment => out.push_explanation(run.alloc, run.status),
+        _ => out.push_explanation(run.alloc, run.status),
     }
 }
 

@@ -2,14 +2,6 @@
 use crate::text::Text;
 use mt_token::{Token, TokenKind};
 
-/// The name of a token, where it has one.
-pub fn name_of(token: &Token) -> Option<&[u8]> {
-    match &token.kind {
-        TokenKind::Control(name) => Some(name.as_slice()),
-        TokenKind::Char(_) | TokenKind::Space => None,
-    }
-}
-
 /// Whether a token is written so.
 pub fn is_written(token: &Token, text: &[u8]) -> bool {
     match (&token.kind, text) {

@@ -11,7 +11,7 @@ const SHOWN_BEFORE: usize = 80;
 /// Some columns of a line.
 #[derive(Clone, Copy, Debug, PartialEq, Eq)]
 pub struct Window {
-    /// How many bytes of the line stand before them.
+    /// How many bytes of the line are before them.
     pub before: usize,
     /// How many they are.
     pub count: usize,

@@ -9,7 +9,7 @@ use Rattle.mt_reader.specs.declared.stop.StopCause.TheVariants.{Formula, Fault}
 use Rattle.mt_reader.specs.Stops.{IsFaultReason, IsReason, StopPlace, StopReason, stop_view}
 use Rattle.mt_locate.specs.FaultTokens.{is_told}
 use Rattle.mt_locate.specs.Faults.{IsFaultAt, IsFaultFound, fault_offset, told_offset}
-use Rattle.mt_locate.specs.declared.subject.Numbers.{Numbers}
+use Rattle.mt_status.specs.declared.subject.Numbers.{Numbers}
 
 reason_of : (fault : DocError) (reason : StopReason) → IsReason (Fault fault) reason → IsFaultReason fault reason
 reason_of (Source cause) reason is = is

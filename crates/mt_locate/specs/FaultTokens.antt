@@ -8,15 +8,12 @@ use Rattle.mt_reader.specs.declared.document_error.DocError.{DocError}
 use Rattle.mt_reader.specs.declared.document_error.DocError.TheVariants.{Source, Outside, Expand, Read, Total, Pages, OutOfMemory}
 use Rattle.mt_reader.specs.declared.outside_cause.OutsideCause.{OutsideCause}
 use Rattle.mt_reader.specs.declared.outside_cause.OutsideCause.TheVariants.{OpenFormula}
-use Rattle.mt_locate.specs.Subjects.{is_same}
+use Rattle.mt_locate.specs.Sought.{is_same}
 use Rattle.mt_locate.specs.declared.fault_token.FaultToken.{FaultToken}
 use Rattle.mt_locate.specs.declared.fault_token.FaultToken.TheVariants.{OfSource, Unmatched, Expanded, Macro, First, Nowhere}
-use Rattle.mt_locate.specs.declared.subject.Numbers.{Numbers}
-use Rattle.mt_locate.specs.declared.subject.Numbers.TheVariants.{Token, Formula, Page}
-
--- the cause where a macro lacks an argument
-abbrev pub missing_argument : ℕ
-missing_argument = 21
+use Rattle.mt_status.specs.Meanings.{missing_argument}
+use Rattle.mt_status.specs.declared.subject.Numbers.{Numbers}
+use Rattle.mt_status.specs.declared.subject.Numbers.TheVariants.{Token, Formula, Page}
 
 abbrev pub expand_numbers : ℕ → ExpandError → Option Numbers
 expand_numbers n (MissingArgument index) = Some (Token n index missing_argument)

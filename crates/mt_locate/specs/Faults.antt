@@ -18,7 +18,7 @@ use Rattle.mt_locate.specs.Places.{offset_within}
 use Rattle.mt_locate.specs.Unmatched.{unmatched_token}
 use Rattle.mt_locate.specs.declared.fault_token.FaultToken.{FaultToken}
 use Rattle.mt_locate.specs.declared.fault_token.FaultToken.TheVariants.{OfSource, Unmatched, Expanded as OfExpansion, Macro, First, Nowhere}
-use Rattle.mt_locate.specs.declared.subject.Numbers.{Numbers}
+use Rattle.mt_status.specs.declared.subject.Numbers.{Numbers}
 use Rattle.mt_locate.specs.declared.traces.TracedFormula.{TracedFormula}
 use Rattle.mt_locate.specs.declared.traces.Wanted.{Wanted}
 use Rattle.mt_locate.specs.declared.traces.Wanted.TheVariants.{Expanded as Whole, ToMacro}
@@ -79,7 +79,7 @@ token_offset source (Some t) = offset_within source t.start
 abbrev pub fault_offset : List ℕ → List Token → StopPlace → DocError → Option ℕ
 fault_offset source tokens place fault = token_offset source (token_at tokens place (fault_token fault))
 
--- the offset of a fault, where it is the one that is told
+-- the offset of a fault, where it is the one that is reported
 abbrev pub told_offset : Bool → Option ℕ → Option ℕ
 told_offset true offset = offset
 told_offset false offset = None

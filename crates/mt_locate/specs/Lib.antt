@@ -1,7 +1,7 @@
 -- offsets in a source, and the byte at which its tokens end
 pub mod Places
--- what of a source a status is about, and whether it is that of a fault
-pub mod Subjects
+-- what of a source is sought for a status
+pub mod Sought
 -- at which token a fault is
 pub mod FaultTokens
 -- the brace without partner

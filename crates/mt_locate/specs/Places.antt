@@ -14,7 +14,7 @@ located_offset (Some located) = Some located.offset
 abbrev pub offset_within : List ℕ → ℕ → Option ℕ
 offset_within source offset = if nat_le offset (length source) then Some offset else None
 
--- the offset of the byte of a fault with this number, where it is the one that is told, with the cause that is told
+-- the offset of the byte of a fault with this number, where it is the one that is reported, with the cause that is reported
 abbrev pub told_place : List ℕ → Option ℕ → ℕ → ℕ → ℕ → Option ℕ
 told_place source None number offset cause = None
 told_place source (Some at) number offset cause =

@@ -1,21 +1,13 @@
 //! The definition of a macro in a source.
 use crate::places::Definition;
 use mt_scaled::Name;
-use mt_token::{Token, TokenKind};
+use mt_token::Token;
 use std::alloc::{AllocError, Global};
-
-/// The name of a control sequence.
-pub fn name_of(token: &Token) -> Option<&Name> {
-    match &token.kind {
-        TokenKind::Control(name) => Some(name),
-        _ => None,
-    }
-}
 
 // Whether the tokens from a `\def` on define this name.
 fn defines(definition: &[Token], name: &Name) -> bool {
     match definition {
-        [_, named, ..] => match name_of(named) {
+        [_, named, ..] => match named.kind.name() {
             Some(other) => other.as_slice() == name.as_slice(),
             None => false,
         },

@@ -2,10 +2,10 @@
 ghost use Rattle.std.specs.Prelude.{◌≡◌};
 ghost use Rattle.mt_locate.specs.FaultTokens.{fault_numbers, fault_token, is_told};
 
-use crate::subject::{Numbers, is_same};
+use crate::sought::is_same;
 use mt_macro::ExpandError;
 use mt_reader::{DocError, OutsideCause};
-use mt_status::MISSING_ARGUMENT;
+use mt_status::{MISSING_ARGUMENT, Numbers};
 
 /// At which token a fault is.
 #[derive(Clone, Copy, Debug)]
@@ -62,11 +62,7 @@ pub fn fault_token(fault: DocError) -> FaultToken
     match fault {
         DocError::Outside { place, cause, .. } => match cause {
             OutsideCause::OpenFormula => FaultToken::Unmatched(place),
-            OutsideCause::Misplaced
-            | OutsideCause::BadDefinition
-            | OutsideCause::OpenBody
-            | OutsideCause::TooManyNames
-            | OutsideCause::BadAssignment => FaultToken::OfSource(place),
+            _ => FaultToken::OfSource(place),
         },
         DocError::Expand { cause, .. } => match cause {
             ExpandError::MissingArgument(index) => FaultToken::Macro(index),

@@ -12,19 +12,19 @@ ghost use Rattle.mt_locate.specs.Places.{byte_found, located_offset};
 ghost use Rattle.mt_locate.specs.Faults.{IsFaultFound, IsRead, expanded_token, fault_offset, first_token};
 ghost use Rattle.mt_locate.specs.Faults.{formula_found, told_offset, token_offset};
 ghost use Rattle.mt_locate.specs.FaultTokens.{is_told};
-ghost use Rattle.mt_locate.specs.Subjects.{subject_of};
-ghost use Rattle.mt_locate.specs.declared.subject.Numbers.{Numbers as NumbersFields};
-ghost use Rattle.mt_locate.specs.declared.subject.Subject.TheVariants.{Byte, Fault, Formula, Nothing};
+ghost use Rattle.mt_locate.specs.Sought.{sought_of};
+ghost use Rattle.mt_status.specs.declared.subject.Numbers.{Numbers as NumbersFields};
+ghost use Rattle.mt_locate.specs.declared.sought.Sought.TheVariants.{Byte, Fault, Formula, Nothing};
 
-use crate::definitions::{definition_of, name_of};
+use crate::definitions::definition_of;
 use crate::fault_token::{FaultToken, fault_token, is_told};
 use crate::places::{Definition, FaultyFormula, Located, located_at};
-use crate::subject::{Numbers, Subject, subject_of};
+use crate::sought::{Sought, sought_of};
 use crate::traces::{TracedFormula, Wanted, traced_formula};
 use crate::unmatched::unmatched_token;
 use mt_reader::{DocError, Stop, StopCause, read_to_stop};
 use mt_scaled::{Name, Units};
-use mt_status::{Notes, Status};
+use mt_status::{Notes, Numbers, Status};
 use mt_token::{Token, TokenError, TokenList, first_fault, tokens};
 use std::alloc::{AllocError, Global};
 
@@ -86,7 +86,7 @@ fn macro_name<'a>(
     let token = traced.tokens.as_slice().get(index)?;
     match wanted {
         Wanted::Expanded => stop.tables.macros.name_of(token.body?),
-        Wanted::ToMacro => name_of(&token.token),
+        Wanted::ToMacro => token.token.kind.name(),
     }
 }
 
@@ -191,7 +191,7 @@ fn source_list(alloc: Global, source: &[u8]) -> Result<Option<TokenList>, AllocE
     match tokens(alloc, source) {
         Ok(list) => Ok(Some(list)),
         Err(TokenError::OutOfMemory) => Err(AllocError),
-        Err(TokenError::NotAscii(_) | TokenError::BadByte(_) | TokenError::TooLong) => Ok(None),
+        Err(_) => Ok(None),
     }
 }
 
@@ -266,16 +266,16 @@ fn usable(units: Option<Units>) -> Option<Units>
 fn locate_read(
     alloc: Global,
     source: &[u8],
-    subject: Subject,
+    sought: Sought,
     units: Option<Units>,
 ) -> Result<Option<Located>, AllocError>
     ensures is { IfOk result (λ found. IfSome found (λ located. located.offset ≤ length source.now)) }
     ensures fault { (own : UnitFields) → (tokens : List TokenFields) → IsRead units source.now own tokens
-        → (numbers : NumbersFields) → subject ≡ Fault numbers
+        → (numbers : NumbersFields) → sought ≡ Fault numbers
         → IfOk result (λ found. IsFaultFound (located_offset found) numbers source.now tokens
         (stop own None plain_codes plain_table tokens)) }
     ensures formula { (n : ℕ) → (own : UnitFields) → (tokens : List TokenFields) → IsRead units source.now own tokens
-        → subject ≡ Formula n → IfOk result (λ found. located_offset found
+        → sought ≡ Formula n → IfOk result (λ found. located_offset found
         ≡ formula_found source.now (stop own (Some n) plain_codes plain_table tokens)) }
 {
     let Some(units) = usable(units) else {
@@ -284,10 +284,10 @@ fn locate_read(
     let Some(list) = source_list(alloc, source)? else {
         return Ok(None);
     };
-    match subject {
-        Subject::Fault(numbers) => locate_reading(alloc, source, list.as_slice(), units, numbers),
-        Subject::Formula(n) => locate_formula(alloc, source, list.as_slice(), units, n),
-        Subject::Byte(..) | Subject::Nothing => Ok(None),
+    match sought {
+        Sought::Fault(numbers) => locate_reading(alloc, source, list.as_slice(), units, numbers),
+        Sought::Formula(n) => locate_formula(alloc, source, list.as_slice(), units, n),
+        Sought::Byte(..) | Sought::Nothing => Ok(None),
     }
 }
 
@@ -308,21 +308,21 @@ pub fn locate(
     notes: Notes,
 ) -> Result<Option<Located>, AllocError>
     ensures is { IfOk result (λ found. IfSome found (λ located. located.offset ≤ length source.now)) }
-    ensures byte { (offset cause : ℕ) → subject_of status.now notes ≡ Byte offset cause
+    ensures byte { (offset cause : ℕ) → sought_of status.now notes ≡ Byte offset cause
         → IfOk result (λ found. located_offset found ≡ byte_found source.now offset cause) }
     ensures fault { (own : UnitFields) → (tokens : List TokenFields) → IsRead notes.units source.now own tokens
-        → (numbers : NumbersFields) → subject_of status.now notes ≡ Fault numbers
+        → (numbers : NumbersFields) → sought_of status.now notes ≡ Fault numbers
         → IfOk result (λ found. IsFaultFound (located_offset found) numbers source.now tokens
         (stop own None plain_codes plain_table tokens)) }
     ensures formula { (n : ℕ) → (own : UnitFields) → (tokens : List TokenFields) → IsRead notes.units source.now own tokens
-        → subject_of status.now notes ≡ Formula n → IfOk result (λ found. located_offset found
+        → sought_of status.now notes ≡ Formula n → IfOk result (λ found. located_offset found
         ≡ formula_found source.now (stop own (Some n) plain_codes plain_table tokens)) }
-    ensures nothing { subject_of status.now notes ≡ Nothing → result ≡ Ok None }
+    ensures nothing { sought_of status.now notes ≡ Nothing → result ≡ Ok None }
 {
-    let subject = subject_of(status, notes);
-    match subject {
-        Subject::Byte(offset, cause) => Ok(locate_byte(source, offset, cause)),
-        Subject::Fault(_) | Subject::Formula(_) => locate_read(alloc, source, subject, notes.units),
-        Subject::Nothing => Ok(None),
+    let sought = sought_of(status, notes);
+    match sought {
+        Sought::Byte(offset, cause) => Ok(locate_byte(source, offset, cause)),
+        Sought::Fault(_) | Sought::Formula(_) => locate_read(alloc, source, sought, notes.units),
+        Sought::Nothing => Ok(None),
     }
 }

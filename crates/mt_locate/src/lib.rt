@@ -5,7 +5,7 @@ mod definitions;
 mod fault_token;
 mod finding;
 mod places;
-mod subject;
+mod sought;
 mod traces;
 mod unmatched;
 

@@ -1,5 +1,5 @@
 -- The document of a source (`document_of`), and the status of what is wrong with it (`document_refusal`).
-use Rattle.std.specs.Prelude.{ℕ, List, Option, Some, None, Result, Ok, Err}
+use Rattle.std.specs.Prelude.{ℕ, Bool, true, false, List, Option, Some, None, Result, Ok, Err, if◌then◌else◌}
 use Rattle.mt_token.specs.declared.token.TokenError.{TokenError}
 use Rattle.mt_token.specs.Errors.{token_error_number, token_error_place}
 use Rattle.mt_macro.specs.Expansion.{Expansion, Expanded, OverBudget, NoArgument, NoPartner, ListTooLong}
@@ -12,7 +12,7 @@ use Rattle.mt_rules.specs.declared.document.Formula.{Formula}
 use Rattle.mt_reader.specs.Documents.{DocumentAnswer, DocumentFault, NotLexed, Outside, NotExpanded, NotRead, TooManyTokens, TooManyPages}
 use Rattle.mt_reader.specs.Causes.{outside_number}
 use Rattle.mt_reader.specs.Sources.{source_document}
-use Rattle.mt_status.specs.Statuses.{missing_argument}
+use Rattle.mt_status.specs.Meanings.{missing_argument}
 use Rattle.mt_status.specs.declared.status.Much.TheVariants.{Pages}
 use Rattle.mt_status.specs.declared.status.Status.{Status}
 use Rattle.mt_status.specs.declared.status.Status.TheVariants.{BadSource, BadFormula, Budget, TooDeep, TooMuch, OutOfMemory}
@@ -35,10 +35,15 @@ expansion_refusal n (NoArgument place) = BadFormula n place missing_argument
 expansion_refusal n (Expanded list) = OutOfMemory
 expansion_refusal n (NoPartner place) = OutOfMemory
 
+-- too many open groups have a status of their own
+abbrev pub is_too_deep : ReadCause → Bool
+is_too_deep TooManyGroups = true
+is_too_deep cause = false
+
 -- formula n is not read
 abbrev pub reading_refusal : ℕ → ReadCause → ℕ → Status
-reading_refusal n TooManyGroups place = TooDeep n place
-reading_refusal n cause place = BadFormula n place (cause_number cause)
+reading_refusal n cause place =
+    if is_too_deep cause then TooDeep n place else BadFormula n place (cause_number cause)
 
 -- a document that is refused
 abbrev pub document_refusal : DocumentFault → Status

@@ -4,10 +4,11 @@ ghost use Rattle.mt_reader.specs.Documents.{DocumentAnswer};
 ghost use Rattle.mt_reader.specs.Refusals.{IsExpandRefusal, IsReadRefusal, IsRefusal};
 ghost use Rattle.mt_status.specs.Notes.{has_too_many_places};
 ghost use Rattle.mt_status.specs.Origins.{IsPure};
-ghost use Rattle.mt_pages.specs.Documents.{document_from, token_refusal};
+ghost use Rattle.mt_pages.specs.Documents.{document_from, is_too_deep, token_refusal};
 
 use mt_macro::ExpandError;
 use mt_reader::{DocError, ReadError};
+use mt_scan::ReadCause;
 use mt_status::{MISSING_ARGUMENT, Much, Status};
 use mt_token::TokenError;
 
@@ -40,27 +41,27 @@ fn expand_refusal(n: u32, error: ExpandError) -> Status
     }
 }
 
+// Whether a formula has too many open groups, which is a status of its own.
+fn is_too_deep(cause: ReadCause) -> bool
+    ensures { result ≡ is_too_deep cause }
+{
+    matches!(cause, ReadCause::TooDeep)
+}
+
 // Formula n is not read.
 fn read_refusal(n: u32, error: ReadError) -> Status
     ensures is { (answer : DocumentAnswer) → IsReadRefusal n error answer
         → document_from answer ≡ Err result }
     ensures few { has_too_many_places result ≡ false }
 {
-    let cause = error.number();
-    match error {
-        ReadError::UnknownName(token)
-        | ReadError::DoubleScript(token)
-        | ReadError::TwoFractions(token)
-        | ReadError::BadDelimiter(token)
-        | ReadError::Unbalanced(token)
-        | ReadError::MisplacedLimits(token)
-        | ReadError::MissingField(token)
-        | ReadError::BadNumber(token)
-        | ReadError::BadDimension(token)
-        | ReadError::MisplacedNumber(token)
-        | ReadError::ExtraCell(token) => Status::BadFormula { n, token, cause },
-        ReadError::TooDeep(token) => Status::TooDeep { n, token },
-        ReadError::OutOfMemory => Status::OutOfMemory,
+    match error.fault() {
+        Some((cause, token)) if is_too_deep(cause) => Status::TooDeep { n, token },
+        Some((cause, token)) => Status::BadFormula {
+            n,
+            token,
+            cause: cause.number(),
+        },
+        None => Status::OutOfMemory,
     }
 }
 
