@@ -1,4 +1,4 @@
--- The layouts of cells that are moved to where they stand and become one, from the last one on.
+-- The layouts of cells that are moved to their places and become one, from the last one on.
 use Rattle.std.proofs.Common.{◌≡◌, ℕ, zero, suc, ◌≤◌, ◌<◌, ◌+◌, ◌-◌, ◌^◌, List, [], ◌∷◌, length, take, drop, get_or, ℤ, pos, ◌+ℤ◌, ◌-ℤ◌, arith, sym, ◌∙◌, ap, subst, w64, to_z, of_z, All}
 use Rattle.std.proofs.lemmas.Int.{ints}
 use Rattle.std.proofs.lemmas.List.{drop_more, length-take-le}

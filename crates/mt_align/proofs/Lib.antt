@@ -6,7 +6,7 @@ pub mod ColumnWidths
 pub mod Rows
 -- cells that become one layout, gone through from the last one on
 pub mod Joining
--- where the cells of that layout stand
+-- where the cells of that layout are
 pub mod Placed
 -- the layouts of both looks
 pub mod Tables

@@ -1,4 +1,4 @@
--- The layouts of a table's cells that became one, and where they stand then.
+-- The layouts of a table's cells that became one, and where they are then.
 use Rattle.std.proofs.Common.{◌≡◌, ℕ, suc, ◌≤◌, ◌+◌, List, [], ◌∷◌, ◌++◌, length, map, ℤ, pos, ◌+ℤ◌, ◌-ℤ◌, Option, Some, refl, arith, append_assoc, sym, ◌∙◌, ap, All}
 use Rattle.std.proofs.lemmas.Int.{ints, clamps}
 use Rattle.std.proofs.lemmas.List.Elements.{All-nil, All-cons, All-head, All-tail}
@@ -104,7 +104,7 @@ drops_length look y depth (row ∷ rows) =
 pub as_many_drops : (look : Look) (y : ℤ) (depth : Option ℤ) (rows : List (List Extents)) (ds : List ℤ) → ds ≡ line_drops look y depth (bare_rows rows) → length ds ≡ length rows
 as_many_drops look y depth rows ds e = ap (λ xs. length xs) e ∙ drops_length look y depth rows
 
--- ---- where the cells of a row stand
+-- ---- where the cells of a row are
 
 moved_there : (x y : ℤ) (ps : List Place) → all_moved x y ps ≡ all_moved (pos 0) y (all_moved x (pos 0) ps)
 moved_there x y ps =
@@ -126,7 +126,7 @@ cells_placed look gap y j x (w ∷ ws) (c ∷ cs) t rest h =
     ap (λ ls. joined (moved_layer 1 i y ls)) (cells_placed look gap y (j + 1) (x +ℤ (w +ℤ gap)) ws cs t (c.places ∷ rest) (omega (arith, h)))
     ∙ ap (λ ps. ps ∷ rest) (in_front i y c.places (cells_places look gap (j + 1) (x +ℤ (w +ℤ gap)) ws cs) t)
 
--- ---- where all rows stand
+-- ---- where all rows are
 
 baseline_at : (top y g h : ℤ) → top -ℤ (y +ℤ (g +ℤ h)) ≡ ((top -ℤ y) -ℤ g) -ℤ h
 baseline_at top y g h = omega (arith, ints)

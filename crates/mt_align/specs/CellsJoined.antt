@@ -1,4 +1,4 @@
--- The layouts of cells that are moved to where they stand, and become one with the top one.
+-- The layouts of cells that are moved to their places, and become one with the top one.
 use Rattle.std.specs.Prelude.{ℕ, ◌+◌, ℤ, pos, ◌+ℤ◌, ◌-ℤ◌, List, [], ◌∷◌}
 use Rattle.std.specs.Int.{int_max}
 use Rattle.mt_scaled.specs.Number.{half_of}

@@ -8,5 +8,5 @@ pub mod Looks
 pub mod CellRows
 -- rows one below another
 pub mod RowLines
--- cells that are moved to where they stand and become one layout
+-- cells that are moved to their places and become one layout
 pub mod CellsJoined

@@ -6,7 +6,7 @@ use Rattle.mt_rules.specs.Tables.{open_gap}
 use Rattle.mt_align.specs.declared.look.Look.{Look}
 use Rattle.mt_align.specs.declared.look.Look.TheVariants.{Matrix, Equations}
 
--- how far right a cell of column j stands, where the column is wider than it by so much
+-- how far right a cell of column j is, where the column is wider than it by so much
 abbrev pub inset_of : Look → ℕ → ℤ → ℤ
 inset_of Matrix j slack = half_of slack
 inset_of Equations zero slack = slack

@@ -1,4 +1,4 @@
-//! What differs between a matrix and equations: where cells stand in their columns, the least height
+//! What differs between a matrix and equations: where cells are in their columns, the least height
 //! and depth of a row, and the gaps between rows.
 ghost use Rattle.std.specs.Prelude.{◌≡◌, ◌^◌, ℕ};
 ghost use Rattle.mt_scaled.specs.Number.{Within, max_dimen};
@@ -22,7 +22,7 @@ const EQUATION_HEIGHT: Length = Length { sp: 557056 };
 const EQUATION_DEPTH: Length = Length { sp: 229376 };
 
 impl Look {
-    // How far right a cell of this column stands, where the column is wider than it by so much.
+    // How far right a cell of this column is, where the column is wider than it by so much.
     pub(crate) fn inset(self, column: usize, slack: Length) -> Length
         requires { Within (2 ^ 62) slack.sp }
         ensures is { result.sp ≡ inset_of self column slack.sp }

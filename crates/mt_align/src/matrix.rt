@@ -28,10 +28,10 @@ use std::alloc::{AllocError, Global};
 /// Cells in rows and columns, centred on the axis (plain TeX's `\matrix`; The TeXbook, chapter 18 and
 /// Appendix B).
 ///
-/// A column is as wide as its widest cell, the first one at least 0 wide, and a cell stands in the
+/// A column is as wide as its widest cell, the first one at least 0 wide, and a cell is in the
 /// middle of its column. Columns are an em of the font set's units apart. Baselines are 12pt apart;
 /// where the gap between two rows would be negative, it is 1pt. Above the first row and below the
-/// last stands `strut`, whose extents are in range, with 12pt back up: it counts as a row for the
+/// last is `strut`, whose extents are in range, with 12pt back up: it counts as a row for the
 /// gaps, and marks nothing. Half of the whole is above the axis at this size.
 ///
 /// There are at most 2^19 rows, and at most 2^19 cells in each; the level of each cell is at most
@@ -113,7 +113,7 @@ fn quad(fonts: &FontSet) -> Length
     }
 }
 
-// The widths of the columns. Struts, which have no width, stand in the first one.
+// The widths of the columns. Struts, which have no width, are in the first one.
 fn matrix_widths(alloc: Global, rows: &TableExtents) -> Result<Vec<i64>, AllocError>
     requires { All (All ExtentsInRange) rows.now }
     ensures is { IfOk result (λ widths. widths.items

@@ -1,4 +1,4 @@
-//! The cells of a table where they stand, as one layout.
+//! The cells of a table at their places, as one layout.
 ghost use Rattle.std.specs.Prelude.{◌≡◌, ◌≤◌, ◌^◌, ◌+ℤ◌, ◌-ℤ◌, ◌∷◌, [], All, List, length, pos, IfOk, OnOk};
 ghost use Rattle.mt_scaled.specs.Number.{Within, max_dimen};
 ghost use Rattle.mt_box.specs.Extents.{ExtentsInRange};
@@ -84,7 +84,7 @@ fn reach_of(fonts: &FontSet, size: Size, width: Length, total: Length) -> Extent
     }
 }
 
-// The layouts of all rows under the top one, where they stand in a table whose top is at `top`, become
+// The layouts of all rows under the top one, where they are in a table whose top is at `top`, become
 // one with it.
 fn place_rows(
     marks: &mut Marks,
@@ -110,7 +110,7 @@ fn place_rows(
     Ok(())
 }
 
-// The layouts of the cells of a row under the top one, where they stand in the row, become one with it.
+// The layouts of the cells of a row under the top one, where they are in the row, become one with it.
 // The row's baseline is at `up`.
 fn place_cells(
     marks: &mut Marks,
@@ -159,7 +159,7 @@ impl TableShape {
         edge.minus(width.plus(self.gap))
     }
 
-    // How far right a cell stands in a column of this width.
+    // How far right a cell is in a column of this width.
     #[tactic(auto, using(std::proofs::lemmas::Int::ints))]
     fn inset(&self, column: usize, width: Length, cell: Extents) -> Length
         requires width { Within max_dimen width.sp }

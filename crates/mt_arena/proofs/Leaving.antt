@@ -25,7 +25,7 @@ append_more (RowHeld t) s r = refl
 append_more (CellsHeld c) s r = refl
 append_more (RootHeld d b) s r = refl
 
--- what is no item stands in no list
+-- what is no item is in no list
 pub none_more : (es : List Held) (t : Thing) (s : Sequence) → is_item t ≡ false → more_of (value_in es t) s ≡ s
 none_more es (Atom a) s e = absurd cc
 none_more es (Fraction a) s e = absurd cc

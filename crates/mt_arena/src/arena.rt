@@ -140,7 +140,7 @@ impl Arena {
         drop_last(&mut self.starts);
     }
 
-    /// Adds a thing that is in no list, as a root, and answers its place. What it holds stands in the arena already.
+    /// Adds a thing that is in no list, as a root, and answers its place. What it holds is in the arena already.
     /// Want of memory is also answered where the place is 2^32 or more. On an error nothing has changed.
     pub fn insert(&mut self, thing: Thing) -> Result<u32, AllocError>
         requires within { thing_end thing ≤ length self.old.closed }
@@ -167,7 +167,7 @@ impl Arena {
         self.starts.clear();
     }
 
-    /// The thing at a place, counted from 0. What it holds stands before it.
+    /// The thing at a place, counted from 0. What it holds is before it.
     pub fn thing(&self, at: usize) -> &Thing
         requires { at < length self.now.closed }
         ensures is { slice_get self.now.closed at ≡ Some (value_in self.now.closed result.now) }

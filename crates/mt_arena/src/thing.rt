@@ -1,4 +1,4 @@
-//! What stands in an arena.
+//! What is in an arena.
 
 use mt_rules::{Delim, Kind, Limits, Look, Style, Symbol};
 
@@ -41,7 +41,7 @@ pub enum Cell {
 pub struct Noad {
     /// How it is built.
     pub kind: Kind,
-    /// Where the scripts of an operator stand.
+    /// Where the scripts of an operator are.
     pub limits: Limits,
     /// The nucleus.
     pub nucleus: Cell,
@@ -52,7 +52,7 @@ pub struct Noad {
 }
 
 /// A space with what it can shrink, as `Glue` of mt_rules, in 32 bits. Both are scaled points, or 65536ths of a math
-/// unit (mu) where it stands as mu.
+/// unit (mu) where it is given in mu.
 #[derive(Clone, Copy)]
 pub struct ShortGlue {
     /// The natural width.
@@ -89,16 +89,16 @@ pub struct ChoiceSpans {
     pub small: Span,
 }
 
-/// A radical with a degree: what stands over the beginning of its sign, and what is under it.
+/// A radical with a degree: what is over the beginning of its sign, and what is under it.
 #[derive(Clone, Copy)]
 pub struct RootParts {
-    /// The degree, which stands over the beginning of the sign.
+    /// The degree, which is over the beginning of the sign.
     pub degree: Span,
     /// The nucleus.
     pub body: Cell,
 }
 
-/// What stands at a place of an arena: an item of a list, as `Item` of mt_rules, or one of the last three, which are
+/// What is at a place of an arena: an item of a list, as `Item` of mt_rules, or one of the last three, which are
 /// no items. Lengths are scaled points, or 65536ths of a math unit (mu) where the name says so.
 #[derive(Clone, Copy)]
 pub enum Thing {

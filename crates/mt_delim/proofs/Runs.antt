@@ -19,7 +19,7 @@ use Rattle.mt_delim.proofs.Pieces.{There}
 
 -- ---- the runs of a recipe
 
--- below is how often the repeat stands below the middle
+-- below is how often the repeat comes below the middle
 pub runs_are : (r : Recipe) (n below : ℕ) → below ≡ (if r.middle == 0 then 0 else n)
     → glyphs_of (Piece r.top ∷ Repeats r.repeat n ∷ Piece r.middle ∷ Repeats r.repeat below ∷ Piece r.bottom ∷ []) ≡ recipe_pieces r n
 runs_are r n below e = by_middle (r.middle == 0) (recipe_piece r.top) (recipe_piece r.bottom) e

@@ -95,7 +95,7 @@ fn runs_of(recipe: Recipe, n: u64) -> [Run; 5]
     ]
 }
 
-// How often the repeat stands below the middle.
+// How often the repeat comes below the middle.
 fn below_middle(recipe: Recipe, n: u64) -> u64
     ensures is { result ≡ if recipe.middle == 0 then 0 else n }
     ensures least { result ≤ n }
@@ -127,7 +127,7 @@ fn run_out(font: &Font, run: Run) -> Option<i64>
     }
 }
 
-// The layout of these runs on top: the first glyph stands on the baseline.
+// The layout of these runs on top: the first glyph is on the baseline.
 fn runs_on_marks(
     marks: &mut Marks,
     font: &Font,
@@ -276,7 +276,7 @@ fn put_repeats(
     Ok(depth.plus(times(step, count)))
 }
 
-// To where a glyph stands whose top is so far below the baseline.
+// To where a glyph is whose top is so far below the baseline.
 #[tactic(auto, using(std::proofs::lemmas::Int::ints))]
 fn way_below(font: &Font, code: u8, depth: Length) -> Move
     requires there { IsTrue (exists font.now code) }

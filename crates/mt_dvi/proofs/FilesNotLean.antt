@@ -1,4 +1,4 @@
--- Worked files that are not lean: in each, one sentence does not hold. Before it stands the name of its field.
+-- Worked files that are not lean: in each, one sentence does not hold. Before it is the name of its field.
 use Rattle.std.proofs.Common.{◌≡◌, ℕ, List, [], ◌∷◌, refl}
 use Rattle.std.specs.Prelude.{true, false}
 use Rattle.mt_dvi.specs.Codes.{operand_size, operation}

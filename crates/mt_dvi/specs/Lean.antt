@@ -120,7 +120,7 @@ are_few (Across ∷ moves) = is_none moves || are_down moves where
   are_down moves = false
 are_few (Downward ∷ moves) = is_none moves
 
--- so it is before each place, and none stands after the last one
+-- so it is before each place, and none is after the last one
 abbrev pub are_modest : List Axis → List Opcode → Bool
 are_modest moves [] = is_none moves
 are_modest moves (opcode ∷ opcodes) =

@@ -1,4 +1,4 @@
-//! A file so far: its pages, and what stands before and after them.
+//! A file so far: its pages, and what is before and after them.
 ghost use Rattle.std.specs.Prelude.{◌≡◌, ◌<◌, ◌+◌, ◌*◌, ◌++◌, ◌∷◌, [], List, length, All, OnOk, IfOk};
 ghost use Rattle.mt_box.specs.declared.place.Place.{Place};
 ghost use Rattle.mt_family.specs.SetValue.{IsSet};

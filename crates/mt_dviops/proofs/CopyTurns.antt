@@ -13,7 +13,7 @@ use Rattle.mt_dviread.specs.declared.deed.Deed.TheVariants as deeds
 use Rattle.mt_dviread.specs.declared.error.DviError.{DviError}
 use Rattle.mt_dviread.specs.declared.file.OpenFile.{OpenFile}
 use Rattle.mt_dviread.specs.Deeds.{Changes, IsDeed, deed_of, place_filled, places_of_page, places_with}
-use Rattle.mt_dviread.specs.Faults.{fault_of}
+use Rattle.mt_dviread.specs.Errors.{fault_of}
 use Rattle.mt_dviread.specs.Sees.{Finishes, GoesOn, IsWithin, Sees, Turns}
 use Rattle.mt_dviread.proofs.Turns.{if_some, reads_fault, reads_on, reads_out, starts}
 use Rattle.mt_dviops.specs.declared.copies.CopiedPage.{CopiedPage}

@@ -27,7 +27,7 @@ use Rattle.mt_dviops.specs.inner.Copying.{AreEnded, HoldsEnded, HoldsOpen, noted
 use Rattle.mt_dviops.specs.inner.Inside.{IsInside}
 use Rattle.mt_dviops.specs.inner.Shown.{has_selected}
 
--- what is noted of an opcode is told by its deed
+-- what is noted of an opcode is reported by its deed
 noted_of : (phase : Phase) (source : Source) (op : Operation) (step : Step) (place : Option Place) → copy_step_in phase source op step ≡ noted_by (deed_of phase op place) source step
 noted_of BeforePre source op step place = refl
 noted_of AfterPost source op step place = refl

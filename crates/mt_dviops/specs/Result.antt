@@ -76,7 +76,7 @@ padding_bytes count = replicate (4 + (4 - count % 4) % 4) 223
 abbrev pub with_tail : List ℕ → List ℕ
 with_tail bytes = bytes ++ padding_bytes (length bytes)
 
--- what stands before post
+-- what is before post
 abbrev pub head_bytes : SetValue → ℤ → List SourcePage → List ℕ
 head_bytes fonts mag pages = pre_bytes mag ++ definitions_bytes fonts (selected_fonts fonts pages)
 

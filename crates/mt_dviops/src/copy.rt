@@ -1,6 +1,6 @@
 //! One pass over a file, which copies its pages.
 ghost use Rattle.std.specs.Prelude.{◌≡◌, Ok, Err, IfOk, IfErr, IfSome};
-ghost use Rattle.mt_dviread.specs.Faults.{fault_of};
+ghost use Rattle.mt_dviread.specs.Errors.{fault_of};
 ghost use Rattle.mt_dviops.specs.Source.{SourceFile, source_file_of};
 ghost use Rattle.mt_dviops.specs.inner.Copies.{Holds};
 
@@ -26,7 +26,7 @@ pub fn copy_file<'a>(
     ensures fault { IfErr result (λ error.
         IfSome (fault_of error) (λ fault. source_file_of fonts.now bytes.now ≡ Err fault)) }
 {
-    // What every set keeps is told by its count of fonts.
+    // What every set keeps is reported by its count of fonts.
     let _count = fonts.font_count();
     let mut file = OpenFile::at_start(alloc, bytes);
     let mut copied = OpenCopies::none(alloc, bytes.len())?;

@@ -13,7 +13,7 @@ pub enum OpError {
     BadFile {
         /// The file, counted from 0.
         file: u32,
-        /// Its first fault; never want of memory.
+        /// Its first fault; never lack of memory.
         cause: DviError,
     },
     /// The first number asked for that is 0 or above the number of pages.

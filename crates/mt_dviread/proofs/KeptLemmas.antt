@@ -6,11 +6,10 @@ use Rattle.mt_family.specs.SetValue.{SetValue}
 use Rattle.mt_box.specs.declared.place.Place.{Place}
 use Rattle.mt_dvi.specs.File as files
 use Rattle.mt_dvi.specs.File.{Dvi, DviFault, Fault, File, Page, advance, pages_of, pages_of_reading, places_of, read}
-use Rattle.mt_dvi.specs.Machine as machine
 use Rattle.mt_dvi.specs.Written.{Written}
 use Rattle.mt_dvi.specs.WrittenPlaces.{all_places}
 use Rattle.mt_dvi.proofs.WholeFile.{reads_back}
-use Rattle.mt_dviread.specs.Faults.{ReadsBack, fault_of}
+use Rattle.mt_dviread.specs.Errors.{ReadsBack, fault_of}
 use Rattle.mt_dviread.specs.Deeds.{Changes, places_after, places_of_page}
 use Rattle.mt_dviread.specs.inner.Kept.{IsKeeping, Keeps, lists_after, RunKeeps}
 use Rattle.mt_dvi.specs.Codes.{operand_size}
@@ -169,18 +168,8 @@ not_both fonts bytes pages fault read refused = let a : pages_of fonts bytes ≡
 
 -- a file that is read has no fault
 no_fault : (fonts : SetValue) (bytes : List ℕ) (error : DviError) → IfSome (fault_of error) (DviFault fonts bytes) → (pages : List (List Place)) → pages_of fonts bytes ≡ Ok pages → error ≡ errors.OutOfMemory
-no_fault fonts bytes (errors.Truncated at) fault pages is = absurd (let f : pages_of fonts bytes ≡ Err (record { cause = machine.Truncated; at = at }) = fault in cc)
-no_fault fonts bytes (errors.BadOpcode at) fault pages is = absurd (let f : pages_of fonts bytes ≡ Err (record { cause = machine.BadOpcode; at = at }) = fault in cc)
-no_fault fonts bytes (errors.BadPreamble at) fault pages is = absurd (let f : pages_of fonts bytes ≡ Err (record { cause = machine.BadPreamble; at = at }) = fault in cc)
-no_fault fonts bytes (errors.BadPointer at) fault pages is = absurd (let f : pages_of fonts bytes ≡ Err (record { cause = machine.BadPointer; at = at }) = fault in cc)
-no_fault fonts bytes (errors.BadPost at) fault pages is = absurd (let f : pages_of fonts bytes ≡ Err (record { cause = machine.BadPost; at = at }) = fault in cc)
-no_fault fonts bytes (errors.UnknownFont at) fault pages is = absurd (let f : pages_of fonts bytes ≡ Err (record { cause = machine.UnknownFont; at = at }) = fault in cc)
-no_fault fonts bytes (errors.MissingChar at) fault pages is = absurd (let f : pages_of fonts bytes ≡ Err (record { cause = machine.MissingChar; at = at }) = fault in cc)
-no_fault fonts bytes (errors.StackEmpty at) fault pages is = absurd (let f : pages_of fonts bytes ≡ Err (record { cause = machine.StackEmpty; at = at }) = fault in cc)
-no_fault fonts bytes (errors.TooDeep at) fault pages is = absurd (let f : pages_of fonts bytes ≡ Err (record { cause = machine.TooDeep; at = at }) = fault in cc)
-no_fault fonts bytes (errors.OutOfRange at) fault pages is = absurd (let f : pages_of fonts bytes ≡ Err (record { cause = machine.OutOfRange; at = at }) = fault in cc)
-no_fault fonts bytes (errors.TooMany at) fault pages is = absurd (let f : pages_of fonts bytes ≡ Err (record { cause = machine.TooMany; at = at }) = fault in cc)
 no_fault fonts bytes errors.OutOfMemory fault pages is = refl
+no_fault fonts bytes error fault pages is = absurd (not_both fonts bytes pages _ is fault)
 
 -- what is written is read back
 pub back : (fonts : SetValue) (bytes : List ℕ) (result : Result (List (List Place)) DviError) → IfOk result (λ pages. Dvi fonts bytes pages) → IfErr result (λ error. IfSome (fault_of error) (DviFault fonts bytes))

@@ -14,7 +14,7 @@ use Rattle.mt_dvi.specs.Codes as codes
 use Rattle.mt_dvi.specs.Fonts.{metrics_at}
 use Rattle.mt_dvi.specs.Machine as machine
 use Rattle.mt_dvi.specs.Machine.{Machine, Effects, is_outside, is_far, without_place}
-use Rattle.mt_dviread.specs.declared.cause.Cause.{Cause}
+use Rattle.mt_dviread.specs.declared.error.Cause.{Cause}
 use Rattle.mt_dviread.specs.declared.machine.Registers.{Registers}
 use Rattle.mt_dviread.specs.inner.Operations.{IsOperation}
 use Rattle.mt_dviread.specs.inner.Performs.{MovesMachine, Performs, registers_of, registers_with, registers_moved, are_outside, with_registers, seen}

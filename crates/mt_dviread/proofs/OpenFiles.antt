@@ -14,7 +14,7 @@ use Rattle.mt_dvi.specs.File.{Continuation, Continues, Ends, Fails, effect_step,
 use Rattle.mt_dvi.specs.Limits.{max_places}
 use Rattle.mt_dvi.specs.Machine as machine
 use Rattle.mt_dvi.specs.Machine.{Machine, Effects, WrittenPlace, at_bop, is_outside}
-use Rattle.mt_dviread.specs.declared.cause.Cause.{Cause}
+use Rattle.mt_dviread.specs.declared.error.Cause.{Cause}
 use Rattle.mt_dviread.specs.declared.deed.Deed.{Deed}
 use Rattle.mt_dviread.specs.declared.deed.Deed.TheVariants.{Passes, BeginsPage, EndsPage, Selects, Performs}
 use Rattle.mt_dviread.specs.declared.definitions.Definitions.{Definitions}
@@ -25,7 +25,8 @@ use Rattle.mt_dviread.specs.declared.operation.Definition.{Definition}
 use Rattle.mt_dviread.specs.declared.operation.Operation.{Operation}
 use Rattle.mt_dviread.specs.declared.operation.Operation.TheVariants as operations
 use Rattle.mt_dviread.specs.declared.file.OpenFile.{OpenFile}
-use Rattle.mt_dviread.specs.inner.Operations.{IsOperation, IsPostamble, cause_of}
+use Rattle.mt_dviread.specs.Errors.{cause_of}
+use Rattle.mt_dviread.specs.inner.Operations.{IsOperation, IsPostamble}
 use Rattle.mt_dviread.specs.inner.Defined.{Defines, Knows}
 use Rattle.mt_dviread.specs.inner.Performs.{Seen, seen, place_of}
 use Rattle.mt_dviread.specs.inner.Follows.{Advances, Counts, EndsFile, Fills, Follows, Goes}

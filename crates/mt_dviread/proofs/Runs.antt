@@ -12,7 +12,7 @@ use Rattle.mt_dvi.specs.Fonts.{first_definition}
 use Rattle.mt_dvi.specs.Limits.{max_pushes}
 use Rattle.mt_dvi.specs.Machine as machine
 use Rattle.mt_dvi.specs.Machine.{Machine, Registers, is_outside}
-use Rattle.mt_dviread.specs.declared.cause.Cause.{Cause}
+use Rattle.mt_dviread.specs.declared.error.Cause.{Cause}
 use Rattle.mt_dviread.specs.declared.deed.Deed.{Deed}
 use Rattle.mt_dviread.specs.declared.deed.Deed.TheVariants.{Selects, Performs}
 use Rattle.mt_dviread.specs.declared.deed.Mark as marks

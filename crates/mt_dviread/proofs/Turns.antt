@@ -9,14 +9,13 @@ use Rattle.mt_dvi.specs.Codes.{Operation, operand_size, operation}
 use Rattle.mt_dvi.specs.File as files
 use Rattle.mt_dvi.specs.File.{Continues, Ends, Fault, advance, file_step, read, reading}
 use Rattle.mt_dvi.specs.Machine as machine
-use Rattle.mt_dviread.specs.Faults.{fault_of}
-use Rattle.mt_dviread.specs.declared.cause.Cause.{Cause}
+use Rattle.mt_dviread.specs.Errors.{cause_of, fault_of}
+use Rattle.mt_dviread.specs.declared.error.Cause.{Cause}
 use Rattle.mt_dviread.specs.declared.deed.Deed.{Deed}
 use Rattle.mt_dviread.specs.declared.error.DviError.{DviError}
 use Rattle.mt_dviread.specs.declared.file.OpenFile.{OpenFile}
 use Rattle.mt_dviread.specs.Deeds.{IsDeed}
 use Rattle.mt_dviread.specs.Sees.{Finishes, GoesOn, IsReading, IsWithin, Sees, Turns, are_cut}
-use Rattle.mt_dviread.specs.inner.Operations.{cause_of}
 use Rattle.mt_dviread.specs.inner.Follows.{Follows}
 use Rattle.mt_dviread.proofs.Sizes.{size_of_operands}
 use Rattle.mt_dviread.proofs.Walk.{at_end, cut_off, ended, failed, went}
@@ -69,7 +68,7 @@ pub if_some : {A : Type 0} {P Q : A → Type 0} (o : Option A) → ((x : A) → 
 if_some None f h = h
 if_some (Some x) f h = f x h
 
--- the reader stands further on
+-- the reader is further on
 advanced : (fonts : SetValue) (o newer : OpenFile) (file : files.File) (m n : ℕ) → m ≡ n → newer ≡ record o { at = o.at + n; rest = newer.rest } → Sees fonts o file → Sees fonts newer (advance file m)
 advanced fonts o newer file m n e is s = subst (λ (x : OpenFile). Sees fonts x (advance file m)) (sym is) (record {
   at = (let a = s.at in omega (arith, a, e));

@@ -1,7 +1,5 @@
--- the numbers and the places of errors
+-- the faults, the numbers and the places of errors, and what they mean in words
 pub mod Errors
--- the faults that errors tell
-pub mod Faults
 -- what the reader keeps of a file, and what it tells of the next opcode
 pub mod Sees
 -- the opcodes that most of a page is made of

@@ -44,7 +44,7 @@ abbrev pub deed_of_kind : RunOpcode → Deed
 deed_of_kind Select = Selects
 deed_of_kind kind = Performs None
 
--- what is told of a mark, of a move and of a selection
+-- what is reported of a mark, of a move and of a selection
 abbrev pub mark_turn : Result marks.Mark DviError → Result (Option Deed) DviError
 mark_turn (Ok mark) = Ok (Some (Performs (Some mark.place)))
 mark_turn (Err error) = Err error

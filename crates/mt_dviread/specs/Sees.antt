@@ -10,7 +10,7 @@ use Rattle.mt_dviread.specs.declared.error.DviError.{DviError}
 use Rattle.mt_dviread.specs.declared.file.Phase.{Phase}
 use Rattle.mt_dviread.specs.declared.file.Phase.TheVariants as phases
 use Rattle.mt_dviread.specs.declared.file.OpenFile.{OpenFile}
-use Rattle.mt_dviread.specs.Faults.{fault_of}
+use Rattle.mt_dviread.specs.Errors.{fault_of}
 use Rattle.mt_dviread.specs.Deeds.{Changes, IsDeed}
 use Rattle.mt_dviread.specs.inner.Defined.{Knows}
 
@@ -36,7 +36,7 @@ pub record Sees (fonts : SetValue) (open_file : OpenFile) (file : files.File) : 
   pub post_at : file.post_at ≡ open_file.post_at
   pub few : open_file.place_count ≤ max_places
 
--- the reader stands in a slice, and each page that has ended has an opcode
+-- the reader is in a slice, and each page that has ended has an opcode
 pub record IsWithin (open_file : OpenFile) : Type 0 where
   pub left : open_file.at + length open_file.rest.now < 2 ^ 63
   pub pages : open_file.page_count ≤ open_file.at

@@ -5,7 +5,7 @@ ghost use Rattle.mt_dvi.specs.Codes as codes;
 ghost use Rattle.mt_dviread.specs.inner.Operations.{IsDefinition};
 ghost use Rattle.mt_dviread.specs.inner.Defined.{Defines, Knows, known_at, font_meant, font_in};
 
-use crate::cause::Cause;
+use crate::error::Cause;
 use crate::numbered::{DefinedFont, NumberedFonts};
 use crate::operation::Definition;
 use mt_family::FontSet;

@@ -1,21 +1,24 @@
-//! Why a file is refused.
+//! Why a file is refused, and why an operation is.
 ghost use Rattle.std.specs.Prelude.{◌≡◌};
-ghost use Rattle.mt_dviread.specs.Errors.{dvi_error_number, dvi_error_place};
+ghost use Rattle.std.specs.Option.{option_map};
+ghost use Rattle.mt_scaled.specs.Meanings.{IsLine, cause_text};
+ghost use Rattle.mt_dvi.specs.Machine as machine;
+ghost use Rattle.mt_dviread.specs.Errors.{cause_of, dvi_causes, dvi_error_number, dvi_error_place, fault_of};
 
 use std::alloc::AllocError;
 use thiserror::Error;
 
 /// Why a DVI file is refused: its first fault, with the offset of the opcode at fault.
 ///
-/// Where an opcode has several faults, the first of them in this order is told.
+/// Where an opcode has several faults, the first of them in this order is reported.
 #[derive(Clone, Copy, Debug, PartialEq, Eq, Error)]
 pub enum DviError {
     /// The file ends inside the operation, or before the fourth byte after post_post. Where it ends
     /// between two operations, the offset is its length.
     #[error("byte {0}: the file ends too soon")]
     Truncated(u64),
-    /// The opcode cannot stand there.
-    #[error("byte {0}: this opcode cannot stand here")]
+    /// The opcode is not allowed there.
+    #[error("byte {0}: this opcode is not allowed here")]
     BadOpcode(u64),
     /// The file does not begin with a good pre; the offset is 0.
     #[error("byte {0}: no preamble of a DVI file in scaled points")]
@@ -73,7 +76,7 @@ impl DviError {
         }
     }
 
-    /// The offset of the opcode at fault; `None` for want of memory.
+    /// The offset of the opcode at fault; `None` for lack of memory.
     pub fn place(self) -> Option<u64>
         ensures { result ≡ dvi_error_place self }
     {
@@ -94,6 +97,28 @@ impl DviError {
     }
 }
 
+/// What the error of a number means, in a line for a person. `OutOfMemory` and numbers of no error have
+/// an empty text.
+pub fn dvi_cause_text(cause: u8) -> &'static str
+    ensures is { result.now ≡ cause_text dvi_causes cause }
+    ensures line { IsLine result.now }
+{
+    match cause {
+        1 => "the DVI file is too short",
+        2 => "this opcode is not allowed here",
+        3 => "the file does not begin as a DVI file of TeX's does",
+        4 => "the page does not point to the page before it",
+        5 => "the postamble does not match the rest of the file",
+        6 => "a font is not defined in the DVI file, or is not in the font list",
+        7 => "the font does not have this character",
+        8 => "pop without push",
+        9 => "at most 1,000 pushes can be open",
+        10 => "a move leads beyond 2^31 - 1 scaled points",
+        11 => "at most 2,000,000 glyphs and rules can be placed",
+        _ => "",
+    }
+}
+
 impl From<AllocError> for DviError {
     ghost use Rattle.std.specs.Prelude.{◌≡◌};
     ghost use Rattle.mt_dviread.specs.declared.error.DviError.TheVariants.{OutOfMemory};
@@ -102,5 +127,68 @@ impl From<AllocError> for DviError {
 
     fn from(_: AllocError) -> Self {
         DviError::OutOfMemory
+    }
+}
+
+/// Why an operation is refused, without its offset.
+#[derive(Clone, Copy, Debug, PartialEq, Eq)]
+pub enum Cause {
+    /// The file ends too soon.
+    Truncated,
+    /// The opcode is not allowed there.
+    BadOpcode,
+    /// There is no good pre.
+    BadPreamble,
+    /// The pointer to the bop before is wrong.
+    BadPointer,
+    /// The postamble is wrong.
+    BadPost,
+    /// The font is not known.
+    UnknownFont,
+    /// The font does not have the character.
+    MissingChar,
+    /// There is nothing to pop.
+    StackEmpty,
+    /// There is too much on the stack.
+    TooDeep,
+    /// h or v is out of range.
+    OutOfRange,
+    /// There are too many places.
+    TooMany,
+    /// There is no memory.
+    OutOfMemory,
+}
+
+impl Cause {
+    /// The error of this cause at an opcode.
+    pub fn at(self, offset: u64) -> DviError
+        ensures { fault_of result
+            ≡ option_map (λ (c : machine.Cause). record { cause = c; at = offset }) (cause_of self) }
+    {
+        match self {
+            Cause::Truncated => DviError::Truncated(offset),
+            Cause::BadOpcode => DviError::BadOpcode(offset),
+            Cause::BadPreamble => DviError::BadPreamble(offset),
+            Cause::BadPointer => DviError::BadPointer(offset),
+            Cause::BadPost => DviError::BadPost(offset),
+            Cause::UnknownFont => DviError::UnknownFont(offset),
+            Cause::MissingChar => DviError::MissingChar(offset),
+            Cause::StackEmpty => DviError::StackEmpty(offset),
+            Cause::TooDeep => DviError::TooDeep(offset),
+            Cause::OutOfRange => DviError::OutOfRange(offset),
+            Cause::TooMany => DviError::TooMany(offset),
+            Cause::OutOfMemory => DviError::OutOfMemory,
+        }
+    }
+}
+
+impl From<AllocError> for Cause {
+    ghost use Rattle.std.specs.Prelude.{◌≡◌};
+    ghost use Rattle.mt_dviread.specs.declared.error.Cause.TheVariants.{OutOfMemory};
+
+    ghost from_gives = { λ _ cause. cause ≡ OutOfMemory };
+
+    fn from(_: AllocError) -> Self {
+        Cause::OutOfMemory
     }
 }

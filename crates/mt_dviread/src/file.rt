@@ -11,18 +11,17 @@ ghost use Rattle.mt_dvi.specs.Machine as machine;
 ghost use Rattle.mt_dviread.specs.declared.deed.Deed.{Deed};
 ghost use Rattle.mt_dviread.specs.declared.deed.Deed.TheVariants.{Passes, BeginsPage, EndsPage};
 ghost use Rattle.mt_dviread.specs.declared.file.Phase.TheVariants.{AfterPost, BeforePre, BetweenPages};
-ghost use Rattle.mt_dviread.specs.declared.cause.Cause.TheVariants.{BadPreamble};
+ghost use Rattle.mt_dviread.specs.declared.error.Cause.TheVariants.{BadPreamble};
 ghost use Rattle.mt_dviread.specs.Deeds.{IsNear, IsNearDeed};
-ghost use Rattle.mt_dviread.specs.Faults.{fault_of};
-ghost use Rattle.mt_dviread.specs.inner.Operations.{cause_of, IsOperation, IsPreamble, IsPostamble, IsDefinition};
+ghost use Rattle.mt_dviread.specs.Errors.{cause_of, fault_of};
+ghost use Rattle.mt_dviread.specs.inner.Operations.{IsOperation, IsPreamble, IsPostamble, IsDefinition};
 ghost use Rattle.mt_dviread.specs.inner.Follows.{Goes, Fills, Does, EndsFile, Follows, Counts};
 ghost use Rattle.mt_dviread.specs.Sees.{Sees, IsWithin, Turns, are_cut};
 ghost use Rattle.mt_dviread.specs.declared.error.DviError.TheVariants.{Truncated};
 
-use crate::cause::Cause;
 use crate::deed::Deed;
 use crate::definitions::Definitions;
-use crate::error::DviError;
+use crate::error::{Cause, DviError};
 use crate::machine::Machine;
 use crate::number::{front, past};
 use crate::operands::operand_size;
@@ -39,7 +38,7 @@ const NUM: u32 = 25_400_000;
 
 const DEN: u32 = 473_628_672;
 
-/// Which part of the file the next opcode stands in.
+/// Which part of the file the next opcode is in.
 #[derive(Clone, Copy, Debug, PartialEq, Eq)]
 pub enum Phase {
     /// At the file's first byte.
@@ -53,7 +52,7 @@ pub enum Phase {
 }
 
 /// A DVI file that is read opcode by opcode (tex.web §585 to §594). It keeps what tells whether the next
-/// opcode may stand there and what it does, but no places.
+/// opcode is allowed there and what it does, but no places.
 #[derive(Drop)]
 pub struct OpenFile<'a> {
     // The offset of the next opcode, and the bytes from there on.

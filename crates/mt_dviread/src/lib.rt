@@ -2,7 +2,6 @@
 //! by opcode; and the opcode at an offset.
 #![tactic(auto)]
 
-mod cause;
 mod coordinate;
 mod deed;
 mod definitions;
@@ -16,11 +15,9 @@ mod operands;
 mod operation;
 mod read;
 mod run;
-#[cfg(test)]
-mod tests;
 
 pub use deed::{Deed, Mark};
-pub use error::DviError;
+pub use error::{DviError, dvi_cause_text};
 pub use file::OpenFile;
 pub use opcode::{Opcode, opcode_at};
 pub use read::{MAX_DVI, read_dvi};

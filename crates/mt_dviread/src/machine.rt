@@ -1,6 +1,6 @@
 //! The machine inside a page: its registers, and what an operation does to them (tex.web §585).
 ghost use Rattle.std.specs.Prelude.{◌≡◌, ◌<◌, ◌≤◌, ◌+◌, ◌+ℤ◌, List, length, nat_abs, IfOk, IfErr, IfSome, true, false};
-ghost use Rattle.mt_dviread.specs.declared.cause.Cause.TheVariants.{MissingChar};
+ghost use Rattle.mt_dviread.specs.declared.error.Cause.TheVariants.{MissingChar};
 ghost use Rattle.mt_family.specs.SetValue.{SetValue};
 ghost use Rattle.mt_tfm.specs.Font.{exists, width_of, depth_of};
 ghost use Rattle.mt_box.specs.declared.place.Place.TheVariants.{Glyph};
@@ -15,10 +15,10 @@ ghost use Rattle.mt_dviread.specs.inner.Defined.{Knows};
 ghost use Rattle.mt_dviread.specs.inner.Performs.{Performs, marked, MovesTo, MovesMachine, registers_of};
 ghost use Rattle.mt_dviread.specs.inner.Performs.{registers_with, registers_moved, with_registers};
 
-use crate::cause::Cause;
 use crate::coordinate::Coordinate;
 use crate::deed::Mark;
 use crate::definitions::Definitions;
+use crate::error::Cause;
 use crate::operation::{Operation, Register};
 use mt_box::Place;
 use mt_family::FontSet;

@@ -16,7 +16,7 @@ pub struct Opcode {
 }
 
 /// The opcode at an offset; none where the offset is not below the length, where the number is none of
-/// an opcode, and where the bytes end inside the operands. Whether the opcode may stand there is not
+/// an opcode, and where the bytes end inside the operands. Whether the opcode is allowed there is not
 /// tested (tex.web §586).
 pub fn opcode_at(bytes: &[u8], at: u64) -> Option<Opcode>
     ensures { result ≡ opcode_at bytes.now at }

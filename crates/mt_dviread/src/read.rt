@@ -6,7 +6,7 @@ ghost use Rattle.mt_dvi.specs.Limits.{max_places};
 ghost use Rattle.mt_dvi.specs.Written.{Written};
 ghost use Rattle.mt_dvi.specs.WrittenPlaces.{all_places};
 ghost use Rattle.mt_dviread.specs.Deeds.{places_after};
-ghost use Rattle.mt_dviread.specs.Faults.{fault_of, ReadsBack};
+ghost use Rattle.mt_dviread.specs.Errors.{fault_of, ReadsBack};
 ghost use Rattle.mt_dviread.specs.Sees.{IsWithin};
 ghost use Rattle.mt_dviread.specs.inner.Kept.{lists_after, IsKeeping, RunKeeps};
 

@@ -13,9 +13,8 @@ ghost use Rattle.mt_dviread.specs.declared.run.RunOpcode.TheVariants.{Mark as Th
 ghost use Rattle.mt_dviread.specs.inner.Follows.{Fills};
 ghost use Rattle.mt_dviread.specs.inner.Performs.{marked};
 
-use crate::cause::Cause;
 use crate::deed::Mark;
-use crate::error::DviError;
+use crate::error::{Cause, DviError};
 use crate::file::{OpenFile, Phase};
 use crate::number::{front, past};
 use crate::operands::operand_size;
@@ -55,7 +54,7 @@ fn run_opcode(code: u8) -> Option<RunOpcode>
 }
 
 impl<'a> OpenFile<'a> {
-    /// The kind of the next opcode, if it stands in a page and is one of a run.
+    /// The kind of the next opcode, if it is in a page and is one of a run.
     #[inline(always)]
     pub fn coming(&self) -> Option<RunOpcode>
         ensures is { result ≡ coming self.now }

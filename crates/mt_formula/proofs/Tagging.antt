@@ -60,7 +60,7 @@ module _ (tables : CodeTables) (units : Units) where
         (λ (s : ItemRun) (rest : List Token). after_item_run tables units again AtEnd level (record { items = append End s.items; family = s.family }) rest)
         (λ s rest. run_leaves level (record { items = append End s.items; family = s.family }) rest)
 
-    -- ---- so a formula in the text has no number, and that of a display stands beside its list
+    -- ---- so a formula in the text has no number, and that of a display is beside its list
 
     abbrev Places : Bool → Read FormulaParts → Type 0
     Places display (Got f rest) = IsTagPlaced display f.0 f.1

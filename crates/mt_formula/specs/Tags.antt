@@ -1,4 +1,4 @@
--- What is set at the side of a formula as its number stands beside a list, and in a display (`IsTagPlaced`).
+-- What is set at the side of a formula as its number is beside a list, and in a display (`IsTagPlaced`).
 use Rattle.std.specs.Prelude.{Bool, Option, Some, None, IsTrue, ⊤}
 use Rattle.mt_rules.specs.declared.document.Body.{Body}
 use Rattle.mt_rules.specs.declared.document.Body.TheVariants as body

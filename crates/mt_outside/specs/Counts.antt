@@ -3,15 +3,15 @@ use Rattle.std.specs.Prelude.{◌≡◌, ◌<◌, ◌≤◌, ℕ, ◌+◌, ◌-�
 use Rattle.mt_outside.specs.declared.cabinet.FetchError.{FetchError}
 use Rattle.mt_outside.specs.declared.cabinet.FetchError.TheVariants.{Failed, TooLong, OutOfMemory}
 
--- the next number of a count, which stands still at its type's end
+-- the next number of a count, which is still at its type's end
 abbrev pub next_count : ℕ → ℕ
 next_count count = min (count + 1) (2 ^ 64 - 1)
 
--- a count rose: it is greater, or stands at the type's end
+-- a count rose: it is greater, or is at the type's end
 abbrev pub Rose : ℕ → ℕ → Type 0
 Rose before now = (before ≤ now) × (next_count before ≤ now)
 
--- a count did not rise: it is not greater, and does not stand at the type's end
+-- a count did not rise: it is not greater, and is not at the type's end
 abbrev pub IsSteady : ℕ → ℕ → Type 0
 IsSteady before now = now < next_count before
 

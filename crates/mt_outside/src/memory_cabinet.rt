@@ -1,4 +1,4 @@
-//! A cabinet in memory that fails where it is told to.
+//! A cabinet in memory that fails where it is reported to.
 ghost use Rattle.std.specs.Prelude.{◌≡◌, ◌<◌, ◌≤◌, ◌^◌, ◌⊎◌, Contains, IfNone, IfOk, IfSome, length, Some, None};
 ghost use Rattle.mt_outside.specs.Counts.{FetchLeaves, next_count};
 ghost use Rattle.mt_outside.specs.Files.{content, find_file};

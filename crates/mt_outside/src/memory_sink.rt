@@ -1,4 +1,4 @@
-//! A sink in memory that fails where it is told to.
+//! A sink in memory that fails where it is reported to.
 ghost use Rattle.std.specs.Prelude.{◌≡◌, ◌+◌, ◌++◌, ◌≤◌, ◌<◌, [], IfOk, IfSome, OnOk, OnErr, length, Some, None};
 ghost use Rattle.mt_outside.specs.Counts.{WriteLeaves, next_count};
 ghost use Rattle.mt_outside.specs.Memory.{PutFails, taken_of};
@@ -85,7 +85,7 @@ impl MemorySink {
         MemorySink::empty(alloc, room, Some(most), fail)
     }
 
-    // An empty sink, whose puts take at most `most` bytes, where it is told.
+    // An empty sink, whose puts take at most `most` bytes, where it is reported.
     fn empty(
         alloc: Global,
         room: usize,

@@ -27,7 +27,7 @@ use std::alloc::{AllocError, Global};
 /// 2^20 - 4. The accent's symbol is found at this size.
 ///
 /// The accent is the symbol's character, or one of its next larger ones: as far along as they
-/// exist and are not wider than `plain`. With its italic correction it stands in the middle of that
+/// exist and are not wider than `plain`. With its italic correction it is in the middle of that
 /// width. Its baseline is above the body's by its own depth and, where `plain` is higher than the
 /// x-height of the accent's font, by the difference too. The width and the depth are those of the
 /// body; the height is the body's, or that of the accent's top where it is higher.
@@ -181,7 +181,7 @@ fn x_height_of(font: &Font) -> Length
     Length { sp: font.param(5) }
 }
 
-// How far to the right a width starts that stands in the middle of another.
+// How far to the right a width starts that is in the middle of another.
 fn shift_to_middle(plain: Extents, width: Length) -> Length
     requires plain { Within (2 ^ 40) plain.width }
     requires width { Within (2 ^ 32) width.sp }

@@ -59,7 +59,7 @@ pub fn big_on_marks(
     high_row_on_marks(marks, piece, height)
 }
 
-// The height of what a delimiter of this level is to stand beside.
+// The height of what a delimiter of this level is to be beside.
 fn least_height(level: u8) -> Length
     ensures is { result.sp ≡ big_height level }
     ensures small { Within max_dimen result.sp }

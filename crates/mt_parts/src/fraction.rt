@@ -27,7 +27,7 @@ use std::alloc::Global;
 
 /// A numerator over a denominator, with a rule of this thickness between them or, where it is 0, with none, and a
 /// delimiter at each side. The narrower of the two is set in the middle of the width of the other. `fraction_shifts`
-/// says how far both are shifted; under a rule of odd thickness the denominator stands 1sp higher. The thickness is at
+/// says how far both are shifted; under a rule of odd thickness the denominator is 1sp higher. The thickness is at
 /// most 2^40 in size, and the levels of both are at most 2^20 - 4.
 ///
 /// Refused as by `delimiter_box` of mt_delim of the left delimiter, then of the right one; then with `Overflow` of the first

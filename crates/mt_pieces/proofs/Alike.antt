@@ -1,4 +1,4 @@
--- What is told of each piece and of its part.
+-- What is reported of each piece and of its part.
 use Rattle.std.proofs.Common.{◌≡◌, ℕ, Bool, false, List, [], ◌∷◌, ◌++◌, map, reverse, drop, refl, sym, ◌∙◌, ap}
 use Rattle.std.proofs.lemmas.List.{drop-map, map-append, reverse-append, reverse-reverse}
 use Rattle.mt_box.specs.declared.place.Place.{Place}

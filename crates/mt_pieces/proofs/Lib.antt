@@ -4,7 +4,7 @@ pub mod Laid
 pub mod Split
 -- a box in place of other pieces
 pub mod Settled
--- what is told of each piece
+-- what is reported of each piece
 pub mod Alike
 -- the last piece
 pub mod LastPieces

@@ -23,9 +23,7 @@ fn body_from(alloc: Global, text: &[u8]) -> Result<TokenList, CodeError>
     match tokens(alloc, text) {
         Ok(body) => Ok(body),
         Err(TokenError::OutOfMemory) => Err(CodeError::OutOfMemory),
-        Err(TokenError::TooLong) => unreachable!(),
-        Err(TokenError::NotAscii(_)) => unreachable!(),
-        Err(TokenError::BadByte(_)) => unreachable!(),
+        Err(_) => unreachable!(),
     }
 }
 

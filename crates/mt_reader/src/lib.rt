@@ -31,7 +31,7 @@ pub use laws::{
     reading_stops_at_the_fault, tokens_are_a_document_or_refused, turns_of_a_document_are_enough,
 };
 pub use mt_formula::{ReadError, read_formula};
-pub use outside_cause::OutsideCause;
+pub use outside_cause::{OutsideCause, outside_cause_text};
 pub use page_reader::PageReader;
 pub use stop::{Stop, StopCause, StopFormula, read_to_stop};
 pub use token_tables::TokenTables;

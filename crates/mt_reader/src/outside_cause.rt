@@ -1,6 +1,7 @@
 //! Why a token outside of formulas is refused.
 ghost use Rattle.std.specs.Prelude.{◌≡◌};
-ghost use Rattle.mt_reader.specs.Causes.{outside_number};
+ghost use Rattle.mt_scaled.specs.Meanings.{IsLine, cause_text};
+ghost use Rattle.mt_reader.specs.Causes.{outside_causes, outside_number};
 
 use mt_token::FIRST_OUTSIDE_CAUSE;
 use thiserror::Error;
@@ -9,7 +10,7 @@ use thiserror::Error;
 #[derive(Clone, Copy, Debug, PartialEq, Eq, Error)]
 pub enum OutsideCause {
     /// A token that is not allowed there.
-    #[error("it cannot stand there")]
+    #[error("it is not allowed there")]
     Misplaced,
     /// A formula without an end, or one in which a `}` closes no group; the place is that of its first `$`.
     #[error("the formula has no end")]
@@ -42,5 +43,21 @@ impl OutsideCause {
             OutsideCause::TooManyNames => FIRST_OUTSIDE_CAUSE + 4,
             OutsideCause::BadAssignment => FIRST_OUTSIDE_CAUSE + 5,
         }
+    }
+}
+
+/// What the cause of a number means, in a line for a person. Numbers of no cause have an empty text.
+pub fn outside_cause_text(cause: u8) -> &'static str
+    ensures is { result.now ≡ cause_text outside_causes cause }
+    ensures line { IsLine result.now }
+{
+    match cause {
+        31 => "this is not allowed outside formulas",
+        32 => "the formula has no closing $, or braces that do not match",
+        33 => "invalid \\def: expected a name, the parameters #1, #2 and so on, and a body in { }",
+        34 => "the body of this \\def has no closing }",
+        35 => "at most 1,000 macros can be defined",
+        36 => "invalid character or code after \\mathcode or \\delcode",
+        _ => "",
     }
 }

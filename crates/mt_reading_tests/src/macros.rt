@@ -238,7 +238,7 @@ fn refuses_definitions(rt: HostRuntime) -> Result<(), Fail> {
         let preloaded = macros.preload(&x, *params, body.as_slice());
         assert_eq!(rt; preloaded, *want);
     }
-    // The last definition stands.
+    // The last definition counts.
     let list = expand_text(alloc, &macros, b"\\x")??;
     assert!(rt; are_same(&list, &tokens(alloc, b"b")?));
     let body = tokens(alloc, b"a#1#3")?;

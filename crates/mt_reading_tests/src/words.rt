@@ -11,7 +11,7 @@ const CASES: &[Case] = &[
     ("places F S", "places F S 30785863"),
     ("read F D", "read F D"),
     ("gen 1 20000", "gen 1 20000"),
-    // The option may stand anywhere, and a plus before its number.
+    // The option may be anywhere, and a plus before its number.
     ("--line 5 set F S", "set F S 5"),
     ("set --line 5 F S", "set F S 5"),
     ("set F S --line=+5", "set F S 5"),

@@ -77,16 +77,16 @@ stack_round above below b =
     (column_places-append w top above (EntryBox (pos 0) b ∷ below)
     ∙ ap (λ ps. column_places w top above ++ ps) (box_round w top (column_drop above) b below refl))
 
--- ---- the places of a last box, and of what stands above it
+-- ---- the places of a last box, and of what is above it
 
--- a last box that stands at the reference point
+-- a last box that is at the reference point
 pub last_box : (y : ℤ) (ps : List Place) → y ≡ pos 0 → all_moved (pos 0) y ps ++ [] ≡ ps
 last_box y ps e = rw e (nil_right _ ∙ moved_zero ps)
 
 pub box_and_last : (x y y' z : ℤ) (ps qs : List Place) → y ≡ y' → z ≡ pos 0 → all_moved x y ps ++ (all_moved (pos 0) z qs ++ []) ≡ all_moved x y' ps ++ qs
 box_and_last x y y' z ps qs e f = rw (e, last_box z qs f) refl
 
--- a box that stands alone at y, whose places were moved to the right by themselves
+-- a box that is alone at y, whose places were moved to the right by themselves
 pub moved_box : (shift y y' : ℤ) (ps : List Place) → y ≡ y' → all_moved (pos 0) y (all_moved shift (pos 0) ps) ++ [] ≡ all_moved shift y' ps
 moved_box shift y y' ps e =
     let right : shift +ℤ pos 0 ≡ shift = omega (arith, ints) in

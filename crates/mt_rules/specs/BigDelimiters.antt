@@ -10,7 +10,7 @@ use Rattle.mt_rules.specs.declared.symbol.Delim.{Delim}
 use Rattle.mt_rules.specs.Setting.{Setting, ◌>>=◌, make_box}
 use Rattle.mt_rules.specs.Delimiters.{DelimiterVariant, NoVariant, delimiter, delimiter_variant, piece_on_axis, boundary_size}
 
--- the height of what the delimiter is to stand beside: 8.5pt, 11.5pt, 14.5pt or, from level 3 on, 17.5pt
+-- the height of what the delimiter is to be beside: 8.5pt, 11.5pt, 14.5pt or, from level 3 on, 17.5pt
 abbrev pub big_height : ℕ → ℤ
 big_height level = get_or (pos 557056 ∷ pos 753664 ∷ pos 950272 ∷ pos 1146880 ∷ []) level (pos 1146880)
 
@@ -22,7 +22,7 @@ without_null_width NoVariant l = record {
 }
 without_null_width _ l = l
 
--- at least as high as what it stands beside
+-- at least as high as what it is beside
 abbrev pub at_least_high : ℤ → Layout → Layout
 at_least_high height l = record {
   extents = record { width = l.extents.width; height = int_max height l.extents.height; depth = l.extents.depth };

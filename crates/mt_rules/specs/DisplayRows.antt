@@ -41,14 +41,14 @@ equation_sides e = e.first ∷ e.second ∷ []
 abbrev pub equation_cells : EquationLayout → Cells
 equation_cells e = e.first ∷ e.second ∷ e.number ∷ []
 
--- both columns together stand in the middle of the line; between them is this place
+-- both columns together are in the middle of the line; between them is this place
 abbrev pub equations_axis : ℤ → List EquationLayout → ℤ
 equations_axis width rows =
     let first = column_width (map equation_sides rows) 0 in
     let second = column_width (map equation_sides rows) 1 in
     margin ((width -ℤ first) -ℤ second) +ℤ first
 
--- where a number of a width stands: at the left end of the line, or with its own end at the right one
+-- where a number of a width is: at the left end of the line, or with its own end at the right one
 abbrev pub number_place : ℤ → Bool → ℤ → ℤ
 number_place width left number = if left then pos 0 else width -ℤ number
 

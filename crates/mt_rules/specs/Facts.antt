@@ -1,7 +1,7 @@
--- What every math list keeps (`IsMathList`): a left boundary stands only first and a right one only last, both or
--- neither, and middles stand only between the two; the lists of a choice have none of these; the nucleus of a vcenter
+-- What every math list keeps (`IsMathList`): a left boundary is only first and a right one only last, both or
+-- neither, and middles are only between the two; the lists of a choice have none of these; the nucleus of a vcenter
 -- atom is rows or a table, that of a radical atom may be a root, and that of a plain atom a delimiter of a fixed size,
--- and these stand nowhere else; veil atoms, and radical atoms whose nucleus is a root, have no scripts.
+-- and these are nowhere else; veil atoms, and radical atoms whose nucleus is a root, have no scripts.
 use Rattle.std.specs.Prelude.{⊤}
 use Rattle.mt_rules.specs.declared.kind.Kind.{Kind}
 use Rattle.mt_rules.specs.declared.kind.Kind.TheVariants.{Plain, Radical, Vcenter, Veil}
@@ -44,7 +44,7 @@ NoBoundary (More (MiddleElement d) s) = ⊥
 NoBoundary (More (RightElement d) s) = ⊥
 NoBoundary (More _ s) = NoBoundary s
 
--- what may stand between two of the boundaries and middles
+-- what may be between two of the boundaries and middles
 abbrev pub StandsInside : Element → Type 0
 StandsInside (AtomElement kind limits nucleus sup sub) = NucleusFits kind nucleus × ScriptsFit kind nucleus sup sub
 StandsInside (LeftElement d) = ⊥

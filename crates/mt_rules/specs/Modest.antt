@@ -44,7 +44,7 @@ abbrev mutual
   grid_items (MoreTableRows cells rest) = rows_items cells + grid_items rest + 1
 
 -- the greatest number of lists that lie one inside another, the outermost counted; of an element, with the list in
--- which it stands
+-- which it is
 abbrev mutual
   pub list_nesting : Sequence → ℕ
   list_nesting End = 1

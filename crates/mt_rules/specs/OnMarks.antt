@@ -16,7 +16,7 @@ use Rattle.mt_rules.specs.Setting.{Setting, Overflow, TooTall}
 abbrev pub layout_with : Extents → List Place → Layout
 layout_with e ps = record { extents = e; places = ps }
 
--- the layout of these places reaches so far and is what setting answers, or the fault is the same; want of memory may come in
+-- the layout of these places reaches so far and is what setting answers, or the fault is the same; lack of memory may come in
 -- place of both
 abbrev pub SetsOn : Result Extents PartError → List Place → Setting Layout → Type 0
 SetsOn (Ok e) ps setting = setting ≡ Ok (layout_with e ps)

@@ -69,7 +69,7 @@ module _ (gap : ℤ → ℤ → ℤ) where
 
 -- ---- matrices
 
--- the struts of a matrix stand in its first column, and have no width
+-- the struts of a matrix are in its first column, and have no width
 abbrev pub with_struts : List ℤ → List ℤ
 with_struts [] = []
 with_struts (w ∷ ws) = int_max (pos 0) w ∷ ws

@@ -1,4 +1,4 @@
-//! Formulas, and the pages that they stand on.
+//! Formulas, and the pages that they are on.
 
 use crate::{MathList, RowList};
 use mt_scaled::Items;
@@ -8,7 +8,7 @@ use mt_scaled::Items;
 pub struct Tag {
     /// A formula in text style.
     pub body: MathList,
-    /// Whether it stands at the left.
+    /// Whether it is at the left.
     pub left: bool,
 }
 
@@ -35,7 +35,7 @@ pub enum Body {
     /// A display of equations with numbers, one below another: plain TeX's `\eqalignno` and
     /// `\leqalignno`.
     Equations {
-        /// Whether the numbers stand at the left.
+        /// Whether the numbers are at the left.
         left: bool,
         /// The equations, from the top down.
         rows: EquationList,
@@ -53,7 +53,7 @@ pub struct Formula {
     pub display: bool,
     /// What is set.
     pub body: Body,
-    /// The number that is set beside it, if it has one. It stands only beside a list.
+    /// The number that is set beside it, if it has one. It is only beside a list.
     pub tag: Option<Tag>,
 }
 

@@ -2,7 +2,7 @@
 
 use crate::{Class, Delim, Symbol};
 
-/// Where the scripts of a large operator stand (The TeXbook, Appendix G, rule 13).
+/// Where the scripts of a large operator are (The TeXbook, Appendix G, rule 13).
 #[derive(Clone, Copy, Debug, PartialEq, Eq)]
 pub enum Limits {
     /// Above and below it in display style, beside it otherwise.

@@ -12,9 +12,9 @@ use std::marker::Model;
 
 /// A math list: the items of a formula or of a part of one, in order (The TeXbook, Appendix G).
 ///
-/// A left boundary stands only first and a right one only last, both or neither, and middles stand only between the
+/// A left boundary is only first and a right one only last, both or neither, and middles are only between the
 /// two; the four lists of a [`Choice`] have none of these. The nucleus of a vcenter atom is rows or a table; that of a
-/// radical atom may be a root, and that of a plain atom a delimiter of a fixed size; these stand nowhere else. Veil
+/// radical atom may be a root, and that of a plain atom a delimiter of a fixed size; these are nowhere else. Veil
 /// atoms, and radical atoms whose nucleus is a root, have no scripts.
 #[cycle(list)]
 #[derive(Drop)]
@@ -42,7 +42,7 @@ pub struct TableRows {
 /// How a table is laid out.
 #[derive(Clone, Copy)]
 pub enum Look {
-    /// As plain TeX's `\matrix`: the cells stand in the middle of their columns, and the columns a quad apart.
+    /// As plain TeX's `\matrix`: the cells are in the middle of their columns, and the columns a quad apart.
     Matrix,
     /// As plain TeX's `\eqalign`: two columns without a gap, the first flush right and the second flush left.
     Equations,
@@ -58,7 +58,7 @@ pub struct Table {
     pub rows: TableRows,
 }
 
-/// What stands in a math list. Lengths are scaled points, or 65536ths of a math unit (mu) where the name says so.
+/// What is in a math list. Lengths are scaled points, or 65536ths of a math unit (mu) where the name says so.
 #[cycle(list)]
 #[derive(Drop)]
 pub enum Item {
@@ -94,7 +94,7 @@ pub enum Item {
 pub struct Atom {
     /// How it is built.
     pub kind: Kind,
-    /// Where the scripts of an operator stand.
+    /// Where the scripts of an operator are.
     pub limits: Limits,
     /// The nucleus.
     pub nucleus: Field,
@@ -129,11 +129,11 @@ pub enum Field {
     },
 }
 
-/// A radical with a degree: what stands over the beginning of its sign, and what is under it.
+/// A radical with a degree: what is over the beginning of its sign, and what is under it.
 #[cycle(list)]
 #[derive(Drop)]
 pub struct Root {
-    /// The degree, which stands over the beginning of the sign.
+    /// The degree, which is over the beginning of the sign.
     pub degree: MathList,
     /// The nucleus.
     pub body: Field,

@@ -118,7 +118,7 @@ pub fn sub2(fonts: &FontSet, size: Size) -> Length
     }
 }
 
-/// Sigma 18: how far below a box's top a superscript stands.
+/// Sigma 18: how far below a box's top a superscript is.
 pub fn sup_drop(fonts: &FontSet, size: Size) -> Length
     ensures is { result.sp ≡ Parameters.sup_drop fonts.now size }
     ensures small { Within (2 ^ 31) result.sp }
@@ -128,7 +128,7 @@ pub fn sup_drop(fonts: &FontSet, size: Size) -> Length
     }
 }
 
-/// Sigma 19: how far below a box's bottom a subscript stands.
+/// Sigma 19: how far below a box's bottom a subscript is.
 pub fn sub_drop(fonts: &FontSet, size: Size) -> Length
     ensures is { result.sp ≡ Parameters.sub_drop fonts.now size }
     ensures small { Within (2 ^ 31) result.sp }

@@ -19,7 +19,7 @@ pub struct Delim {
     pub large: Symbol,
 }
 
-/// A space with what it can shrink. Both are scaled points, or 65536ths of a math unit (mu) where it stands as mu.
+/// A space with what it can shrink. Both are scaled points, or 65536ths of a math unit (mu) where it is given in mu.
 #[derive(Clone, Copy, Debug, PartialEq, Eq)]
 pub struct Glue {
     /// The natural width.

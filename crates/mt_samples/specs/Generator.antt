@@ -49,7 +49,7 @@ state_after_formula state = state_after_all (template (drawn 5 (next_state state
 abbrev pub formula_end : ℕ → List ℕ
 formula_end n = codes "\n" ++ (if n % 20 == 0 then codes "\\eject\n" else [])
 
--- so many formulas and their line ends, where so many stand before them
+-- so many formulas and their line ends, where so many are before them
 abbrev pub formulas_after : ℕ → ℕ → ℕ → List ℕ
 formulas_after before state zero = []
 formulas_after before state (suc count) =

@@ -14,7 +14,7 @@ const MULTIPLIER: u64 = 6364136223846793005;
 
 const INCREMENT: u64 = 1442695040888963407;
 
-// So many formulas stand on a page.
+// So many formulas are on a page.
 const FORMULAS_OF_A_PAGE: u32 = 20;
 
 // In a template each `@` stands for a letter.

@@ -17,7 +17,7 @@ mod tokens;
 mod units;
 
 pub use delimiters::MAX_DELIMITER;
-pub use fault::{Fault, ReadCause, ReadError};
+pub use fault::{Fault, ReadCause, ReadError, read_cause_text};
 pub use numbers::MAX_MATH_CHAR;
 pub use role::{
     Amount, Bar, FieldKind, NamedItem, Preamble, Role, Side, Simple, character_role, name_role,

@@ -31,7 +31,7 @@ abbrev pub middle_layer : ℕ → Option Extents → ℤ → List (List Place) �
 middle_layer under None width ls = ls
 middle_layer under (Some e) width ls = recentred_layer under e width ls
 
--- how far above the baseline a limit stands, and what is reached with it
+-- how far above the baseline a limit is, and what is reached with it
 abbrev pub limit_up : SetValue → Size → ℤ → Option Extents → ℤ
 limit_up fonts size height None = height
 limit_up fonts size height (Some e) = height +ℤ gap_above fonts size e +ℤ e.depth

@@ -27,7 +27,7 @@ use mt_scaled::Length;
 use std::alloc::{AllocError, Global};
 
 /// The row of a nucleus with its scripts after it. `delta` is the italic correction that the
-/// nucleus does not have: with both scripts the superscript stands so far to the right. Without
+/// nucleus does not have: with both scripts the superscript is so far to the right. Without
 /// scripts it is the nucleus's row.
 ///
 /// The row has at most 2^21 pieces; each number in it is at most 2^40 in size, and so is `delta`.

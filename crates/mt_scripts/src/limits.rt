@@ -25,7 +25,7 @@ use mt_scaled::Length;
 use std::alloc::{AllocError, Global};
 
 /// An operator with its superscript above it and its subscript below it. `delta` is the operator's
-/// italic correction: the superscript stands half of it to the right, the subscript as much to the
+/// italic correction: the superscript is half of it to the right, the subscript as much to the
 /// left.
 ///
 /// All three are set in the middle of the greatest of their widths, an absent script counting as 0

@@ -194,7 +194,7 @@ fn lack_of(least_gap: Length, up: Length, down: Length, sup: Extents, sub: Exten
     least_gap.minus(bottom.minus(top)).not_negative()
 }
 
-// How much higher both stand, where the gap lacked something: so that the superscript's bottom is at
+// How much higher both are, where the gap lacked something: so that the superscript's bottom is at
 // least at `least_bottom`.
 #[tactic(auto, using(std::proofs::lemmas::Int::ints, std::proofs::lemmas::Int::clamps))]
 fn rise_of(least_bottom: Length, up: Length, sup: Extents, lack: Length) -> Length

@@ -20,7 +20,7 @@ pub enum Gap {
 }
 
 /// The space between two atoms with these final classes, in the style of the right one (The TeXbook, chapter 18;
-/// tex.web §764). The two are to be classes that can stand side by side.
+/// tex.web §764). The two are to be classes that can be side by side.
 pub fn space_between(left: Class, right: Class, style: Style) -> Gap
     requires { never_meet left right ≡ false }
     ensures { result ≡ gap_of (spacing left right style) }

@@ -1,4 +1,4 @@
--- No definition refuses a font for want of memory (`list_avoids`, `font_avoids`, `set_avoids`).
+-- No definition refuses a font for lack of memory (`list_avoids`, `font_avoids`, `set_avoids`).
 use Rattle.std.proofs.Common.{◌≡◌, ◌+◌, ◌*◌, ◌^◌, ◌&&◌, ℕ, length, Bool, true, false, List, [], ◌∷◌, refl, ap}
 use Rattle.std.specs.Prelude.{Option, Some, None, Result, Ok, Err, nat_le, nat_lt, ◌==◌}
 use Rattle.mt_tfm.specs.Checks.{are_small, agree, header_fits, chars_fault, cycle_fault, entries_fault, fault_unless, fix_fault, head_fault, index_fault, chars_of, program_fault, program_of, recipe_fault, recipes_of, table_fault, tfm_fault, use_fault, wanted_fault, zero_fault, zeros_fault}

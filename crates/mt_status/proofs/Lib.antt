@@ -4,5 +4,5 @@ pub mod LogPartLemmas
 pub mod PureLemmas
 -- steps that never answer a certain error
 pub mod Avoiding
--- fonts are never refused for want of memory
+-- fonts are never refused for lack of memory
 pub mod FontRefusals

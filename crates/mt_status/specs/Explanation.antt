@@ -1,10 +1,6 @@
--- The form of a line for a person (`explained_at`, `explained_whole`, `IsLine`), and the lines of `usage`.
-use Rattle.std.specs.Prelude.{◌≡◌, ℕ, List, [], ◌∷◌, false, nat_eq, codes}
-use Rattle.std.specs.List.{concat, list_any}
-
--- a text in one line: without a line feed
-abbrev pub IsLine : List ℕ → Type 0
-IsLine text = list_any (nat_eq 10) text ≡ false
+-- The form of a line for a person (`explained_at`, `explained_whole`), and the lines of `usage`.
+use Rattle.std.specs.Prelude.{ℕ, List, [], ◌∷◌, codes}
+use Rattle.std.specs.List.{concat}
 
 abbrev pub explained_at : List ℕ → List ℕ → List ℕ → List ℕ
 explained_at head place text = concat (head ∷ place ∷ codes ": " ∷ text ∷ codes "\n" ∷ [])

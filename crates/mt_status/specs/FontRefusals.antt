@@ -6,14 +6,15 @@ use Rattle.mt_tfm.specs.declared.error.TfmError.{TfmError}
 use Rattle.mt_tfm.specs.declared.error.TfmError.TheVariants.{OutOfMemory as NoFontMemory}
 use Rattle.mt_family.specs.declared.error.ListError.{ListError}
 use Rattle.mt_family.specs.declared.error.SetError.{SetError}
-use Rattle.mt_family.specs.declared.error.SetError.TheVariants.{NoMathFamily, FewParameters, SameFont, OutOfMemory as NoSetMemory}
-use Rattle.mt_family.specs.Errors.{list_error_number, list_error_place, set_error_number}
+use Rattle.mt_family.specs.declared.error.SetError.TheVariants.{SameFont}
+use Rattle.mt_family.specs.Errors.{SizedFamily, list_error_number, list_error_place, set_error_family, set_error_number}
 use Rattle.mt_family.specs.ListFacts.{ListValue}
 use Rattle.mt_family.specs.SetValue.{SetValue}
+use Rattle.mt_status.specs.Meanings.{same_font}
 use Rattle.mt_status.specs.declared.status.Status.{Status}
 use Rattle.mt_status.specs.declared.status.Status.TheVariants.{FontList, BadTfm, BadFamily, OutOfMemory}
 
--- the line at fault, and the number of the cause; want of memory has no line
+-- the line at fault, and the number of the cause; lack of memory has no line
 abbrev pub list_line : Option ℕ → ℕ → Status
 list_line (Some line) cause = FontList line cause
 list_line None cause = OutOfMemory
@@ -35,16 +36,15 @@ abbrev pub font_by : ℕ → Option TfmError → Metrics → Result Metrics Stat
 font_by n None metrics = Ok metrics
 font_by n (Some fault) metrics = Err (font_refusal n fault)
 
--- the cause of a font with the name and the size of an earlier one: one more than the causes of a TFM file
-abbrev pub same_font : ℕ
-same_font = 12
+-- the family and the size, and the number of the cause; lack of memory has no family
+abbrev pub family_refusal : Option SizedFamily → ℕ → Status
+family_refusal (Some family) cause = BadFamily family.0 family.1 cause
+family_refusal None cause = OutOfMemory
 
--- a set that is refused: the font, or the family and the size, and the number of the cause
+-- a set that is refused: a font, or a family at a size
 abbrev pub font_set_refusal : SetError → Status
-font_set_refusal (NoMathFamily fam size) = BadFamily fam size (set_error_number (NoMathFamily fam size))
-font_set_refusal (FewParameters fam size) = BadFamily fam size (set_error_number (FewParameters fam size))
 font_set_refusal (SameFont font) = BadTfm font same_font
-font_set_refusal NoSetMemory = OutOfMemory
+font_set_refusal e = family_refusal (set_error_family e) (set_error_number e)
 
 abbrev pub font_set_by : Option SetError → SetValue → Result SetValue Status
 font_set_by None set = Ok set

@@ -4,7 +4,7 @@ pub mod Statuses
 pub mod Log
 -- the form of a line for a person
 pub mod Explanation
--- what causes mean in words
+-- what the causes of fonts and tokens mean in words
 pub mod Meanings
 -- what is noted beside a status
 pub mod Notes

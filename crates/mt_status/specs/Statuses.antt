@@ -1,15 +1,26 @@
 -- The table of statuses: the number of each (`code_of`), its line of the log (`log_line`), its line for a person
--- (`explained`) and what it means (`meaning`).
-use Rattle.std.specs.Prelude.{ℕ, List, [], ◌∷◌, codes, decimal}
+-- (`explained`), what it means (`meaning`), of what it tells (`subject_of`), and from what it comes (`refusal_origin`).
+use Rattle.std.specs.Prelude.{ℕ, List, [], ◌∷◌, Some, None, codes, decimal}
 use Rattle.std.specs.List.{concat}
 use Rattle.std.specs.Fmt.{signed_decimal}
+use Rattle.mt_scaled.specs.Meanings.{cause_text}
+use Rattle.mt_family.specs.Errors.{family_causes, list_causes}
 use Rattle.mt_family.specs.Sizes.{index_of}
+use Rattle.mt_token.specs.Errors.{byte_causes}
+use Rattle.mt_scan.specs.Errors.{cause_number}
+use Rattle.mt_scan.specs.declared.fault.ReadCause.TheVariants.{TooDeep as TooManyGroups}
+use Rattle.mt_dviread.specs.Errors.{dvi_causes}
 use Rattle.mt_status.specs.declared.status.Much.{Much}
 use Rattle.mt_status.specs.declared.status.Much.TheVariants.{Pages, Places, Bytes}
 use Rattle.mt_status.specs.declared.status.Status.{Status}
 use Rattle.mt_status.specs.declared.status.Status.TheVariants.{Done, BadWords, ReadFault, TooLong, WriteFault, FontList, BadTfm, BadFamily, BadSource, BadFormula, Budget, MissingFamily, MissingChar, SmartLigature, Overflow, TooTall, TooDeep, TooMuch, BadDvi, BadPick, MagClash, BadFile, OutOfMemory}
+use Rattle.mt_status.specs.declared.subject.Characters.TheVariants as characters
+use Rattle.mt_status.specs.declared.subject.DviFault.TheVariants as dvi
+use Rattle.mt_status.specs.declared.subject.Numbers.TheVariants as numbers
+use Rattle.mt_status.specs.declared.subject.Subject.{Subject}
+use Rattle.mt_status.specs.declared.subject.Subject.TheVariants as subjects
 use Rattle.mt_status.specs.Explanation.{explained_at, explained_whole, usage}
-use Rattle.mt_status.specs.Meanings.{cause_text, dvi_causes, family_causes, font_causes, list_causes, source_causes, token_causes}
+use Rattle.mt_status.specs.Meanings.{font_cause, token_cause}
 
 -- the number that the process ends with
 abbrev pub code_of : Status → ℕ
@@ -36,10 +47,6 @@ code_of (BadPick page) = 51
 code_of (MagClash file) = 52
 code_of (BadFile file offset cause) = 53
 code_of OutOfMemory = 60
-
--- the cause of a formula with a macro that lacks an argument
-abbrev pub missing_argument : ℕ
-missing_argument = 21
 
 -- what there is too much of
 abbrev pub much_text : Much → List ℕ
@@ -112,10 +119,10 @@ meaning (ReadFault name) = codes "the file does not exist, is a directory, or ca
 meaning (TooLong name) = codes "a font list can have at most 65,536 bytes, a TFM file 131,068, a source 4,194,304, and a DVI file 67,108,864"
 meaning (WriteFault written) = codes "the output could not be written in full"
 meaning (FontList line cause) = cause_text list_causes cause
-meaning (BadTfm font cause) = cause_text font_causes cause
+meaning (BadTfm font cause) = font_cause cause
 meaning (BadFamily fam size cause) = cause_text family_causes cause
-meaning (BadSource offset cause) = cause_text source_causes cause
-meaning (BadFormula n token cause) = cause_text token_causes cause
+meaning (BadSource offset cause) = cause_text byte_causes cause
+meaning (BadFormula n token cause) = token_cause cause
 meaning (Budget n) = codes "a formula can take at most 20,000 steps of macros and 50,000 tokens, and all formulas together 1,000,000 tokens"
 meaning (MissingFamily n fam size) = codes "the family has no font at this size"
 meaning (MissingChar n fam size code) = codes "the font does not have this character"
@@ -129,3 +136,50 @@ meaning (BadPick page) = codes "the DVI file does not have this page"
 meaning (MagClash file) = codes "the magnification is not that of file 0"
 meaning (BadFile file offset cause) = cause_text dvi_causes cause
 meaning OutOfMemory = codes "there is not enough memory"
+
+abbrev pub much_subject : Much → ℕ → Subject
+much_subject Pages count = subjects.Fault (numbers.Page count)
+much_subject Places count = subjects.Places
+much_subject Bytes count = subjects.Nothing
+
+-- of what it tells
+abbrev pub subject_of : Status → Subject
+subject_of Done = subjects.Nothing
+subject_of BadWords = subjects.Nothing
+subject_of (ReadFault name) = subjects.Unread
+subject_of (TooLong name) = subjects.Nothing
+subject_of (WriteFault written) = subjects.Nothing
+subject_of (FontList line cause) = subjects.ListLine line
+subject_of (BadTfm font cause) = subjects.Font font
+subject_of (BadFamily fam size cause) = subjects.Family (record { family = fam; size = size; characters = characters.None })
+subject_of (BadSource offset cause) = subjects.Byte offset cause
+subject_of (BadFormula n token cause) = subjects.Fault (numbers.Token n token cause)
+subject_of (Budget n) = subjects.Fault (numbers.Formula n)
+subject_of (MissingFamily n fam size) = subjects.Formula n (Some (record { family = fam; size = size; characters = characters.None }))
+subject_of (MissingChar n fam size code) = subjects.Formula n (Some (record { family = fam; size = size; characters = characters.One code }))
+subject_of (SmartLigature n fam size first second) = subjects.Formula n (Some (record { family = fam; size = size; characters = characters.Pair first second }))
+subject_of (Overflow n value) = subjects.Formula n None
+subject_of (TooTall n count) = subjects.Formula n None
+subject_of (TooDeep n token) = subjects.Fault (numbers.Token n token (cause_number TooManyGroups))
+subject_of (TooMuch kind count) = much_subject kind count
+subject_of (BadDvi offset cause) = subjects.Dvi (dvi.Byte offset cause)
+subject_of (BadPick page) = subjects.Dvi dvi.Page
+subject_of (MagClash file) = subjects.Dvi (dvi.Magnification file)
+subject_of (BadFile file offset cause) = subjects.Dvi (dvi.ByteOfFile file offset cause)
+subject_of OutOfMemory = subjects.Nothing
+
+-- from what the answer of a step comes: the files, a read that failed, or lack of memory
+pub data Origin : Type 0 where
+  Told : Origin
+  Lost : List ℕ → Origin
+  Memory : Origin
+  -- the status is none that a step answers
+  Never : Origin
+
+abbrev pub refusal_origin : Status → Origin
+refusal_origin Done = Never
+refusal_origin BadWords = Never
+refusal_origin (ReadFault name) = Lost name
+refusal_origin (WriteFault written) = Never
+refusal_origin OutOfMemory = Memory
+refusal_origin status = Told

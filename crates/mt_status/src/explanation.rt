@@ -1,16 +1,20 @@
 //! What a refusal means in words, for a person: the text that main writes below the log's.
 ghost use Rattle.std.specs.Prelude.{◌≡◌, ◌∷◌, [], List, ℕ, codes};
 ghost use Rattle.std.specs.List.{concat};
+ghost use Rattle.mt_scaled.specs.Meanings.{IsLine};
 ghost use Rattle.mt_status.specs.Log.{Gets};
-ghost use Rattle.mt_status.specs.Explanation.{IsLine, usage};
+ghost use Rattle.mt_status.specs.Explanation.{usage};
 ghost use Rattle.mt_status.specs.Statuses.{explained};
 ghost use Rattle.mt_status.specs.Statuses.{meaning, too_much_meaning};
 ghost use Rattle.mt_status.specs.inner.LogParts.{part_bytes};
 
-use crate::causes::{dvi_cause, family_cause, font_cause, list_cause, source_cause, token_cause};
+use crate::causes::{font_cause, token_cause};
 use crate::log_part::{LogPart, write_parts};
 use crate::status::{Much, Status};
+use mt_dviread::dvi_cause_text;
+use mt_family::{family_cause_text, list_cause_text};
 use mt_outside::Sink;
+use mt_token::byte_cause_text;
 
 const USAGE: &str =
     "usage: mathset [--line WIDTH] set FONTS SOURCE       as in: mathset set my.fonts my.tex > my.dvi\n       \
@@ -51,13 +55,13 @@ fn explanation(status: &Status) -> &'static str
              and a DVI file 67,108,864"
         }
         Status::WriteFault { .. } => "the output could not be written in full",
-        Status::FontList { cause, .. } => list_cause(*cause),
+        Status::FontList { cause, .. } => list_cause_text(*cause),
         Status::BadTfm { cause, .. } => font_cause(*cause),
-        Status::BadFamily { cause, .. } => family_cause(*cause),
-        Status::BadSource { cause, .. } => source_cause(*cause),
+        Status::BadFamily { cause, .. } => family_cause_text(*cause),
+        Status::BadSource { cause, .. } => byte_cause_text(*cause),
         Status::BadFormula { cause, .. } => token_cause(*cause),
         Status::TooMuch { kind, .. } => too_much(*kind),
-        Status::BadDvi { cause, .. } | Status::BadFile { cause, .. } => dvi_cause(*cause),
+        Status::BadDvi { cause, .. } | Status::BadFile { cause, .. } => dvi_cause_text(*cause),
         Status::BadPick { .. } => "the DVI file does not have this page",
         Status::MagClash { .. } => "the magnification is not that of file 0",
         Status::OutOfMemory => "there is not enough memory",
@@ -142,7 +146,7 @@ fn write_explained<L: Sink>(log: &mut L, status: &Status, text: &str)
 }
 
 /// Writes what a refusal means, in a line for a person, and nothing for `Done`; for `BadWords` five
-/// lines on how the program is called. The name of a file stands in it as it is: one that has a line
+/// lines on how the program is called. The name of a file is in it unchanged: one that has a line
 /// feed makes two lines. A fault of the stream changes nothing else. Line and texts are those of
 /// docs/FORMATS.md ("Explanations").
 pub fn write_explanation<L: Sink>(log: &mut L, status: &Status)

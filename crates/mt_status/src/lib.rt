@@ -8,9 +8,12 @@ mod log;
 mod log_part;
 mod notes;
 mod status;
+mod subject;
 
+pub use causes::MISSING_ARGUMENT;
 pub use explanation::write_explanation;
 pub use font_refusals::font_refusal;
 pub use log::write_line;
 pub use notes::Notes;
-pub use status::{MISSING_ARGUMENT, Much, Status};
+pub use status::{Much, Status};
+pub use subject::{Characters, DviFault, NamedFamily, Numbers, Subject};

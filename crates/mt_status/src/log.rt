@@ -1,4 +1,4 @@
-//! The line that a refusal writes to the log; the name of a file stands in it as it is, line feeds too.
+//! The line that a refusal writes to the log; the name of a file is in it unchanged, line feeds too.
 ghost use Rattle.std.specs.Prelude.{◌≡◌, ◌∷◌, [], codes, decimal};
 ghost use Rattle.std.specs.List.{concat};
 ghost use Rattle.mt_status.specs.Log.{Gets};
@@ -313,8 +313,8 @@ fn write_file_byte<L: Sink>(log: &mut L, file: u32, offset: u64, cause: u8)
 
 /// Writes the line of a refusal, and nothing for `Done`. A fault of the log changes nothing else.
 ///
-/// The name of a file stands in the line as it is: one that has a line feed makes two lines. It takes no memory, so
-/// that want of memory can be told too.
+/// The name of a file is in the line unchanged: one that has a line feed makes two lines. It takes no memory, so
+/// that lack of memory can be told too.
 pub fn write_line<L: Sink>(log: &mut L, status: &Status)
     ensures { Gets L.written L.faults log.old log.new (log_line status.now) }
 {

@@ -7,10 +7,6 @@ use mt_family::Size;
 use mt_scaled::Name;
 use std::alloc::{AllocError, AllocFailed};
 
-/// The cause of `BadFormula` where a macro lacks an argument. The other causes are the numbers of
-/// errors of the layers below.
-pub const MISSING_ARGUMENT: u8 = 21;
-
 /// Of what a run has too much.
 #[derive(Clone, Copy, Debug, PartialEq, Eq)]
 pub enum Much {
@@ -68,7 +64,7 @@ pub enum Status {
         offset: u64,
         cause: u8,
     },
-    /// A formula that is none of the grammar, or a token that cannot stand outside of formulas.
+    /// A formula that is none of the grammar, or a token that is not allowed outside of formulas.
     BadFormula {
         n: u32,
         token: u32,

@@ -44,7 +44,7 @@ pub enum TokenError {
     #[error("byte {0} is not ASCII")]
     NotAscii(u32),
     /// Another byte that is not allowed there.
-    #[error("byte {0} cannot stand there")]
+    #[error("byte {0} is not allowed there")]
     BadByte(u32),
     /// The source has more than [`crate::MAX_SOURCE`] bytes.
     #[error("the source is too long")]
@@ -88,8 +88,36 @@ impl TokenError {
     }
 }
 
+ghost use Rattle.mt_scaled.specs.Meanings.{IsLine, cause_text};
+ghost use Rattle.mt_token.specs.Errors.{byte_causes};
+
+/// What the error of a byte with a number means, in a line for a person. Other numbers have an empty
+/// text.
+pub fn byte_cause_text(cause: u8) -> &'static str
+    ensures is { result.now ≡ cause_text byte_causes cause }
+    ensures line { IsLine result.now }
+{
+    match cause {
+        1 => "only comments can have characters that are not ASCII",
+        2 => "this character is not allowed here",
+        _ => "",
+    }
+}
+
 impl TokenKind {
+    ghost use Rattle.std.specs.Option.{option_copied};
+    ghost use Rattle.mt_token.specs.Character.{name_of};
     ghost use Rattle.mt_token.specs.LentKinds.{owned_kind};
+
+    /// The name of a control sequence; `None` for another token.
+    pub fn name(&self) -> Option<&Name>
+        ensures { option_copied result ≡ name_of self.now }
+    {
+        match self {
+            TokenKind::Control(name) => Some(name),
+            TokenKind::Char(_) | TokenKind::Space => None,
+        }
+    }
 
     /// The same kind, with its name lent.
     pub fn lent<'a>(&'a self) -> LentKind<'a>

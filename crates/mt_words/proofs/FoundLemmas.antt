@@ -12,7 +12,7 @@ use Rattle.clap.specs.declared.error.Error.{Error}
 use Rattle.clap.specs.declared.error.kind.ErrorKind.TheVariants.{OutOfMemory}
 use Rattle.mt_words.specs.CommandLine.{command_line, found_rows, rows_unless}
 
--- an error that is no want of memory is a fault of the words
+-- an error that is no lack of memory is a fault of the words
 pub no_rows : (kinds : Kinds) (rows : List Row) (error : Error) → HasKind kinds error → (kind_of error ≡ OutOfMemory → ⊥) → rows_unless kinds rows ≡ None
 no_rows [] rows error (inl memory) other = absurd (other memory)
 no_rows [] rows error (inr among) other = absurd among

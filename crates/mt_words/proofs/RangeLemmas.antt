@@ -31,7 +31,7 @@ upward_more now before first count is =
     ap (λ (l : List ℕ). l ++ (first + count) ∷ []) is ∙ append_assoc before (range_with_len first count) ((first + count) ∷ [])
     ∙ rw add-one (ap (λ (l : List ℕ). before ++ l) (sym (upward_push first count)))
 
--- pages that stand before those of the words that are left
+-- pages that are before those of the words that are left
 abbrev pub after_pages : List ℕ → Option (List ℕ) → Option (List ℕ)
 after_pages pages rest = option_map (λ more. pages ++ more) rest
 

@@ -1,4 +1,4 @@
--- Steps that may give nothing, one after another. A `do` block of them stands on it.
+-- Steps that may give nothing, one after another. A `do` block of them is based on it.
 use Rattle.std.specs.Prelude.{Option, option_and_then}
 
 -- the next step takes the value of the one before

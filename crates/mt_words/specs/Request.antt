@@ -23,7 +23,7 @@ sample_of seed_word count_word = do
   count ← decimal_between 0 max_count count_word
   Some (record { seed = seed; count = count })
 
--- the width of a line in sp; a plus may stand before the number
+-- the width of a line in sp; a plus may be before the number
 abbrev pub line_width : List Row → Option ℕ
 line_width rows = do
   text ← one_of (codes "line") rows
@@ -33,7 +33,7 @@ line_width rows = do
 abbrev pub line_source : List Row → Option ValueSource
 line_source rows = option_and_then (λ row. row.source) (find (λ row. bytes_eq row.id (codes "line")) rows)
 
--- the width of a line stands in the words
+-- the width of a line is in the words
 abbrev pub has_line : List Row → Bool
 has_line rows = is_command_line (line_source rows)
   where

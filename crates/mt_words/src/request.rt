@@ -48,7 +48,7 @@ pub struct DviPages<'a> {
     pub fonts: &'a str,
     /// The name of the DVI file.
     pub dvi: &'a str,
-    /// The numbers of the pages, from 1 on, in the order that is asked for; a page may stand twice.
+    /// The numbers of the pages, from 1 on, in the order that is asked for; a page may come twice.
     pub pages: Vec<u32>,
 }
 

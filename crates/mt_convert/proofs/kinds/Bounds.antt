@@ -56,7 +56,7 @@ other_cells cells rows h = record { nesting = omega (arith, h.nesting); items = 
 
 -- ---- in an arena
 
--- a place of a root is one, also where no root stands there
+-- a place of a root is one, also where no root is there
 pub record IsRoot (p : Part) : Type 0 where
   pub degree : Sequence
   pub body : Part

@@ -18,7 +18,7 @@ use Rattle.mt_dviops.specs.inner.Copies.{KeepsPage}
 use Rattle.mt_dviops.specs.inner.Inside.{IsInside, bytes_between}
 use Rattle.mt_dviops.specs.inner.Shown.{has_selected}
 use Rattle.mt_dviread.specs.Deeds.{places_of_page}
-use Rattle.mt_dviread.specs.Faults.{fault_of}
+use Rattle.mt_dviread.specs.Errors.{fault_of}
 use Rattle.mt_dviread.specs.declared.error.DviError.{DviError}
 use Rattle.mt_dviread.specs.Sees.{IsReading}
 use Rattle.mt_dviread.specs.declared.file.OpenFile.{OpenFile}

@@ -80,7 +80,7 @@ pub record IncludesPage (old new : Totals) (copy : PageCopy) : Type 0 where
   pub widest : new.widest ≡ max old.widest copy.widest
   pub selected : (n : ℕ) → has_selected new.fonts n ≡ (has_selected old.fonts n || has_selected copy.fonts n)
 
--- what stands before the pages, and before post, with these definitions
+-- what is before the pages, and before post, with these definitions
 abbrev pub head_of : ℤ → List ℕ → List ℕ
 head_of mag definitions = pre_bytes mag ++ definitions
 

@@ -10,8 +10,8 @@ use Rattle.std.specs.Ordering.{nat_cmp}
 use Rattle.std.specs.BTreeMap.{get}
 use Rattle.mt_dviread.specs.declared.numbered.DefinedFont.{DefinedFont}
 use Rattle.mt_dviread.specs.declared.definitions.Definitions.{Definitions}
-use Rattle.mt_dviread.specs.declared.cause.Cause.{Cause}
-use Rattle.mt_dviread.specs.inner.Operations.{cause_of}
+use Rattle.mt_dviread.specs.declared.error.Cause.{Cause}
+use Rattle.mt_dviread.specs.Errors.{cause_of}
 
 -- of a font that is defined: its name and size, and the number in the set of the font that it is
 pub record Known : Type 0 where

@@ -7,11 +7,11 @@ use Rattle.mt_dvi.specs.File as files
 use Rattle.mt_dvi.specs.File.{Continuation, Continues, Ends, Fails}
 use Rattle.mt_dvi.specs.Limits.{max_places}
 use Rattle.mt_dvi.specs.Machine.{TooMany}
-use Rattle.mt_dviread.specs.declared.cause.Cause.{Cause}
+use Rattle.mt_dviread.specs.declared.error.Cause.{Cause}
 use Rattle.mt_dviread.specs.declared.deed.Deed.{Deed}
 use Rattle.mt_dviread.specs.declared.deed.Deed.TheVariants.{Performs}
 use Rattle.mt_dviread.specs.declared.file.OpenFile.{OpenFile}
-use Rattle.mt_dviread.specs.inner.Operations.{cause_of}
+use Rattle.mt_dviread.specs.Errors.{cause_of}
 use Rattle.mt_dviread.specs.Deeds.{Changes, IsDeed, count_with}
 use Rattle.mt_dviread.specs.Sees.{Sees}
 

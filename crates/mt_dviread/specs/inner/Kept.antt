@@ -10,7 +10,7 @@ use Rattle.mt_dviread.specs.declared.file.OpenFile.{OpenFile}
 use Rattle.mt_dviread.specs.declared.file.Phase.TheVariants.{BeforePre}
 use Rattle.mt_dviread.specs.declared.deed.Deed.TheVariants.{EndsPage}
 use Rattle.mt_dviread.specs.Deeds.{places_of_page}
-use Rattle.mt_dviread.specs.Faults.{fault_of}
+use Rattle.mt_dviread.specs.Errors.{fault_of}
 use Rattle.mt_dviread.specs.Sees.{IsReading}
 
 -- the places of the pages that have ended, after a deed

@@ -1,9 +1,6 @@
--- What the reader keeps of an operation (`IsOperation`), and the cause that ends the reading (`cause_of`).
-use Rattle.std.specs.Prelude.{◌≡◌, ℕ, List, [], ◌∷◌, Option, Some, None}
+-- What the reader keeps of an operation (`IsOperation`).
+use Rattle.std.specs.Prelude.{◌≡◌, ℕ, List, [], ◌∷◌}
 use Rattle.mt_dvi.specs.Codes as codes
-use Rattle.mt_dvi.specs.Machine as machine
-use Rattle.mt_dviread.specs.declared.cause.Cause.{Cause}
-use Rattle.mt_dviread.specs.declared.cause.Cause.TheVariants as causes
 use Rattle.mt_dviread.specs.declared.operation.Register.{Register}
 use Rattle.mt_dviread.specs.declared.operation.Register.TheVariants as registers
 use Rattle.mt_dviread.specs.declared.operation.Definition.{Definition}
@@ -11,21 +8,6 @@ use Rattle.mt_dviread.specs.declared.operation.Preamble.{Preamble}
 use Rattle.mt_dviread.specs.declared.operation.Postamble.{Postamble}
 use Rattle.mt_dviread.specs.declared.operation.Operation.{Operation}
 use Rattle.mt_dviread.specs.declared.operation.Operation.TheVariants as operations
-
--- the machine's cause; want of memory is none
-abbrev pub cause_of : Cause → Option machine.Cause
-cause_of causes.Truncated = Some machine.Truncated
-cause_of causes.BadOpcode = Some machine.BadOpcode
-cause_of causes.BadPreamble = Some machine.BadPreamble
-cause_of causes.BadPointer = Some machine.BadPointer
-cause_of causes.BadPost = Some machine.BadPost
-cause_of causes.UnknownFont = Some machine.UnknownFont
-cause_of causes.MissingChar = Some machine.MissingChar
-cause_of causes.StackEmpty = Some machine.StackEmpty
-cause_of causes.TooDeep = Some machine.TooDeep
-cause_of causes.OutOfRange = Some machine.OutOfRange
-cause_of causes.TooMany = Some machine.TooMany
-cause_of causes.OutOfMemory = None
 
 abbrev pub register_of : Register → codes.Register
 register_of registers.W = codes.W

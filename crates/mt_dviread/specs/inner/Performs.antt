@@ -5,11 +5,11 @@ use Rattle.mt_box.specs.declared.place.Place.{Place}
 use Rattle.mt_dvi.specs.Codes as codes
 use Rattle.mt_dvi.specs.Machine as machine
 use Rattle.mt_dvi.specs.Machine.{Machine, Effects, WrittenPlace, is_far, is_outside}
-use Rattle.mt_dviread.specs.declared.cause.Cause.{Cause}
-use Rattle.mt_dviread.specs.declared.cause.Cause.TheVariants as causes
+use Rattle.mt_dviread.specs.declared.error.Cause.{Cause}
+use Rattle.mt_dviread.specs.declared.error.Cause.TheVariants as causes
 use Rattle.mt_dviread.specs.declared.deed.Mark.{Mark}
 use Rattle.mt_dviread.specs.declared.machine.Registers.{Registers}
-use Rattle.mt_dviread.specs.inner.Operations.{cause_of}
+use Rattle.mt_dviread.specs.Errors.{cause_of}
 
 abbrev pub registers_of : Registers → machine.Registers
 registers_of r = record { h = r.h.sp; v = r.v.sp; w = r.w; x = r.x; y = r.y; z = r.z }

@@ -30,17 +30,17 @@ module _ (tables : CodeTables) where
   row_begins_at rest other HboxWord = Got true rest
   row_begins_at rest other _ = other
 
-  -- before the first row no Space may stand
+  -- before the first row no Space may be
   abbrev pub first_row_begins : List Token → Read Bool
   first_row_begins [] = Fault MissingField 0
   first_row_begins (t ∷ rest) = row_begins_at rest (Fault MissingField (length rest + 1)) (role_of tables t)
 
-  -- after a row Spaces may stand before another one
+  -- after a row Spaces may be before another one
   abbrev pub later_row_begins : List Token → Read Bool
   later_row_begins [] = Fault MissingField 0
   later_row_begins (t ∷ rest) = row_begins_at rest (next_row_begins (after_spaces (t ∷ rest))) (role_of tables t)
 
-  -- {$ that must stand here
+  -- {$ that must be here
   abbrev pub row_opens : ℕ → List Token → Read ⊤
   row_opens level tokens =
       then_read (opening tables is_open_brace level tokens)

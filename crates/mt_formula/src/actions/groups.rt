@@ -11,7 +11,7 @@ use mt_scan::{Fault, ReadCause, Role, Roles};
 /// The greatest number of groups that are open at a time.
 const MAX_GROUPS: usize = 150;
 
-/// The fault of a token that begins no field, row or group where one must stand.
+/// The fault of a token that begins no field, row or group where one must be.
 pub fn missing_field(left: usize) -> Fault
     ensures { result ≡ record { cause = MissingField; left = left } }
 {
@@ -21,7 +21,7 @@ pub fn missing_field(left: usize) -> Fault
     }
 }
 
-/// Whether one more group may be open, of which the first token stands where so many tokens are left.
+/// Whether one more group may be open, of which the first token is where so many tokens are left.
 pub fn check_level(level: usize, left: usize) -> Result<(), Fault>
     ensures { AllowsGroup result level left }
 {
@@ -35,7 +35,7 @@ pub fn check_level(level: usize, left: usize) -> Result<(), Fault>
     }
 }
 
-/// The tokens after a `{` that must stand here and opens a group.
+/// The tokens after a `{` that must be here and opens a group.
 pub fn open_brace<'a, T, R: Roles<T>>(
     roles: &R,
     level: usize,

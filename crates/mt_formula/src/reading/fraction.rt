@@ -12,7 +12,7 @@ use mt_scan::items::{dimension, scan_delimiter};
 use mt_scan::{Bar, Fault, Roles, Scanned, null_delim};
 use std::alloc::AllocError;
 
-/// What stands before the denominator of a fraction.
+/// What is before the denominator of a fraction.
 #[derive(Clone, Copy, Debug, PartialEq, Eq)]
 pub struct FractionHead {
     /// The thickness of the rule, `None` for that of the font.

@@ -13,7 +13,7 @@ use crate::actions::groups::{check_level, missing_field, open_brace};
 use mt_scan::items::after_spaces;
 use mt_scan::{Fault, Role, Roles, Scanned};
 
-// The tokens after a `$` that must stand here and opens a group.
+// The tokens after a `$` that must be here and opens a group.
 fn open_dollar<'a, T, R: Roles<T>>(
     roles: &R,
     level: usize,
@@ -51,7 +51,7 @@ pub fn open_row_list<'a, T, R: Roles<T>>(
     open_dollar(roles, level + 1, after)
 }
 
-/// The tokens after a `}` that must stand here.
+/// The tokens after a `}` that must be here.
 pub fn close_brace<'a, T, R: Roles<T>>(roles: &R, tokens: &'a [T]) -> Result<&'a [T], Fault>
     ensures is { Opens (R.token roles.now) result
         (brace_closes (R.codes roles.now) (map (R.token roles.now) tokens.now)) }

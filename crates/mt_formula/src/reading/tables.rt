@@ -10,7 +10,7 @@ use crate::actions::table_form::{Column, TableForm, TableStep, next_column};
 use mt_scan::items::after_spaces;
 use mt_scan::{Fault, Preamble, ReadCause, Role, Roles, Scanned};
 
-/// Whether the table ends here, at `}`, or another row begins. Spaces that may stand before are to be
+/// Whether the table ends here, at `}`, or another row begins. Spaces that may be before are to be
 /// dropped first: a Space here is part of a row.
 pub fn row_or_end<'a, T, R: Roles<T>>(roles: &R, tokens: &'a [T]) -> Scanned<'a, TableStep, T>
     ensures is { row_or_end (R.codes roles.now) (map (R.token roles.now) tokens.now)
@@ -67,7 +67,7 @@ fn unbalanced(left: usize) -> Fault
 }
 
 /// How a table goes on after a cell of this column. The fault is `Unbalanced` where none of `&`,
-/// `\cr` and `}` stands there, `ExtraCell` where the table has no column after this one.
+/// `\cr` and `}` is there, `ExtraCell` where the table has no column after this one.
 pub fn after_cell<'a, T, R: Roles<T>>(
     roles: &R,
     preamble: Preamble,
@@ -92,7 +92,7 @@ pub fn after_cell<'a, T, R: Roles<T>>(
     }
 }
 
-/// How many groups are open where the `{` of a table stands.
+/// How many groups are open where the `{` of a table is.
 pub fn brace_level(form: TableForm, level: usize) -> usize
     requires { level ≤ max_groups }
     ensures { result ≡ brace_level form level }

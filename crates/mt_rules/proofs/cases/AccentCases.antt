@@ -54,7 +54,7 @@ accent_scripts : atom_row odd D OrdinarySymbol (atom (Accent (symbol 0 90)) Defa
 unfolding evaluated
 accent_scripts = refl
 
--- over a symbol with a superscript that is higher: the accent stands as much higher
+-- over a symbol with a superscript that is higher: the accent is as much higher
 accent_gain : atom_row odd T OrdinarySymbol (atom (Accent (symbol 0 90)) Default (SymbolContent (symbol 1 97)) (SymbolContent (symbol 1 97)) NoContent) ≡ Ok (PieceBox (pos 0) (layout (pos 66769) (pos 35002) (pos 0) (Glyph 3 91 (neg 150) (neg 1001) ∷ Glyph 0 97 (pos 0) (pos 0) ∷ Glyph 1 97 (pos 20000) (neg 14001) ∷ [])) ∷ [])
 unfolding evaluated
 accent_gain = refl

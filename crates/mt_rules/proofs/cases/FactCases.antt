@@ -40,7 +40,7 @@ root_without_scripts h = h.0.1.0
 veil_without_scripts : IsMathList (alone (Veil true false true) letter EmptyPart letter) → ⊥
 veil_without_scripts h = h.0.1.1
 
--- they stand nowhere else
+-- they are nowhere else
 root_outside : IsMathList (alone (Plain Ord) root EmptyPart EmptyPart) → ⊥
 root_outside h = h.0.0
 

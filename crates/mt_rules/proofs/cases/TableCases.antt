@@ -47,7 +47,7 @@ other_widths : matrix_table toy Text strut ((cell 97 (pos 327680) (pos 327680) (
 unfolding sy matrix_table
 other_widths = refl
 
--- a first column of negative width counts 0, and its cells stand in the middle of it
+-- a first column of negative width counts 0, and its cells are in the middle of it
 negative_first : matrix_table toy Text strut ((empty (neg 589824) ∷ cell 98 (pos 327680) (pos 327680) (pos 0) ∷ []) ∷ (cell 99 (neg 458752) (pos 327680) (pos 0) ∷ cell 100 (pos 327680) (pos 327680) (pos 0) ∷ []) ∷ []) ≡ Ok (layout (pos 983040) (pos 720896) (pos 393216) (Glyph 3 98 (pos 655360) (neg 393216) ∷ Glyph 3 99 (pos 229376) (pos 393216) ∷ Glyph 3 100 (pos 655360) (pos 393216) ∷ []))
 unfolding sy matrix_table
 negative_first = refl

@@ -59,7 +59,7 @@ over_phantom : packed toy T (atom Over Default (ListContent (one toy (atom (Veil
 unfolding evaluated
 over_phantom = refl
 
--- a rule over a smashed nucleus stands at its height 0
+-- a rule over a smashed nucleus is at its height 0
 over_smash : packed toy T (atom Over Default (ListContent (one toy (atom (Veil true false true) Default (ListContent (one toy (atom (Plain Ord) Default (SymbolContent (symbol 1 120)) (SymbolContent (symbol 0 50)) NoContent))) NoContent NoContent))) NoContent NoContent) ≡ Ok (layout (pos 589824) (pos 204800) (pos 0) (Rule (pos 0) (neg 122880) (pos 40960) (pos 589824) ∷ Glyph 3 120 (pos 0) (pos 0) ∷ Glyph 1 50 (pos 327680) (neg 245760) ∷ []))
 unfolding evaluated
 over_smash = refl

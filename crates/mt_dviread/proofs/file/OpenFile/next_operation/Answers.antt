@@ -3,7 +3,7 @@ use Rattle.std.specs.Option.{option_map}
 use Rattle.mt_dvi.specs.Codes.{operand_size}
 use Rattle.mt_dvi.specs.File.{Fault}
 use Rattle.mt_dvi.specs.Machine as machine
-use Rattle.mt_dviread.specs.inner.Operations.{cause_of}
+use Rattle.mt_dviread.specs.Errors.{cause_of}
 use Rattle.mt_dviread.proofs.Turns.{cause_told, front, not_cut, turn_cut, turn_fails, turn_out, turns_on, whole}
 use Rattle.mt_dviread.proofs.file.OpenFile.next_operation.Goals as goal
 

@@ -3,7 +3,7 @@ use Rattle.std.specs.Prelude.{Ok, Err}
 use Rattle.std.specs.Option.{option_map}
 use Rattle.mt_dvi.specs.File.{Fault}
 use Rattle.mt_dvi.specs.Machine as machine
-use Rattle.mt_dviread.specs.inner.Operations.{cause_of}
+use Rattle.mt_dviread.specs.Errors.{cause_of}
 use Rattle.mt_dviread.proofs.Runs.{head_is, in_page, mark_front, mark_goes, mark_low, not_again}
 use Rattle.mt_dviread.proofs.Turns.{not_cut, turn_fails, turn_goes}
 use Rattle.mt_dviread.proofs.file.OpenFile.perform_mark.Goals as goal

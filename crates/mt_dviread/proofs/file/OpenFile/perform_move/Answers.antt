@@ -4,7 +4,7 @@ use Rattle.std.specs.Option.{option_map}
 use Rattle.mt_dvi.specs.Codes.{operand_size}
 use Rattle.mt_dvi.specs.File.{Fault}
 use Rattle.mt_dvi.specs.Machine as machine
-use Rattle.mt_dviread.specs.inner.Operations.{cause_of}
+use Rattle.mt_dviread.specs.Errors.{cause_of}
 use Rattle.mt_dviread.proofs.Runs.{head_is, in_page, move_goes, moved_is, not_again, select_size}
 use Rattle.mt_dviread.proofs.Turns.{front, not_cut, turn_cut, turn_fails, turn_goes, whole}
 use Rattle.mt_dviread.proofs.file.OpenFile.perform_move.Goals as goal
