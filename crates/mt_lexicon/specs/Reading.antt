@@ -1,7 +1,7 @@
 -- Words that are read from a source.
 use Rattle.std.specs.Prelude.{◌≡◌, ℕ, ◌<◌, ◌≤◌, List, [], ◌∷◌, Option, Some, None, Result, Ok, Err}
 use Rattle.mt_token.specs.declared.token.TokenError.{TokenError}
-use Rattle.mt_token.specs.declared.token.TokenError.TheVariants.{NotAscii, BadByte, TooLong, OutOfMemory}
+use Rattle.mt_token.specs.declared.token.TokenError.TheVariants.{TooLong, OutOfMemory}
 use Rattle.mt_token.specs.Tokens.{Spanned, Answer, before}
 use Rattle.mt_lexicon.specs.declared.word.Word.{Word}
 use Rattle.mt_lexicon.specs.Meaning.{NameTable, kind_of, Known}
@@ -21,8 +21,7 @@ AreWordsOf names (w ∷ ws) (t ∷ ts) = IsWordOf names w t × AreWordsOf names 
 abbrev pub IsFault : TokenError → Answer → Answer → Type 0
 IsFault OutOfMemory old new = Unit {0}
 IsFault TooLong old new = ⊥
-IsFault (NotAscii n) old new = (old ≡ Err (NotAscii n)) × (new ≡ Err (NotAscii n))
-IsFault (BadByte n) old new = (old ≡ Err (BadByte n)) × (new ≡ Err (BadByte n))
+IsFault error old new = (old ≡ Err error) × (new ≡ Err error)
 
 -- a step of a cursor, by what is ahead of it and its offset before and after: the word of the next token, the end, or
 -- the fault

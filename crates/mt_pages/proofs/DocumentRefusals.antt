@@ -10,6 +10,7 @@ use Rattle.mt_token.specs.declared.lexeme.State.{State}
 use Rattle.mt_token.specs.declared.lexeme.State.TheVariants.{New}
 use Rattle.mt_token.specs.Lexemes as lexemes
 use Rattle.mt_token.specs.Lexemes.{Lexeme, lexeme}
+use Rattle.mt_token.specs.declared.token.ByteCause.TheVariants as causes
 use Rattle.mt_token.specs.Tokens.{Answer, Spanned, before, at_lexeme, lex, max_source, source_tokens}
 use Rattle.mt_macro.specs.declared.definition.MacroError.{MacroError}
 use Rattle.mt_macro.specs.Braces.{Taken, first_unmatched}
@@ -106,8 +107,8 @@ lexeme_fits : (found : Lexeme) (at : ℕ) (rest : State → ℕ → Answer) → 
 unfolding fits
 lexeme_fits (lexemes.Passed count state) at rest h = h state (count - 1)
 lexeme_fits (lexemes.Made kind count state) at rest h = before_fits (record { kind = kind; start = at; end = at + count } ∷ []) _ (h state (count - 1))
-lexeme_fits (lexemes.NotAscii on) at rest h = refl
-lexeme_fits (lexemes.BadByte on) at rest h = refl
+lexeme_fits (lexemes.AtFault causes.NotAscii on) at rest h = refl
+lexeme_fits (lexemes.AtFault causes.BadByte on) at rest h = refl
 
 lex_fits : (state : State) (at skip : ℕ) (bytes : List ℕ) → fits (lex state at skip bytes) ≡ true
 unfolding fits

@@ -2,12 +2,12 @@
 use Rattle.std.specs.Prelude.{◌≡◌, ℕ, ◌<◌, ◌≤◌, [], ◌∷◌, Option, Some, None, Result, Ok, Err}
 use Rattle.mt_token.specs.declared.token.Token.{Token}
 use Rattle.mt_token.specs.declared.token.TokenError.{TokenError}
-use Rattle.mt_token.specs.declared.token.TokenError.TheVariants.{NotAscii as FaultNotAscii, BadByte as FaultBadByte, TooLong, OutOfMemory}
+use Rattle.mt_token.specs.Errors.{IsByteError}
 use Rattle.mt_token.specs.LentKinds.{owned_kind}
 use Rattle.mt_token.specs.declared.lent.LentToken.{LentToken}
 use Rattle.mt_token.specs.declared.lexeme.LentLexeme.{LentLexeme}
-use Rattle.mt_token.specs.declared.lexeme.LentLexeme.TheVariants.{Passed as LentPassed, Made as LentMade, NotAscii as LentNotAscii, BadByte as LentBadByte}
-use Rattle.mt_token.specs.Lexemes.{Lexeme, Passed, Made, NotAscii, BadByte}
+use Rattle.mt_token.specs.declared.lexeme.LentLexeme.TheVariants.{Passed as LentPassed, Made as LentMade, AtFault as LentAtFault}
+use Rattle.mt_token.specs.Lexemes.{Lexeme, Passed, Made, AtFault}
 use Rattle.mt_token.specs.Tokens.{Answer, before, spanned}
 
 -- the token of this kind and this span, with a name of its own
@@ -18,8 +18,7 @@ owned_token t = record { kind = owned_kind t.kind; start = t.start; end = t.end;
 abbrev pub owned_lexeme : LentLexeme → Lexeme
 owned_lexeme (LentPassed count state) = Passed count state
 owned_lexeme (LentMade kind count state) = Made (owned_kind kind) count state
-owned_lexeme (LentNotAscii on) = NotAscii on
-owned_lexeme (LentBadByte on) = BadByte on
+owned_lexeme (LentAtFault cause on) = AtFault cause on
 
 -- a step of a cursor, by what is ahead of it before and after: the next token, the end, or the fault, which is ahead
 -- then too
@@ -34,10 +33,7 @@ Spans (Ok (Some t)) from to = (from ≤ t.start) × (t.start < t.end) × (t.end 
 Spans (Ok None) from to = from ≤ to
 Spans (Err e) from to = Unit {0}
 
--- a fault is one of a byte: the source is not too long, and memory does not run out
+-- a fault is one of a byte
 abbrev pub IsOfByte : Result (Option LentToken) TokenError → Type 0
 IsOfByte (Ok found) = Unit {0}
-IsOfByte (Err (FaultNotAscii n)) = Unit {0}
-IsOfByte (Err (FaultBadByte n)) = Unit {0}
-IsOfByte (Err TooLong) = ⊥
-IsOfByte (Err OutOfMemory) = ⊥
+IsOfByte (Err error) = IsByteError error

@@ -106,8 +106,7 @@ impl<'a> Lexer<'a> {
                         end: self.at as u32,
                     }));
                 }
-                LentLexeme::NotAscii(on) => return Err(TokenError::NotAscii((self.at + on) as u32)),
-                LentLexeme::BadByte(on) => return Err(TokenError::BadByte((self.at + on) as u32)),
+                LentLexeme::AtFault(cause, on) => return Err(cause.at((self.at + on) as u32)),
             }
         }
         Ok(None)

@@ -5,6 +5,7 @@ ghost use Rattle.mt_token.specs.Lexemes.{lexeme, lexeme_after_escape, Fits};
 ghost use Rattle.mt_token.specs.Lent.{owned_lexeme};
 
 use crate::lent::LentKind;
+use crate::token::ByteCause;
 
 /// The state in which a line is read (The TeXbook, chapter 8).
 #[derive(Clone, Copy, Debug, PartialEq, Eq)]
@@ -25,10 +26,8 @@ pub enum LentLexeme<'a> {
     Passed(usize, State),
     /// A token, its number of bytes, and the state after it.
     Made(LentKind<'a>, usize, State),
-    /// A byte above 127, so many bytes on.
-    NotAscii(usize),
-    /// Another byte that is not allowed there, so many bytes on.
-    BadByte(usize),
+    /// A byte that is not allowed there, so many bytes on.
+    AtFault(ByteCause, usize),
 }
 
 fn is_letter(b: u8) -> bool
@@ -95,17 +94,17 @@ fn lexeme_after_escape<'a>(after: &'a [u8]) -> LentLexeme<'a>
         return LentLexeme::Made(LentKind::Control(&after[..count]), count + 1, State::Skip);
     }
     if line_end(after) > 0 {
-        return LentLexeme::BadByte(0);
+        return LentLexeme::AtFault(ByteCause::BadByte, 0);
     }
     match after {
-        [] | [b'\t' | b' ', ..] => LentLexeme::BadByte(0),
+        [] | [b'\t' | b' ', ..] => LentLexeme::AtFault(ByteCause::BadByte, 0),
         [b, ..] if is_visible(*b) => LentLexeme::Made(
             LentKind::Control(&after[..1]),
             2,
             State::Middle,
         ),
-        [b, ..] if *b > 127 => LentLexeme::NotAscii(1),
-        _ => LentLexeme::BadByte(1),
+        [b, ..] if *b > 127 => LentLexeme::AtFault(ByteCause::NotAscii, 1),
+        _ => LentLexeme::AtFault(ByteCause::BadByte, 1),
     }
 }
 
@@ -131,10 +130,10 @@ pub fn next_lexeme<'a>(state: State, rest: &'a [u8]) -> LentLexeme<'a>
         },
         [b'%', after @ ..] => LentLexeme::Passed(1 + comment(after), State::New),
         [b'\\', after @ ..] => lexeme_after_escape(after),
-        [b'^', b'^', ..] => LentLexeme::BadByte(1),
-        [b'~', ..] => LentLexeme::BadByte(0),
+        [b'^', b'^', ..] => LentLexeme::AtFault(ByteCause::BadByte, 1),
+        [b'~', ..] => LentLexeme::AtFault(ByteCause::BadByte, 0),
         [b, ..] if is_visible(*b) => LentLexeme::Made(LentKind::Char(*b), 1, State::Middle),
-        [b, ..] if *b > 127 => LentLexeme::NotAscii(0),
-        _ => LentLexeme::BadByte(0),
+        [b, ..] if *b > 127 => LentLexeme::AtFault(ByteCause::NotAscii, 0),
+        _ => LentLexeme::AtFault(ByteCause::BadByte, 0),
     }
 }

@@ -24,4 +24,4 @@ pub use lent::{LentKind, LentToken};
 pub use lexer::{MAX_SOURCE, first_fault, tokens};
 pub use lexicon::Lexicon;
 pub use own_tokens::OwnTokens;
-pub use token::{Token, TokenError, TokenKind, TokenList, byte_cause_text};
+pub use token::{ByteCause, Token, TokenError, TokenKind, TokenList, byte_cause_text};

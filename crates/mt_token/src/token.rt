@@ -54,6 +54,31 @@ pub enum TokenError {
     OutOfMemory,
 }
 
+/// Why a byte of a source is refused.
+#[derive(Clone, Copy, Debug, PartialEq, Eq)]
+pub enum ByteCause {
+    /// It is above 127, outside a comment.
+    NotAscii,
+    /// It is not allowed there.
+    BadByte,
+}
+
+impl ByteCause {
+    ghost use Rattle.std.specs.Prelude.{◌≡◌};
+    ghost use Rattle.mt_token.specs.Errors.{IsByteError, byte_error};
+
+    /// The error of this cause at the byte of an offset.
+    pub fn at(self, offset: u32) -> TokenError
+        ensures is { result ≡ byte_error self offset }
+        ensures byte { IsByteError result }
+    {
+        match self {
+            ByteCause::NotAscii => TokenError::NotAscii(offset),
+            ByteCause::BadByte => TokenError::BadByte(offset),
+        }
+    }
+}
+
 impl From<AllocError> for TokenError {
     ghost from_gives = { λ _ e. e ≡ OutOfMemory };
 
