@@ -16,8 +16,6 @@ mod sink;
 mod steady_cabinet;
 mod steady_sink;
 mod stream_sink;
-#[cfg(test)]
-mod tests;
 
 pub use cabinet::{Cabinet, FetchError};
 pub use file_cabinet::{FileCabinet, STANDARD_INPUT, is_rereadable};

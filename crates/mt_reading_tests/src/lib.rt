@@ -13,8 +13,6 @@ mod plain;
 #[cfg(test)]
 mod reader;
 #[cfg(test)]
-mod roots;
-#[cfg(test)]
 mod samples;
 #[cfg(test)]
 mod scaled;

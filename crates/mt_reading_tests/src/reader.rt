@@ -2,7 +2,6 @@
 use crate::units::UNITS;
 use mt_reader::{DocError, OutsideCause, read_document};
 use mt_rules::{Body, Document};
-use mt_token::TokenError;
 use std::alloc::Global;
 use std::process::Abort;
 use std::test::Fail;
@@ -60,48 +59,5 @@ fn finds_faults_outside(rt: HostRuntime) -> Result<(), Fail> {
         let wanted = DocError::Outside { n: 1, place, cause };
         assert!(rt; fault(alloc, source) == Some(wanted));
     }
-    Ok(())
-}
-
-#[test]
-fn finds_faults_of_tokens_first(rt: HostRuntime) -> Result<(), Fail> {
-    let alloc = rt.alloc();
-    let faults: [(&[u8], TokenError); 4] = [
-        (b"} \x80", TokenError::NotAscii(2)),
-        (b"$\\unknown$ \\", TokenError::BadByte(11)),
-        (b"$a$\\bye \\", TokenError::BadByte(8)),
-        (b"$a$\\eject\\mathcode`a=1\\", TokenError::BadByte(22)),
-    ];
-    for (source, cause) in faults {
-        assert!(rt; fault(alloc, source) == Some(DocError::Source(cause)));
-    }
-    Ok(())
-}
-
-// A definition of more words than are read at a time, and formulas across each end of such words.
-#[test]
-fn reads_on(rt: HostRuntime) -> Result<(), Fail> {
-    let alloc = rt.alloc();
-    let mut source = Vec::new(alloc);
-    source.extend_from_slice(b"\\def\\x{")?;
-    for _ in 0..1200 {
-        source.push(b'a')?;
-    }
-    source.extend_from_slice(b"}$\\x$")?;
-    for _ in 0..700 {
-        source.extend_from_slice(b"$ab$ ")?;
-    }
-    source.extend_from_slice(b"\\eject$$c$$ }")?;
-    let wanted = DocError::Outside {
-        n: 703,
-        place: 4714,
-        cause: OutsideCause::Misplaced,
-    };
-    assert!(rt; fault(alloc, source.as_slice()) == Some(wanted));
-    source.pop();
-    let pages = document(&rt, alloc, source.as_slice());
-    assert!(rt; first_items(&pages) == Some(1200));
-    assert!(rt; pages.get(0).is_some_and(|page| page.len() == 701));
-    assert!(rt; pages.get(1).is_some_and(|page| page.len() == 1));
     Ok(())
 }

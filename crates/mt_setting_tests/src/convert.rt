@@ -7,7 +7,7 @@ ghost use Rattle.mt_rules.specs.View.{sequence_of};
 
 use crate::pieces::glyph;
 use mt_box::{Packed, Row, hpack, places, row_extents, shrink_of};
-use mt_convert::{Half, SetFault, first_pass, second_pass, set_list};
+use mt_convert::{Half, first_pass, second_pass, set_list};
 use mt_family::FontSet;
 use mt_rules::{Atom, Class, Field, Item, Kind, Limits, MathList, Style, Symbol};
 use mt_samples::toy_fonts;
@@ -15,8 +15,8 @@ use std::alloc::{AllocError, Global};
 use std::process::Abort;
 use std::test::Fail;
 
-/// So many atoms of this class, each of this symbol.
-pub fn push_atoms(
+// So many atoms of this class, each of this symbol.
+fn push_atoms(
     alloc: Global,
     items: &mut Vec<Item>,
     class: Class,
@@ -66,21 +66,6 @@ fn sum(alloc: Global) -> Result<MathList, AllocError>
         Class::Ord,
         Symbol { fam: 1, code: 98 },
         1,
-    )?;
-    Ok(MathList::from_vec(items))
-}
-
-fn letters(alloc: Global, count: usize) -> Result<MathList, AllocError>
-    requires { count ≤ 2 ^ 18 }
-    ensures { IfOk result IsModestList }
-{
-    let mut items = Vec::new(alloc);
-    push_atoms(
-        alloc,
-        &mut items,
-        Class::Ord,
-        Symbol { fam: 1, code: 97 },
-        count,
     )?;
     Ok(MathList::from_vec(items))
 }
@@ -167,17 +152,5 @@ fn sets_limits_in_display_style(rt: HostRuntime) -> Result<(), Fail> {
         glyph(4, 105, 294912, 1785856),
     ];
     assert_eq!(rt; found.as_slice(), wanted.as_slice());
-    Ok(())
-}
-
-#[test]
-fn refuses_a_row_of_the_most_letters(rt: HostRuntime) -> Result<(), Fail> {
-    let alloc = rt.alloc();
-    let fonts = toy_fonts(alloc)?;
-    let list = letters(alloc, 262144)?;
-    let refused = set_list(alloc, &fonts, list, Style::T).is_err_and(|fault| {
-        fault == SetFault::Overflow(85899345920)
-    });
-    assert!(rt; refused);
     Ok(())
 }

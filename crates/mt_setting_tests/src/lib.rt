@@ -29,8 +29,6 @@ mod fonts;
 #[cfg(test)]
 mod library;
 #[cfg(test)]
-mod middles;
-#[cfg(test)]
 mod pages;
 #[cfg(test)]
 mod parts;
@@ -44,5 +42,3 @@ mod rules;
 mod scripts;
 #[cfg(test)]
 mod spacing;
-#[cfg(test)]
-mod tables;

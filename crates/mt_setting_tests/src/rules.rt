@@ -7,7 +7,7 @@ use mt_box::PackError;
 use mt_family::Size;
 use mt_rules::{
     Atom, Body, Choice, Class, Document, Field, Formula, Fraction, Glue, Item, Kind, Limits,
-    MathList, Page, PartError, RowList, Style, Symbol, Tag,
+    MathList, Page, PartError, RowList, Style, Symbol, TableRow, TableRows, Tag,
 };
 use std::alloc::{AllocError, Global};
 
@@ -112,6 +112,21 @@ fn rows_hold_lists(rt: HostRuntime) {
     assert!(rt; rows.len() == 1 && !rows.is_empty() && rows.get(1).is_none());
     let fraction = rows.get(0).and_then(|row| row.get(0));
     assert!(rt; matches!(fraction, Some(Item::Fraction(_))));
+    assert!(rt; rows.as_slice().len() == 1 && rows.into_vec().len() == 1);
+}
+
+// A row of one empty cell.
+fn table_rows(alloc: Global) -> Result<TableRows, AllocError> {
+    let cell = MathList::from_vec(Vec::new(alloc));
+    let row = TableRow::from_vec(vec![in alloc; cell]?);
+    Ok(TableRows::from_vec(vec![in alloc; row]?))
+}
+
+#[test]
+fn rows_of_a_table_hold_cells(rt: HostRuntime) {
+    let rows = table_rows(rt.alloc()).expect(&rt, "memory");
+    assert!(rt; rows.len() == 1 && !rows.is_empty() && rows.get(1).is_none());
+    assert!(rt; rows.get(0).is_some_and(|row| row.len() == 1));
     assert!(rt; rows.as_slice().len() == 1 && rows.into_vec().len() == 1);
 }
 

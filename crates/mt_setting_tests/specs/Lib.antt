@@ -1,2 +1,0 @@
--- items between boundaries
-pub mod Between
