@@ -26,5 +26,3 @@ mod tfm;
 mod token;
 #[cfg(test)]
 mod units;
-#[cfg(test)]
-mod words;
