@@ -3,7 +3,6 @@ use mt_scaled::Name;
 use mt_token::{Token, TokenKind, TokenList, tokens};
 use std::alloc::Global;
 use std::process::Abort;
-use std::test::Fail;
 
 fn is_same(one: &Token, other: &Token) -> bool {
     match (&one.kind, &other.kind) {
@@ -21,32 +20,32 @@ fn are_same(one: &TokenList, other: &TokenList) -> bool {
 }
 
 // Macros with these names, numbers of parameters and bodies.
-fn macros_with(
-    rt: &impl Abort,
-    alloc: Global,
-    list: &[(&[u8], u8, &[u8])],
-) -> Result<Macros, Fail> {
+fn macros_with(rt: &impl Abort, alloc: Global, list: &[(&[u8], u8, &[u8])]) -> Macros {
     let mut macros = Macros::empty(alloc);
     for (word, params, text) in list {
-        let body = tokens(alloc, text)?;
+        let name = Name::from_slice(alloc, word).expect(rt, "memory");
+        let body = tokens(alloc, text).expect(rt, "tokens");
         assert!(rt; body.len() < 100);
-        macros.define(&Name::from_slice(alloc, word)?, *params, body.as_slice())?;
+        macros
+            .define(&name, *params, body.as_slice())
+            .expect(rt, "a definition");
     }
-    Ok(macros)
+    macros
 }
 
 // What a text expands to.
 fn expand_text(
+    rt: &impl Abort,
     alloc: Global,
     macros: &Macros,
     text: &[u8],
-) -> Result<Result<TokenList, ExpandError>, Fail> {
-    let list = tokens(alloc, text)?;
-    Ok(expand(alloc, macros, list.as_slice()))
+) -> Result<TokenList, ExpandError> {
+    let list = tokens(alloc, text).expect(rt, "tokens");
+    expand(alloc, macros, list.as_slice())
 }
 
 // \x drops its argument, and \y stands for itself.
-fn four_macros(rt: &impl Abort, alloc: Global) -> Result<Macros, Fail> {
+fn four_macros(rt: &impl Abort, alloc: Global) -> Macros {
     macros_with(
         rt,
         alloc,
@@ -60,9 +59,9 @@ fn four_macros(rt: &impl Abort, alloc: Global) -> Result<Macros, Fail> {
 }
 
 #[test]
-fn expands_leftmost_macro_first(rt: HostRuntime) -> Result<(), Fail> {
+fn expands_leftmost_macro_first(rt: HostRuntime) {
     let alloc = rt.alloc();
-    let macros = four_macros(&rt, alloc)?;
+    let macros = four_macros(&rt, alloc);
     let cases: [(&[u8], &[u8]); 5] = [
         // The argument is dropped before it is expanded.
         (b"\\x\\y", b""),
@@ -73,16 +72,16 @@ fn expands_leftmost_macro_first(rt: HostRuntime) -> Result<(), Fail> {
         (b"\\undefined{\\z}", b"\\undefined{bc}"),
     ];
     for (text, want) in &cases {
-        let list = expand_text(alloc, &macros, text)??;
-        assert!(rt; are_same(&list, &tokens(alloc, want)?));
+        let list = expand_text(&rt, alloc, &macros, text).expect(&rt, "an expansion");
+        let wanted = tokens(alloc, want).expect(&rt, "tokens");
+        assert!(rt; are_same(&list, &wanted));
     }
-    Ok(())
 }
 
 #[test]
-fn finds_first_fault(rt: HostRuntime) -> Result<(), Fail> {
+fn finds_first_fault(rt: HostRuntime) {
     let alloc = rt.alloc();
-    let macros = four_macros(&rt, alloc)?;
+    let macros = four_macros(&rt, alloc);
     let faults: [(&[u8], ExpandError); 6] = [
         (b"a\\x", ExpandError::MissingArgument(1)),
         // The index is that in the list of the step: \z has become two tokens.
@@ -99,15 +98,14 @@ fn finds_first_fault(rt: HostRuntime) -> Result<(), Fail> {
         ),
     ];
     for (text, want) in &faults {
-        assert_eq!(rt; expand_text(alloc, &macros, text)?.err(), Some(*want));
+        assert!(rt; expand_text(&rt, alloc, &macros, text).is_err_and(|error| error == *want));
     }
-    Ok(())
 }
 
 #[test]
-fn tells_what_expands_to_itself(rt: HostRuntime) -> Result<(), Fail> {
+fn tells_what_expands_to_itself(rt: HostRuntime) {
     let alloc = rt.alloc();
-    let macros = four_macros(&rt, alloc)?;
+    let macros = four_macros(&rt, alloc);
     let cases: [(&[u8], bool); 5] = [
         (b"", true),
         (b"\\undefined{a}", true),
@@ -116,17 +114,16 @@ fn tells_what_expands_to_itself(rt: HostRuntime) -> Result<(), Fail> {
         (b"{a", false),
     ];
     for (text, want) in &cases {
-        let list = tokens(alloc, text)?;
-        assert_eq!(rt; expands_to_itself(&macros, list.as_slice()), *want);
+        let list = tokens(alloc, text).expect(&rt, "tokens");
+        assert!(rt; expands_to_itself(&macros, list.as_slice()) == *want);
     }
-    Ok(())
 }
 
 #[test]
-fn refuses_definitions(rt: HostRuntime) -> Result<(), Fail> {
+fn refuses_definitions(rt: HostRuntime) {
     let alloc = rt.alloc();
     let mut macros = Macros::empty(alloc);
-    let x = Name::from_slice(alloc, b"x")?;
+    let x = Name::from_slice(alloc, b"x").expect(&rt, "memory");
     let cases: [(u8, &[u8], Result<(), MacroError>); 8] = [
         (1, b"#2", Err(MacroError::BadParameters)),
         (1, b"#1#", Err(MacroError::BadParameters)),
@@ -138,40 +135,33 @@ fn refuses_definitions(rt: HostRuntime) -> Result<(), Fail> {
         (0, b"b", Ok(())),
     ];
     for (params, text, want) in &cases {
-        let body = tokens(alloc, text)?;
+        let body = tokens(alloc, text).expect(&rt, "tokens");
         assert!(rt; body.len() < 100);
-        assert_eq!(rt; macros.define(&x, *params, body.as_slice()), *want);
-        let preloaded = macros.preload(&x, *params, body.as_slice());
-        assert_eq!(rt; preloaded, *want);
+        assert!(rt; macros.define(&x, *params, body.as_slice()) == *want);
     }
     // The last definition counts.
-    let list = expand_text(alloc, &macros, b"\\x")??;
-    assert!(rt; are_same(&list, &tokens(alloc, b"b")?));
-    let body = tokens(alloc, b"a#1#3")?;
-    assert_eq!(rt; first_bad_parameter(2, body.as_slice()), Some(3));
-    // A colon follows the digit 9 in ASCII.
-    let body = tokens(alloc, b"#9#:")?;
-    assert_eq!(rt; first_bad_parameter(10, body.as_slice()), Some(2));
-    Ok(())
+    let list = expand_text(&rt, alloc, &macros, b"\\x").expect(&rt, "an expansion");
+    assert!(rt; list.len() == 1);
+}
+
+// A preloaded name may be defined, and a defined one be preloaded.
+#[test]
+fn preloads_names(rt: HostRuntime) {
+    let alloc = rt.alloc();
+    let mut macros = Macros::empty(alloc);
+    let x = Name::from_slice(alloc, b"x").expect(&rt, "memory");
+    macros.preload(&x, 0, &[]).expect(&rt, "memory");
+    macros.define(&x, 1, &[]).expect(&rt, "memory");
+    macros.preload(&x, 2, &[]).expect(&rt, "memory");
+    assert!(rt; macros.preload(&x, 10, &[]) == Err(MacroError::BadParameters));
 }
 
 #[test]
-fn counts_own_names(rt: HostRuntime) -> Result<(), Fail> {
-    let alloc = rt.alloc();
-    let mut macros = Macros::empty(alloc);
-    // A preloaded name is not the user's own until it is defined.
-    macros.preload(&Name::from_slice(alloc, b"p")?, 0, &[])?;
-    for i in 0..1000_u16 {
-        let [high, low] = i.to_be_bytes();
-        macros.define(&Name::from_slice(alloc, &[high, low])?, 0, &[])?;
+fn finds_the_first_bad_parameter(rt: HostRuntime) {
+    // A colon follows the digit 9 in ASCII.
+    let cases: [(u8, &[u8], Option<usize>); 2] = [(2, b"a#1#3", Some(3)), (10, b"#9#:", Some(2))];
+    for (params, text, want) in cases {
+        let body = tokens(rt.alloc(), text).expect(&rt, "tokens");
+        assert!(rt; first_bad_parameter(params, body.as_slice()) == want);
     }
-    let p = Name::from_slice(alloc, b"p")?;
-    assert_eq!(rt; macros.define(&p, 0, &[]), Err(MacroError::TooMany));
-    macros.preload(&p, 1, &[])?;
-    macros.preload(&Name::from_slice(alloc, b"q")?, 0, &[])?;
-    // A name of the user's own stays so when it is preloaded, and may be defined again.
-    let first = Name::from_slice(alloc, &[0, 0])?;
-    macros.preload(&first, 2, &[])?;
-    macros.define(&first, 3, &[])?;
-    Ok(())
 }

@@ -1,13 +1,14 @@
+//! Cabinets and sinks in memory, and streams.
+ghost use Rattle.std.specs.Prelude.{◌<◌, ◌^◌};
+
 use mt_outside::{
-    Cabinet, CallList, FetchError, FileCabinet, FileList, Held, MemoryCabinet, MemorySink,
-    PutError, STANDARD_INPUT, Sink, SteadyCabinet, SteadySink, StreamSink, is_rereadable,
-    write_all,
+    Cabinet, CallList, FetchError, FileList, Held, MemoryCabinet, MemorySink, PutError, Sink,
+    SteadyCabinet, SteadySink, StreamSink, write_all,
 };
 use mt_scaled::{Bytes, Name};
 use std::alloc::{AllocError, Global};
-use std::fs;
 use std::io::{self, Write};
-use std::test::Fail;
+use std::process::Abort;
 
 /// A stream that takes at most two bytes at a call, until it has no more room. Then it takes none,
 /// or breaks.
@@ -44,92 +45,66 @@ fn files(alloc: Global) -> Result<FileList, AllocError> {
     Ok(FileList::from_vec(files))
 }
 
-fn calls(alloc: Global, numbers: &[u64]) -> Result<CallList, AllocError> {
-    Ok(CallList::from_vec(numbers.to_vec(alloc)?))
+// The calls that fail.
+fn calls(rt: &impl Abort, alloc: Global, numbers: &[u64]) -> CallList {
+    CallList::from_vec(numbers.to_vec(alloc).expect(rt, "memory"))
+}
+
+// Whether a cabinet gives these bytes for a name.
+fn gives<C: Cabinet>(
+    alloc: Global,
+    cabinet: &mut C,
+    name: &str,
+    limit: u64,
+    bytes: &[u8],
+) -> Result<bool, FetchError>
+    requires { limit < 2 ^ 40 }
+{
+    match cabinet.fetch(alloc, name, limit) {
+        Ok(found) => Ok(found.as_slice() == bytes),
+        Err(error) => Err(error),
+    }
 }
 
 #[test]
-fn a_memory_cabinet_gives_fails_and_goes_on(rt: HostRuntime) -> Result<(), Fail> {
+fn a_memory_cabinet_gives_fails_and_goes_on(rt: HostRuntime) {
     let alloc = rt.alloc();
-    let mut cabinet = MemoryCabinet::new(files(alloc)?, calls(alloc, &[2])?);
-    assert_eq!(rt;
-        cabinet.fetch(alloc, "a", 5)?.as_slice(),
-        b"first".as_slice()
-    );
-    assert!(rt; matches!(&cabinet.fetch(alloc, "a", 5), Err(FetchError::Failed)));
-    assert!(rt; matches!(&cabinet.fetch(alloc, "a", 4), Err(FetchError::TooLong)));
-    assert!(rt; matches!(&cabinet.fetch(alloc, "c", 5), Err(FetchError::Failed)));
-    assert_eq!(rt;
-        cabinet.fetch(alloc, "b", 9)?.as_slice(),
-        b"other".as_slice()
-    );
-    Ok(())
+    let files = files(alloc).expect(&rt, "memory");
+    let mut cabinet = MemoryCabinet::new(files, calls(&rt, alloc, &[2]));
+    assert!(rt; gives(alloc, &mut cabinet, "a", 5, b"first") == Ok(true));
+    assert!(rt; gives(alloc, &mut cabinet, "a", 5, b"first") == Err(FetchError::Failed));
+    assert!(rt; gives(alloc, &mut cabinet, "a", 4, b"firs") == Err(FetchError::TooLong));
+    assert!(rt; gives(alloc, &mut cabinet, "c", 5, b"") == Err(FetchError::Failed));
+    assert!(rt; gives(alloc, &mut cabinet, "b", 9, b"other") == Ok(true));
 }
 
 #[test]
-fn a_steady_cabinet_gives_what_it_lacks_as_empty(rt: HostRuntime) -> Result<(), Fail> {
+fn a_steady_cabinet_gives_what_it_lacks_as_empty(rt: HostRuntime) {
     let alloc = rt.alloc();
-    let mut cabinet = SteadyCabinet::new(files(alloc)?);
-    assert_eq!(rt;
-        cabinet.fetch(alloc, "a", 5)?.as_slice(),
-        b"first".as_slice()
-    );
-    assert_eq!(rt; cabinet.fetch(alloc, "c", 0)?.len(), 0);
-    assert!(rt; matches!(&cabinet.fetch(alloc, "b", 4), Err(FetchError::TooLong)));
-    Ok(())
+    let mut cabinet = SteadyCabinet::new(files(alloc).expect(&rt, "memory"));
+    assert!(rt; gives(alloc, &mut cabinet, "a", 5, b"first") == Ok(true));
+    assert!(rt; gives(alloc, &mut cabinet, "c", 0, b"") == Ok(true));
+    assert!(rt; gives(alloc, &mut cabinet, "b", 4, b"othe") == Err(FetchError::TooLong));
 }
 
 #[test]
-fn a_memory_sink_fails_between_two_pieces(rt: HostRuntime) -> Result<(), Fail> {
-    let alloc = rt.alloc();
-    let mut sink = MemorySink::new(alloc, 7, calls(alloc, &[2])?)?;
-    assert_eq!(rt; write_all(&mut sink, b"one"), Ok(()));
-    assert_eq!(rt; write_all(&mut sink, b"two"), Err(0));
-    assert_eq!(rt; sink.bytes(), b"one".as_slice());
-    assert_eq!(rt; sink.put(b"too long"), Err(PutError::Failed));
-    assert_eq!(rt; sink.put(b"four"), Ok(4));
-    assert_eq!(rt; sink.bytes(), b"onefour".as_slice());
-    Ok(())
+fn a_memory_sink_fails_between_two_pieces(rt: HostRuntime) {
+    let calls = calls(&rt, rt.alloc(), &[2]);
+    let mut sink = MemorySink::new(rt.alloc(), 7, calls).expect(&rt, "memory");
+    assert!(rt; write_all(&mut sink, b"one") == Ok(()));
+    assert!(rt; write_all(&mut sink, b"two") == Err(0));
+    assert!(rt; sink.put(b"too long") == Err(PutError::Failed));
+    assert!(rt; sink.put(b"four") == Ok(4));
+    assert!(rt; sink.bytes() == b"onefour".as_slice());
 }
 
 #[test]
-fn a_steady_sink_tells_until_its_room_is_past(rt: HostRuntime) -> Result<(), Fail> {
-    let alloc = rt.alloc();
-    let mut sink = SteadySink::new(alloc, 4)?;
-    assert_eq!(rt; write_all(&mut sink, b"four"), Ok(()));
-    assert_eq!(rt; sink.bytes(), Some(b"four".as_slice()));
-    assert_eq!(rt; sink.put(b"!"), Ok(1));
-    assert_eq!(rt; sink.bytes(), None);
-    assert_eq!(rt; write_all(&mut sink, b"more"), Ok(()));
-    assert_eq!(rt; sink.bytes(), None);
-    Ok(())
-}
-
-#[test]
-fn real_files_are_read_whole_or_refused(rt: HostRuntime) -> Result<(), Fail> {
-    let alloc = rt.alloc();
-    let path = "mt_outside_file";
-    fs::write(&rt, path, "ten bytes!")?;
-    let mut cabinet = FileCabinet::new(&rt, rt.alloc());
-    assert_eq!(rt;
-        cabinet.fetch(alloc, path, 10)?.as_slice(),
-        b"ten bytes!".as_slice()
-    );
-    assert!(rt; matches!(&cabinet.fetch(alloc, path, 9), Err(FetchError::TooLong)));
-    assert!(rt; is_rereadable(&rt, path));
-    assert!(rt; !is_rereadable(&rt, STANDARD_INPUT));
-    fs::remove_file(&rt, path)?;
-    assert!(rt; matches!(&cabinet.fetch(alloc, path, 10), Err(FetchError::Failed)));
-    // A folder can be opened, and cannot be read.
-    assert!(rt; matches!(&cabinet.fetch(alloc, ".", 10), Err(FetchError::Failed)));
-    assert!(rt; !cabinet.into_kept().holds(path));
-    Ok(())
-}
-
-#[test]
-fn a_stream_takes_bytes(rt: HostRuntime) {
-    let mut sink = StreamSink::new(rt.stdout());
-    assert_eq!(rt; write_all(&mut sink, b"written\n"), Ok(()));
+fn a_steady_sink_tells_until_its_room_is_past(rt: HostRuntime) {
+    let mut sink = SteadySink::new(rt.alloc(), 4).expect(&rt, "memory");
+    assert!(rt; write_all(&mut sink, b"four") == Ok(()));
+    assert!(rt; sink.bytes() == Some(b"four".as_slice()));
+    assert!(rt; sink.put(b"!") == Ok(1));
+    assert!(rt; sink.bytes().is_none());
 }
 
 #[test]

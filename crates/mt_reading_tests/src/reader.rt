@@ -1,17 +1,12 @@
 //! Documents, as they are read.
 use crate::units::UNITS;
-use mt_reader::{DocError, OutsideCause, read_document};
+use mt_reader::read_document;
 use mt_rules::{Body, Document};
 use std::alloc::Global;
 use std::process::Abort;
-use std::test::Fail;
 
 fn document(rt: &impl Abort, alloc: Global, source: &[u8]) -> Document {
     read_document(alloc, UNITS, source).expect(rt, "the source is at fault")
-}
-
-fn fault(alloc: Global, source: &[u8]) -> Option<DocError> {
-    read_document(alloc, UNITS, source).err()
 }
 
 // How many items the first formula of the first page has, which is a list.
@@ -25,7 +20,7 @@ fn first_items(document: &Document) -> Option<usize> {
 }
 
 #[test]
-fn reads_pages(rt: HostRuntime) -> Result<(), Fail> {
+fn reads_pages(rt: HostRuntime) {
     let alloc = rt.alloc();
     assert!(rt; document(&rt, alloc, b"").is_empty());
     let pages = document(&rt, alloc, b"$a$\\eject\\eject $$b$$");
@@ -33,31 +28,11 @@ fn reads_pages(rt: HostRuntime) -> Result<(), Fail> {
     assert!(rt;
         pages.get(1).is_some_and(|page| page.get(0).is_some_and(|f| f.number == 2 && f.display))
     );
-    Ok(())
 }
 
 #[test]
-fn reads_macros(rt: HostRuntime) -> Result<(), Fail> {
+fn reads_macros(rt: HostRuntime) {
     let alloc = rt.alloc();
     let macros = document(&rt, alloc, b"\\def\\x#1{#1#1#1}$\\x{ab}$");
     assert!(rt; first_items(&macros) == Some(6));
-    Ok(())
-}
-
-#[test]
-fn finds_faults_outside(rt: HostRuntime) -> Result<(), Fail> {
-    let alloc = rt.alloc();
-    let faults: [(&[u8], u32, OutsideCause); 6] = [
-        (b"\\def\\x{}\\x", 4, OutsideCause::Misplaced),
-        (b" $${$$", 0, OutsideCause::OpenFormula),
-        (b"\\def\\x#2{}", 3, OutsideCause::BadDefinition),
-        (b"\\def\\x{{}", 2, OutsideCause::OpenBody),
-        (b"\\mathcode`a=32769", 0, OutsideCause::BadAssignment),
-        (b"\\delcode 128=0", 0, OutsideCause::BadAssignment),
-    ];
-    for (source, place, cause) in faults {
-        let wanted = DocError::Outside { n: 1, place, cause };
-        assert!(rt; fault(alloc, source) == Some(wanted));
-    }
-    Ok(())
 }

@@ -1,20 +1,21 @@
-use mt_lexicon::{Names, Word, WordKind, name_number};
-use mt_macro::{Bodies, Expander, MacroError};
+use mt_lexicon::{Names, Word};
+use mt_macro::{Bodies, Expander};
 use mt_plain::Codes;
 use mt_scan::{Role, Roles};
 use mt_tables::Tables;
-use mt_token::{LentKind, Lexer, Lexicon, TokenError};
+use mt_token::{LentKind, Lexer, Lexicon};
 use std::alloc::Global;
-use std::test::Fail;
+use std::process::Abort;
 
 // The words of a source of fewer than 100 words.
-fn words_in(tables: &mut Tables, alloc: Global, source: &[u8]) -> Result<Vec<Word>, Fail> {
+fn words_in(rt: &impl Abort, tables: &mut Tables, alloc: Global, source: &[u8]) -> Vec<Word> {
+    assert!(rt; source.len() < 100);
     let mut list = Vec::new(alloc);
-    if source.len() < 100 {
-        let mut lexer = Lexer::new(source);
-        tables.read_words(&mut lexer, &mut list, 100)?;
-    }
-    Ok(list)
+    let mut lexer = Lexer::new(source);
+    tables
+        .read_words(&mut lexer, &mut list, 100)
+        .expect(rt, "words");
+    list
 }
 
 // Whether a word is read as a name.
@@ -26,77 +27,45 @@ fn is_named(tables: &Tables, word: &Word, name: &[u8]) -> bool {
 }
 
 #[test]
-fn names_have_numbers(rt: HostRuntime) -> Result<(), Fail> {
+fn names_have_numbers(rt: HostRuntime) {
     let mut names = Names::empty(rt.alloc());
-    assert_eq!(rt; names.number(b"alpha")?, 0);
-    assert_eq!(rt; names.number(b"b")?, 1);
-    assert_eq!(rt; names.number(b"alpha")?, 0);
-    assert_eq!(rt; names.len(), 2);
+    let first = names.number(b"alpha").expect(&rt, "memory");
+    let second = names.number(b"b").expect(&rt, "memory");
+    let again = names.number(b"alpha").expect(&rt, "memory");
+    assert!(rt; (first, second, again, names.len()) == (0, 1, 0, 2));
     assert!(rt; names.name(1) == Some(b"b"));
-    assert!(rt; names.name(2).is_none());
-    Ok(())
 }
 
-#[test]
-fn words_are_read_by_names(rt: HostRuntime) -> Result<(), Fail> {
-    let alloc = rt.alloc();
-    let mut tables = Tables::new(alloc, Codes::plain(alloc)?);
-    let words = words_in(&mut tables, alloc, b"\\b x\\a")?;
-    assert_eq!(rt; words.len(), 3);
-    assert!(rt; words[0].kind == WordKind::Name(0, 0));
-    assert!(rt; words[1].kind == WordKind::Char(b'x'));
-    assert!(rt; words[2].kind == WordKind::Name(0, 1));
-    assert_eq!(rt; name_number(1, 2), 65_538);
-    Ok(())
-}
-
-#[test]
-fn words_are_read_in_parts(rt: HostRuntime) -> Result<(), Fail> {
-    let alloc = rt.alloc();
-    let mut tables = Tables::new(alloc, Codes::plain(alloc)?);
-    let mut lexer = Lexer::new(b"a\\b c^d%\n~");
-    let mut words = Vec::new(alloc);
-    tables.read_words(&mut lexer, &mut words, 3)?;
-    assert_eq!(rt; words.len(), 3);
-    assert_eq!(rt; lexer.offset(), 5);
-    assert!(rt; words[1].kind == WordKind::Name(0, 0));
-    tables.read_words(&mut lexer, &mut words, 2)?;
-    assert_eq!(rt; words.len(), 5);
-    assert!(rt; words[3].kind == WordKind::Char(b'^'));
-    assert!(rt; words[4].kind == WordKind::Char(b'd'));
-    let fault = tables.read_words(&mut lexer, &mut words, 1).err();
-    assert_eq!(rt; fault, Some(TokenError::BadByte(9)));
-    assert!(rt; tables.next_word(&mut lexer).is_err());
-    Ok(())
-}
-
-#[test]
-fn macros_over_words(rt: HostRuntime) -> Result<(), Fail> {
-    let alloc = rt.alloc();
-    let mut tables = Tables::new(alloc, Codes::plain(alloc)?);
-    let name = tables.number(b"pair")?;
-    let body = words_in(&mut tables, alloc, b"(#1,\\alpha#2)")?;
+// Tables with the macro \pair of two arguments.
+fn tables_with_pair(rt: &impl Abort, alloc: Global) -> Tables {
+    let codes = Codes::plain(alloc).expect(rt, "memory");
+    let mut tables = Tables::new(alloc, codes);
+    let name = tables.number(b"pair").expect(rt, "memory");
+    let body = words_in(rt, &mut tables, alloc, b"(#1,\\alpha#2)");
     assert!(rt; body.len() < 100);
-    tables.define(name, 2, body.as_slice())?;
-    assert!(rt; tables.define(name, 1, body.as_slice()) == Err(MacroError::BadParameters));
-    let list = words_in(&mut tables, alloc, b"\\pair{ab}c")?;
+    tables
+        .define(name, 2, body.as_slice())
+        .expect(rt, "a definition");
+    tables
+}
+
+// What a source of fewer than 100 words expands to.
+fn expanded(rt: &impl Abort, tables: &mut Tables, alloc: Global, source: &[u8]) -> Vec<Word> {
+    let list = words_in(rt, tables, alloc, source);
     let mut out = Vec::new(alloc);
-    Expander::new(alloc).expand(&tables, list.as_slice(), &mut out)?;
-    assert_eq!(rt; out.len(), 7);
+    Expander::new(alloc)
+        .expand(tables, list.as_slice(), &mut out)
+        .expect(rt, "words");
+    out
+}
+
+#[test]
+fn macros_over_words(rt: HostRuntime) {
+    let alloc = rt.alloc();
+    let mut tables = tables_with_pair(&rt, alloc);
+    let out = expanded(&rt, &mut tables, alloc, b"\\pair{ab}c");
+    assert!(rt; out.len() == 7);
     assert!(rt; is_named(&tables, &out[4], b"alpha"));
     assert!(rt; tables.role_of(&out[4]) == Role::MathCode(0x010B));
     assert!(rt; tables.macro_at(&out[4]).is_none());
-    Ok(())
-}
-
-#[test]
-fn plain_macros_over_words(rt: HostRuntime) -> Result<(), Fail> {
-    let alloc = rt.alloc();
-    let mut tables = Tables::plain(alloc)?;
-    let list = words_in(&mut tables, alloc, b"\\hat x")?;
-    let mut out = Vec::new(alloc);
-    Expander::new(alloc).expand(&tables, list.as_slice(), &mut out)?;
-    assert_eq!(rt; out.len(), 8);
-    assert!(rt; is_named(&tables, &out[0], b"mathaccent"));
-    Ok(())
 }

@@ -1,6 +1,6 @@
-use mt_tfm::{Pair, TfmError, read_tfm, read_tfm_scaled};
-use std::alloc::{AllocError, Global};
-use std::test::Fail;
+use mt_tfm::{Font, Pair, Recipe, TfmError, read_tfm, read_tfm_scaled};
+use std::alloc::Global;
+use std::process::Abort;
 
 // The one character 97, half as wide and half as high as the font's size.
 const FONT: [u8; 60] = [
@@ -11,81 +11,119 @@ const FONT: [u8; 60] = [
 ];
 
 // The font with bytes changed, and words after it.
-fn changed(alloc: Global, changes: &[(usize, u8)], words: &[u8]) -> Result<Vec<u8>, AllocError> {
-    let mut bytes = FONT.to_vec(alloc)?;
+fn changed(rt: &impl Abort, alloc: Global, changes: &[(usize, u8)], words: &[u8]) -> Vec<u8> {
+    let mut bytes = FONT.to_vec(alloc).expect(rt, "memory");
     for (index, value) in changes {
         if let Some(byte) = bytes.get_mut(*index) {
             *byte = *value;
         }
     }
-    bytes.extend_from_slice(words)?;
-    Ok(bytes)
+    bytes.extend_from_slice(words).expect(rt, "memory");
+    bytes
+}
+
+// The font that such a file is at its design size.
+fn font(rt: &impl Abort, alloc: Global, changes: &[(usize, u8)], words: &[u8]) -> Font {
+    let bytes = changed(rt, alloc, changes, words);
+    read_tfm(alloc, &bytes, 655360, None).expect(rt, "a font")
+}
+
+// The fault of such a file.
+fn fault(
+    rt: &impl Abort,
+    alloc: Global,
+    changes: &[(usize, u8)],
+    words: &[u8],
+) -> Option<TfmError> {
+    let bytes = changed(rt, alloc, changes, words);
+    read_tfm(alloc, &bytes, 655360, None).err()
 }
 
 #[test]
-fn reads_a_font_of_one_character(rt: HostRuntime) -> Result<(), Fail> {
-    let font = read_tfm(rt.alloc(), &FONT, 655360, None)?;
+fn reads_a_font_of_one_character(rt: HostRuntime) {
+    let font = font(&rt, rt.alloc(), &[], &[]);
     assert!(rt; font.exists(97) && !font.exists(98));
-    assert_eq!(rt; font.width(97), 327680);
-    assert_eq!(rt; font.height(97), 327680);
-    assert_eq!(rt; font.depth(97), 0);
-    assert_eq!(rt; font.italic(97), 0);
-    assert_eq!(rt; font.larger(97), None);
-    assert_eq!(rt; font.recipe(97), None);
-    assert_eq!(rt; font.pair(97, 97), Pair::None);
-    assert_eq!(rt; font.skew_of(97), 0);
-    assert_eq!(rt; (font.params(), font.param(1)), (0, 0));
-    assert_eq!(rt; font.checksum(), 0);
-    assert_eq!(rt; (font.design(), font.at()), (655360, 655360));
-    Ok(())
+    let extents = (
+        font.width(97),
+        font.height(97),
+        font.depth(97),
+        font.italic(97),
+    );
+    assert!(rt; extents == (327680, 327680, 0, 0));
+    assert!(rt; font.larger(97).is_none() && font.recipe(97).is_none());
+    assert!(rt; font.pair(97, 97) == Pair::None && font.skew_of(97) == 0);
+    assert!(rt; (font.params(), font.param(1), font.checksum()) == (0, 0, 0));
+    assert!(rt; (font.design(), font.at()) == (655360, 655360));
 }
 
 #[test]
-fn finds_what_a_tag_names(rt: HostRuntime) -> Result<(), Fail> {
-    let alloc = rt.alloc();
+fn a_tag_names_a_program(rt: HostRuntime) {
     // The program joins 97 with 97 to 97.
-    let joined = changed(alloc, &[(1, 16), (17, 1), (34, 1)], &[128, 97, 0, 97])?;
-    let font = read_tfm(alloc, &joined, 655360, None)?;
-    assert_eq!(rt; font.pair(97, 97), Pair::Join(97));
-    // The character 98 is larger than 97.
-    let codes = [(1, 16), (7, 98), (34, 2), (35, 98), (36, 1), (37, 16)];
-    let mut changes = codes.to_vec(alloc)?;
-    changes.extend_from_slice(&[(41, 0), (45, 8), (49, 0), (53, 8)])?;
-    let larger = changed(alloc, &changes, &[0; 4])?;
-    let font = read_tfm(alloc, &larger, 655360, None)?;
-    assert_eq!(rt; (font.larger(97), font.larger(98)), (Some(98), None));
-    // The recipe of 97 has no top and no bottom.
-    let extensible = changed(alloc, &[(1, 16), (21, 1), (34, 3)], &[0, 97, 0, 97])?;
-    let font = read_tfm(alloc, &extensible, 655360, None)?;
-    let pieces = font
-        .recipe(97)
-        .map(|recipe| (recipe.top, recipe.middle, recipe.bottom));
-    assert_eq!(rt; pieces, Some((0, 97, 0)));
-    Ok(())
+    let font = font(
+        &rt,
+        rt.alloc(),
+        &[(1, 16), (17, 1), (34, 1)],
+        &[128, 97, 0, 97],
+    );
+    assert!(rt; font.pair(97, 97) == Pair::Join(97));
 }
 
 #[test]
-fn a_boundary_character_need_not_exist(rt: HostRuntime) -> Result<(), Fail> {
+fn a_tag_names_a_larger_character(rt: HostRuntime) {
+    // The character 98 is larger than 97.
+    let changes = [
+        (1, 16),
+        (7, 98),
+        (34, 2),
+        (35, 98),
+        (36, 1),
+        (37, 16),
+        (41, 0),
+        (45, 8),
+        (49, 0),
+        (53, 8),
+    ];
+    let font = font(&rt, rt.alloc(), &changes, &[0; 4]);
+    assert!(rt; (font.larger(97), font.larger(98)) == (Some(98), None));
+}
+
+#[test]
+fn a_tag_names_a_recipe(rt: HostRuntime) {
+    // The recipe of 97 has no top and no bottom.
+    let font = font(
+        &rt,
+        rt.alloc(),
+        &[(1, 16), (21, 1), (34, 3)],
+        &[0, 97, 0, 97],
+    );
+    let recipe = Recipe {
+        top: 0,
+        middle: 97,
+        bottom: 0,
+        repeat: 97,
+    };
+    assert!(rt; font.recipe(97) == Some(recipe));
+}
+
+#[test]
+fn a_boundary_character_need_not_exist(rt: HostRuntime) {
     // The boundary character is 98, and the program joins 97 with it to 97.
     let changes = [(1, 17), (17, 2), (34, 1), (35, 1)];
-    let joined = changed(rt.alloc(), &changes, &[255, 98, 0, 0, 128, 98, 0, 97])?;
-    let font = read_tfm(rt.alloc(), &joined, 655360, None)?;
+    let font = font(&rt, rt.alloc(), &changes, &[255, 98, 0, 0, 128, 98, 0, 97]);
     assert!(rt; !font.exists(98));
-    assert_eq!(rt; font.pair(97, 98), Pair::Join(97));
-    Ok(())
+    assert!(rt; font.pair(97, 98) == Pair::Join(97));
 }
 
 #[test]
-fn a_font_cut_short_is_truncated(rt: HostRuntime) -> Result<(), Fail> {
+fn a_font_cut_short_is_truncated(rt: HostRuntime) {
     for length in 0..60usize {
         let fault = read_tfm(rt.alloc(), &FONT[..length], 655360, None).err();
-        assert_eq!(rt; fault, Some(TfmError::Truncated));
+        assert!(rt; fault == Some(TfmError::Truncated));
     }
-    Ok(())
 }
 
 #[test]
-fn each_check_has_its_fault(rt: HostRuntime) -> Result<(), Fail> {
+fn each_check_has_its_fault(rt: HostRuntime) {
     let faults: [(&[(usize, u8)], &[u8], TfmError); 10] = [
         (&[(3, 1)], &[], TfmError::BadCounts),
         (&[(28, 128)], &[], TfmError::BadHeader),
@@ -109,15 +147,23 @@ fn each_check_has_its_fault(rt: HostRuntime) -> Result<(), Fail> {
         (&[(1, 16), (21, 1)], &[0, 0, 0, 98], TfmError::BadRecipe(0)),
     ];
     for (changes, words, want) in faults {
-        let bytes = changed(rt.alloc(), changes, words)?;
-        let fault = read_tfm(rt.alloc(), &bytes, 655360, None).err();
-        assert_eq!(rt; fault, Some(want));
+        assert!(rt; fault(&rt, rt.alloc(), changes, words) == Some(want));
     }
-    Ok(())
+}
+
+// The font that such a file is at thousandths of its design size.
+fn scaled(
+    rt: &impl Abort,
+    alloc: Global,
+    changes: &[(usize, u8)],
+    factor: u32,
+) -> Result<Font, TfmError> {
+    let bytes = changed(rt, alloc, changes, &[]);
+    read_tfm_scaled(alloc, &bytes, factor, None)
 }
 
 #[test]
-fn a_font_is_scaled(rt: HostRuntime) -> Result<(), Fail> {
+fn a_font_is_scaled(rt: HostRuntime) {
     // Thousandths of 10pt, cut off to scaled points.
     let sizes = [
         (1, 655),
@@ -128,28 +174,23 @@ fn a_font_is_scaled(rt: HostRuntime) -> Result<(), Fail> {
         (32768, 21474836),
     ];
     for (factor, size) in sizes {
-        let font = read_tfm_scaled(rt.alloc(), &FONT, factor, None)?;
-        assert_eq!(rt; (font.at(), font.design()), (size, 655360));
-        assert!(rt; font.exists(97));
-        assert_eq!(rt; font.width(97), size / 2);
+        let font = scaled(&rt, rt.alloc(), &[], factor).expect(&rt, "a font");
+        assert!(rt; (font.at(), font.width(97)) == (size, size / 2));
     }
-    // The greatest size, as a design size of 2^27 - 1 sp.
-    let greatest = changed(
-        rt.alloc(),
-        &[(28, 127), (29, 255), (30, 255), (31, 240)],
-        &[],
-    )?;
-    let font = read_tfm_scaled(rt.alloc(), &greatest, 1000, None)?;
-    assert_eq!(rt; font.at(), 134217727);
-    // The smallest design size.
-    let smallest = changed(rt.alloc(), &[(29, 16)], &[])?;
-    let font = read_tfm_scaled(rt.alloc(), &smallest, 1, None)?;
-    assert_eq!(rt; font.at(), 65);
-    Ok(())
 }
 
 #[test]
-fn a_size_is_tested_after_the_design_size(rt: HostRuntime) -> Result<(), Fail> {
+fn a_font_of_the_greatest_and_of_the_smallest_design_size(rt: HostRuntime) {
+    // The greatest size, as a design size of 2^27 - 1 sp.
+    let greatest = [(28, 127), (29, 255), (30, 255), (31, 240)];
+    let font = scaled(&rt, rt.alloc(), &greatest, 1000);
+    assert!(rt; font.is_ok_and(|font| font.at() == 134217727));
+    let font = scaled(&rt, rt.alloc(), &[(29, 16)], 1);
+    assert!(rt; font.is_ok_and(|font| font.at() == 65));
+}
+
+#[test]
+fn a_size_is_tested_after_the_design_size(rt: HostRuntime) {
     // What is changed, the thousandths, the fault there, and the one at a size of its own.
     let faults: [(&[(usize, u8)], u32, TfmError, Option<TfmError>); 4] = [
         (
@@ -178,13 +219,8 @@ fn a_size_is_tested_after_the_design_size(rt: HostRuntime) -> Result<(), Fail> {
             Some(TfmError::BadIndex(97)),
         ),
     ];
-    for (changes, factor, scaled, plain) in faults {
-        let bytes = changed(rt.alloc(), changes, &[])?;
-        assert_eq!(rt;
-            read_tfm_scaled(rt.alloc(), &bytes, factor, None).err(),
-            Some(scaled)
-        );
-        assert_eq!(rt; read_tfm(rt.alloc(), &bytes, 655360, None).err(), plain);
+    for (changes, factor, at_factor, at_size) in faults {
+        assert!(rt; scaled(&rt, rt.alloc(), changes, factor).err() == Some(at_factor));
+        assert!(rt; fault(&rt, rt.alloc(), changes, &[]) == at_size);
     }
-    Ok(())
 }

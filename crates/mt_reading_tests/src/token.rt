@@ -1,8 +1,6 @@
 use mt_token::{
-    Lexer, Lexicon, MAX_SOURCE, OwnTokens, Token, TokenError, TokenKind, TokenList, name_hash,
-    tokens,
+    Lexer, Lexicon, OwnTokens, Token, TokenError, TokenKind, TokenList, name_hash, tokens,
 };
-use std::test::Fail;
 
 // A token in short: its name or its character, nothing for a space, and its span.
 type Short<'a> = (&'a [u8], u32, u32);
@@ -22,11 +20,10 @@ fn are_tokens(list: &TokenList, want: &[Short]) -> bool {
 }
 
 #[test]
-fn reads_tokens(rt: HostRuntime) -> Result<(), Fail> {
-    let alloc = rt.alloc();
+fn reads_tokens(rt: HostRuntime) {
     // Blanks after a control word are skipped; a line that ends in the middle gives a Space, an
     // empty one \par.
-    let list = tokens(alloc, b" \\alpha  x\\, \t y\r\n\n% all\n$a^b$%z")?;
+    let list = tokens(rt.alloc(), b" \\alpha  x\\, \t y\r\n\n% all\n$a^b$%z").expect(&rt, "tokens");
     let want: [Short; 12] = [
         (b"alpha", 1, 7),
         (b"x", 9, 10),
@@ -42,12 +39,10 @@ fn reads_tokens(rt: HostRuntime) -> Result<(), Fail> {
         (b"$", 29, 30),
     ];
     assert!(rt; are_tokens(&list, &want));
-    Ok(())
 }
 
 #[test]
-fn finds_first_fault(rt: HostRuntime) -> Result<(), Fail> {
-    let alloc = rt.alloc();
+fn finds_first_fault(rt: HostRuntime) {
     let faults: [(&[u8], TokenError); 10] = [
         (b"$a~b$", TokenError::BadByte(2)),
         (b"a^^b~", TokenError::BadByte(2)),
@@ -61,81 +56,63 @@ fn finds_first_fault(rt: HostRuntime) -> Result<(), Fail> {
         (b"\\\x7f", TokenError::BadByte(1)),
     ];
     for (source, fault) in &faults {
-        assert_eq!(rt; tokens(alloc, source).err(), Some(*fault));
+        assert!(rt; tokens(rt.alloc(), source).is_err_and(|error| error == *fault));
     }
+}
+
+#[test]
+fn reads_any_control_symbol(rt: HostRuntime) {
     // A control symbol may be any visible character, and no byte of a comment is a fault.
-    let list = tokens(alloc, b"\\^^\\~%~\xff^^")?;
+    let list = tokens(rt.alloc(), b"\\^^\\~%~\xff^^").expect(&rt, "tokens");
     let want: [Short; 3] = [(b"^", 0, 2), (b"^", 2, 3), (b"~", 3, 5)];
     assert!(rt; are_tokens(&list, &want));
-    Ok(())
 }
 
 #[test]
-fn copies_tokens(rt: HostRuntime) -> Result<(), Fail> {
-    let alloc = rt.alloc();
-    let list = tokens(alloc, b"\\alpha x ")?;
-    let mut copies = Vec::new(alloc);
-    for token in list.as_slice() {
-        copies.push(token.copied(alloc)?)?;
-    }
+fn copies_tokens(rt: HostRuntime) {
+    let list = tokens(rt.alloc(), b"\\alpha x ").expect(&rt, "tokens");
     let want: [Short; 3] = [(b"alpha", 0, 6), (b"x", 7, 8), (b"", 8, 9)];
-    assert!(rt; are_tokens(&TokenList::from_vec(copies), &want));
-    Ok(())
-}
-
-#[test]
-fn bounds_the_source(rt: HostRuntime) -> Result<(), Fail> {
-    let alloc = rt.alloc();
-    let mut source = vec![in alloc; b'%'; MAX_SOURCE]?;
-    assert_eq!(rt; tokens(alloc, &source)?.len(), 0);
-    source.push(b'%')?;
-    assert_eq!(rt; tokens(alloc, &source).err(), Some(TokenError::TooLong));
-    Ok(())
-}
-
-#[test]
-fn repeats_a_fault(rt: HostRuntime) -> Result<(), Fail> {
-    let mut lexer = Lexer::new(b"a %\n~b");
-    assert!(rt; matches!(lexer.step(), Ok(Some(_))));
-    assert!(rt; matches!(lexer.step(), Ok(Some(_))));
-    assert!(rt; matches!(lexer.step(), Err(TokenError::BadByte(4))));
-    assert!(rt; matches!(lexer.step(), Err(TokenError::BadByte(4))));
-    Ok(())
-}
-
-#[test]
-fn reads_plain_characters(rt: HostRuntime) -> Result<(), Fail> {
-    let mut lexer = Lexer::new(b"x^2^^");
-    assert_eq!(rt; lexer.plain_character(), Some(b'x'));
-    assert_eq!(rt; lexer.plain_character(), Some(b'^'));
-    assert_eq!(rt; lexer.plain_character(), Some(b'2'));
-    assert_eq!(rt; lexer.plain_character(), None);
-    assert_eq!(rt; lexer.offset(), 3);
-    Ok(())
-}
-
-#[test]
-fn reads_tokens_as_themselves(rt: HostRuntime) -> Result<(), Fail> {
-    let alloc = rt.alloc();
-    let list = tokens(alloc, b"\\alpha x ")?;
-    let mut codes = Vec::new(alloc);
-    let mut spaces = Vec::new(alloc);
-    for token in list.as_slice() {
-        codes.push(OwnTokens.code(token))?;
-        spaces.push(OwnTokens.is_space(token))?;
+    for (token, short) in list.as_slice().iter().zip(&want) {
+        let copy = token.copied(rt.alloc()).expect(&rt, "memory");
+        assert!(rt; is_token(&copy, short));
     }
-    assert!(rt; codes.as_slice() == [0, b'x', 0].as_slice());
-    assert!(rt; spaces.as_slice() == [false, false, true].as_slice());
-    Ok(())
 }
 
 #[test]
-fn hashes_names(rt: HostRuntime) -> Result<(), Fail> {
+fn repeats_a_fault(rt: HostRuntime) {
+    let mut lexer = Lexer::new(b"a~b");
+    assert!(rt; matches!(lexer.step(), Ok(Some(_))));
+    assert!(rt; matches!(lexer.step(), Err(TokenError::BadByte(1))));
+    assert!(rt; matches!(lexer.step(), Err(TokenError::BadByte(1))));
+}
+
+#[test]
+fn reads_plain_characters(rt: HostRuntime) {
+    let mut lexer = Lexer::new(b"x^2^^");
+    let read = [
+        lexer.plain_character(),
+        lexer.plain_character(),
+        lexer.plain_character(),
+        lexer.plain_character(),
+    ];
+    assert!(rt; read == [Some(b'x'), Some(b'^'), Some(b'2'), None]);
+    assert!(rt; lexer.offset() == 3);
+}
+
+#[test]
+fn reads_tokens_as_themselves(rt: HostRuntime) {
+    let list = tokens(rt.alloc(), b"\\alpha x ").expect(&rt, "tokens");
+    let want = [(0, false), (b'x', false), (0, true)];
+    for (token, wanted) in list.as_slice().iter().zip(want) {
+        assert!(rt; (OwnTokens.code(token), OwnTokens.is_space(token)) == wanted);
+    }
+}
+
+#[test]
+fn hashes_names(rt: HostRuntime) {
     // "in" is 105 and 110.
-    assert_eq!(rt; name_hash(b"in"), 29 * 105 + 3 * 110 + 101 * 110 + 67 * 2);
-    assert_eq!(rt; name_hash(b"a"), 29 * 97 + 101 * 97 + 67);
-    assert_eq!(rt; name_hash(b""), 0);
+    assert!(rt; name_hash(b"in") == 29 * 105 + 3 * 110 + 101 * 110 + 67 * 2);
+    assert!(rt; name_hash(b"a") == 29 * 97 + 101 * 97 + 67);
     // No name counts more than 31 bytes.
-    assert_eq!(rt; name_hash(&[b'a'; 31]), name_hash(&[b'a'; 40]));
-    Ok(())
+    assert!(rt; name_hash(&[b'a'; 31]) == name_hash(&[b'a'; 40]));
 }
