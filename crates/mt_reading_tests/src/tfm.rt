@@ -1,3 +1,6 @@
+ghost use Rattle.std.specs.Prelude.{◌≤◌};
+ghost use Rattle.mt_tfm.specs.Limits.{max_factor};
+
 use mt_tfm::{Font, Pair, Recipe, TfmError, read_tfm, read_tfm_scaled};
 use std::alloc::Global;
 use std::process::Abort;
@@ -157,7 +160,10 @@ fn scaled(
     alloc: Global,
     changes: &[(usize, u8)],
     factor: u32,
-) -> Result<Font, TfmError> {
+) -> Result<Font, TfmError>
+    requires low { 1 ≤ factor }
+    requires high { factor ≤ max_factor }
+{
     let bytes = changed(rt, alloc, changes, &[]);
     read_tfm_scaled(alloc, &bytes, factor, None)
 }
@@ -175,6 +181,7 @@ fn a_font_is_scaled(rt: HostRuntime) {
     ];
     for (factor, size) in sizes {
         let font = scaled(&rt, rt.alloc(), &[], factor).expect(&rt, "a font");
+        assert!(rt; font.exists(97));
         assert!(rt; (font.at(), font.width(97)) == (size, size / 2));
     }
 }

@@ -1,14 +1,13 @@
 //! Tables of letters of the toy fonts, reckoned by hand.
-ghost use Rattle.std.specs.Prelude.{All, IfOk, length, ◌≡◌, ◌≤◌, ◌+◌, ◌^◌};
+ghost use Rattle.std.specs.Prelude.{All, length, ◌≡◌, ◌≤◌, ◌+◌, ◌^◌};
 
 use crate::pieces::{LETTER, glyph};
 use mt_align::{CellRow, CellRows, align_equations, align_matrix};
 use mt_box::{Extents, PackError, Packed, glyph_box, hpack_kern, places};
 use mt_family::Size;
 use mt_samples::toy_fonts;
-use std::alloc::{AllocError, Global};
+use std::alloc::Global;
 use std::process::Abort;
-use std::test::Fail;
 
 // A letter of the toy italic at the text size, as a cell.
 fn cell(rt: &impl Abort, alloc: Global, code: u8) -> Packed
@@ -18,37 +17,38 @@ fn cell(rt: &impl Abort, alloc: Global, code: u8) -> Packed
 }
 
 // The letters a and b in a row.
-fn row_of_two(rt: &impl Abort, alloc: Global) -> Result<CellRow, AllocError>
-    ensures few { IfOk result (λ cells. length cells ≤ 2) }
-    ensures levels { IfOk result (All (λ b. b.level + 4 ≤ 2 ^ 20)) }
+fn row_of_two(rt: &impl Abort, alloc: Global) -> CellRow
+    ensures few { length result ≤ 2 }
+    ensures levels { All (λ b. b.level + 4 ≤ 2 ^ 20) result }
 {
-    Ok(CellRow::from_vec(vec![in alloc; cell(rt, alloc, 97), cell(rt, alloc, 98)]?))
+    let cells = vec![in alloc; cell(rt, alloc, 97), cell(rt, alloc, 98)].expect(rt, "memory");
+    CellRow::from_vec(cells)
 }
 
 // The letter c in a row.
-fn row_of_one(rt: &impl Abort, alloc: Global) -> Result<CellRow, AllocError>
-    ensures few { IfOk result (λ cells. length cells ≤ 2) }
-    ensures levels { IfOk result (All (λ b. b.level + 4 ≤ 2 ^ 20)) }
+fn row_of_one(rt: &impl Abort, alloc: Global) -> CellRow
+    ensures few { length result ≤ 2 }
+    ensures levels { All (λ b. b.level + 4 ≤ 2 ^ 20) result }
 {
-    Ok(CellRow::from_vec(vec![in alloc; cell(rt, alloc, 99)]?))
+    CellRow::from_vec(vec![in alloc; cell(rt, alloc, 99)].expect(rt, "memory"))
 }
 
 // The letters a and b, and c below a.
-fn two_rows(rt: &impl Abort, alloc: Global) -> Result<CellRows, AllocError>
-    ensures few_rows { IfOk result (λ rows. length rows ≤ 2) }
-    ensures few_cells { IfOk result (All (λ cells. length cells ≤ 2)) }
-    ensures levels { IfOk result (All (λ cells. All (λ b. b.level + 4 ≤ 2 ^ 20) cells)) }
+fn two_rows(rt: &impl Abort, alloc: Global) -> CellRows
+    ensures few_rows { length result ≤ 2 }
+    ensures few_cells { All (λ cells. length cells ≤ 2) result }
+    ensures levels { All (λ cells. All (λ b. b.level + 4 ≤ 2 ^ 20) cells) result }
 {
-    let first = row_of_two(rt, alloc)?;
-    let second = row_of_one(rt, alloc)?;
-    Ok(CellRows::from_vec(vec![in alloc; first, second]?))
+    let first = row_of_two(rt, alloc);
+    let second = row_of_one(rt, alloc);
+    CellRows::from_vec(vec![in alloc; first, second].expect(rt, "memory"))
 }
 
 #[test]
-fn a_matrix_of_three_letters(rt: HostRuntime) -> Result<(), Fail> {
+fn a_matrix_of_three_letters(rt: HostRuntime) {
     let alloc = rt.alloc();
-    let fonts = toy_fonts(alloc)?;
-    let rows = two_rows(&rt, alloc)?;
+    let fonts = toy_fonts(alloc).expect(&rt, "memory");
+    let rows = two_rows(&rt, alloc);
     let body = align_matrix(alloc, &fonts, Size::Text, LETTER, rows).expect(&rt, "a box");
     // columns of 327680 and an em of 655360; 458752 between the rows
     let want = Extents {
@@ -64,14 +64,13 @@ fn a_matrix_of_three_letters(rt: HostRuntime) -> Result<(), Fail> {
         glyph(3, 99, 0, 393216),
     ];
     assert_eq!(rt; page.as_slice(), want.as_slice());
-    Ok(())
 }
 
 #[test]
-fn two_equations(rt: HostRuntime) -> Result<(), Fail> {
+fn two_equations(rt: HostRuntime) {
     let alloc = rt.alloc();
-    let fonts = toy_fonts(alloc)?;
-    let rows = two_rows(&rt, alloc)?;
+    let fonts = toy_fonts(alloc).expect(&rt, "memory");
+    let rows = two_rows(&rt, alloc);
     let body = align_equations(alloc, &fonts, Size::Text, rows).expect(&rt, "a box");
     // rows of 557056 and 229376, and 196608 between them
     let want = Extents {
@@ -87,25 +86,24 @@ fn two_equations(rt: HostRuntime) -> Result<(), Fail> {
         glyph(3, 99, 0, 491520),
     ];
     assert_eq!(rt; page.as_slice(), want.as_slice());
-    Ok(())
 }
 
 // Two cells, each as wide as a box may be.
-fn wide_row(rt: &impl Abort, alloc: Global) -> Result<CellRow, AllocError>
-    ensures few { IfOk result (λ cells. length cells ≤ 2) }
-    ensures levels { IfOk result (All (λ b. b.level + 4 ≤ 2 ^ 20)) }
+fn wide_row(rt: &impl Abort, alloc: Global) -> CellRow
+    ensures few { length result ≤ 2 }
+    ensures levels { All (λ b. b.level + 4 ≤ 2 ^ 20) result }
 {
     let first = hpack_kern(alloc, 1073741823).expect(rt, "a kern");
     let second = hpack_kern(alloc, 1073741823).expect(rt, "a kern");
-    Ok(CellRow::from_vec(vec![in alloc; first, second]?))
+    CellRow::from_vec(vec![in alloc; first, second].expect(rt, "memory"))
 }
 
 #[test]
-fn columns_that_are_too_wide_together(rt: HostRuntime) -> Result<(), Fail> {
+fn columns_that_are_too_wide_together(rt: HostRuntime) {
     let alloc = rt.alloc();
-    let fonts = toy_fonts(alloc)?;
-    let rows = CellRows::from_vec(vec![in alloc; wide_row(&rt, alloc)?]?);
+    let fonts = toy_fonts(alloc).expect(&rt, "memory");
+    let row = wide_row(&rt, alloc);
+    let rows = CellRows::from_vec(vec![in alloc; row].expect(&rt, "memory"));
     let refused = align_equations(alloc, &fonts, Size::Text, rows);
     assert!(rt; matches!(refused, Err(PackError::Overflow(2147483646))));
-    Ok(())
 }

@@ -1,5 +1,5 @@
 //! Lists in an arena: what is put there comes back, and a choice's list and a joined symbol come before the rest.
-ghost use Rattle.std.specs.Prelude.{IfOk, ◌≡◌, ◌<◌};
+ghost use Rattle.std.specs.Prelude.{◌≡◌, ◌<◌};
 ghost use Rattle.mt_rules.specs.Facts.{IsField, NoBoundary};
 ghost use Rattle.mt_rules.specs.Sequence.{AtomElement, EmptyPart};
 ghost use Rattle.mt_rules.specs.View.{element_of, part_of_field};
@@ -11,7 +11,8 @@ use mt_rules::{
     Atom, Choice, Class, Field, Fraction, Glue, Item, Kind, Limits, Look, MathList, Root, RowList,
     Style, Symbol, Table, TableRows,
 };
-use std::alloc::{AllocError, Global};
+use std::alloc::Global;
+use std::process::Abort;
 
 const GLUE: Glue = Glue {
     width: 3,
@@ -21,8 +22,8 @@ const GLUE: Glue = Glue {
 const X: Symbol = Symbol { fam: 1, code: 120 };
 
 // An atom without scripts.
-fn atom(alloc: Global, kind: Kind, nucleus: Field) -> Result<Item, AllocError>
-    ensures { IfOk result (λ item. element_of item ≡ AtomElement kind Default (part_of_field nucleus) EmptyPart EmptyPart) }
+fn atom(rt: &impl Abort, alloc: Global, kind: Kind, nucleus: Field) -> Item
+    ensures { element_of result ≡ AtomElement kind Default (part_of_field nucleus) EmptyPart EmptyPart }
 {
     let atom = Atom {
         kind,
@@ -31,44 +32,46 @@ fn atom(alloc: Global, kind: Kind, nucleus: Field) -> Result<Item, AllocError>
         sup: Field::Empty,
         sub: Field::Empty,
     };
-    Ok(Item::Atom(Box::new(alloc, atom)?))
+    Item::Atom(Box::new(alloc, atom).expect(rt, "memory"))
 }
 
 // A list of this letter alone.
-fn letter(alloc: Global, code: u8) -> Result<MathList, AllocError>
-    ensures { IfOk result NoBoundary }
+fn letter(rt: &impl Abort, alloc: Global, code: u8) -> MathList
+    ensures { NoBoundary result }
 {
     let nucleus = Field::Sym(Symbol { fam: 1, code });
-    let letter = atom(alloc, Kind::Plain(Class::Ord), nucleus)?;
-    Ok(MathList::from_vec(vec![in alloc; letter]?))
+    let letter = atom(rt, alloc, Kind::Plain(Class::Ord), nucleus);
+    MathList::from_vec(vec![in alloc; letter].expect(rt, "memory"))
 }
 
 // A letter with both scripts.
-fn scripted(alloc: Global) -> Result<MathList, AllocError> {
+fn scripted(rt: &impl Abort, alloc: Global) -> MathList {
     let atom = Atom {
         kind: Kind::Plain(Class::Op),
         limits: Limits::Never,
-        nucleus: Field::List(letter(alloc, 97)?),
+        nucleus: Field::List(letter(rt, alloc, 97)),
         sup: Field::Sym(X),
-        sub: Field::List(letter(alloc, 98)?),
+        sub: Field::List(letter(rt, alloc, 98)),
     };
-    Ok(MathList::from_vec(vec![in alloc; Item::Atom(Box::new(alloc, atom)?)]?))
+    let item = Item::Atom(Box::new(alloc, atom).expect(rt, "memory"));
+    MathList::from_vec(vec![in alloc; item].expect(rt, "memory"))
 }
 
 // A letter over nothing, as a fraction.
-fn fraction(alloc: Global) -> Result<MathList, AllocError> {
+fn fraction(rt: &impl Abort, alloc: Global) -> MathList {
     let fraction = Fraction {
         thickness: Some(3),
         left: NO_DELIMITER,
         right: NO_DELIMITER,
-        num: letter(alloc, 97)?,
+        num: letter(rt, alloc, 97),
         den: MathList::from_vec(Vec::new(alloc)),
     };
-    Ok(MathList::from_vec(vec![in alloc; Item::Fraction(Box::new(alloc, fraction)?)]?))
+    let item = Item::Fraction(Box::new(alloc, fraction).expect(rt, "memory"));
+    MathList::from_vec(vec![in alloc; item].expect(rt, "memory"))
 }
 
 // The items without lists in them, between boundaries.
-fn enclosed(alloc: Global) -> Result<MathList, AllocError> {
+fn enclosed(rt: &impl Abort, alloc: Global) -> MathList {
     let items = vec![in alloc;
         Item::Left(NO_DELIMITER),
         Item::Style(Style::S),
@@ -79,68 +82,67 @@ fn enclosed(alloc: Global) -> Result<MathList, AllocError> {
         Item::Kern(-8),
         Item::Nonscript,
         Item::Right(NO_DELIMITER),
-    ]?;
-    Ok(MathList::from_vec(items))
+    ]
+    .expect(rt, "memory");
+    MathList::from_vec(items)
 }
 
 // A choice among four letters, and the letter e.
-fn choice(alloc: Global) -> Result<MathList, AllocError> {
+fn choice(rt: &impl Abort, alloc: Global) -> MathList {
     let choice = Choice {
-        display: letter(alloc, 97)?,
-        text: letter(alloc, 98)?,
-        script: letter(alloc, 99)?,
-        small: letter(alloc, 100)?,
+        display: letter(rt, alloc, 97),
+        text: letter(rt, alloc, 98),
+        script: letter(rt, alloc, 99),
+        small: letter(rt, alloc, 100),
     };
-    let last = atom(
-        alloc,
-        Kind::Plain(Class::Ord),
-        Field::Sym(Symbol { fam: 1, code: 101 }),
-    )?;
-    Ok(MathList::from_vec(vec![in alloc; Item::Choice(Box::new(alloc, choice)?), last]?))
+    let first = Item::Choice(Box::new(alloc, choice).expect(rt, "memory"));
+    let nucleus = Field::Sym(Symbol { fam: 1, code: 101 });
+    let last = atom(rt, alloc, Kind::Plain(Class::Ord), nucleus);
+    MathList::from_vec(vec![in alloc; first, last].expect(rt, "memory"))
 }
 
 // Two letters, the first one of this code.
-fn two_letters(alloc: Global, first: u8) -> Result<RowList, AllocError>
+fn two_letters(rt: &impl Abort, alloc: Global, first: u8) -> RowList
     requires { first < 255 }
 {
-    let lists = vec![in alloc; letter(alloc, first)?, letter(alloc, first + 1)?]?;
-    Ok(RowList::from_vec(lists))
+    let lists = vec![in alloc; letter(rt, alloc, first), letter(rt, alloc, first + 1)];
+    RowList::from_vec(lists.expect(rt, "memory"))
 }
 
-fn equations(alloc: Global) -> Result<Table, AllocError> {
-    let rows = vec![in alloc; two_letters(alloc, 99)?]?;
-    Ok(Table {
+fn equations(rt: &impl Abort, alloc: Global) -> Table {
+    let rows = vec![in alloc; two_letters(rt, alloc, 99)].expect(rt, "memory");
+    Table {
         look: Look::Equations,
         rows: TableRows::from_vec(rows),
-    })
+    }
 }
 
 // A root of a letter, with a letter as its degree.
-fn root(alloc: Global) -> Result<Root, AllocError>
-    ensures { IfOk result (λ root. IsField root.body) }
+fn root(rt: &impl Abort, alloc: Global) -> Root
+    ensures { IsField result.body }
 {
-    Ok(Root {
-        degree: letter(alloc, 101)?,
-        body: Field::List(letter(alloc, 102)?),
-    })
+    Root {
+        degree: letter(rt, alloc, 101),
+        body: Field::List(letter(rt, alloc, 102)),
+    }
 }
 
 // Atoms whose nuclei are rows, a table, a root and a delimiter of a fixed size.
-fn nuclei(alloc: Global) -> Result<MathList, AllocError> {
-    let rows = Field::Rows(two_letters(alloc, 97)?);
-    let table = Field::Table(equations(alloc)?);
-    let root = Field::Root(Box::new(alloc, root(alloc)?)?);
+fn nuclei(rt: &impl Abort, alloc: Global) -> MathList {
+    let rows = Field::Rows(two_letters(rt, alloc, 97));
+    let table = Field::Table(equations(rt, alloc));
+    let root = Field::Root(Box::new(alloc, root(rt, alloc)).expect(rt, "memory"));
     let big = Field::Big {
         delim: NO_DELIMITER,
         level: 2,
     };
     let items = vec![in alloc;
-        atom(alloc, Kind::Vcenter, rows)?,
-        atom(alloc, Kind::Vcenter, table)?,
-        atom(alloc, Kind::Radical(NO_DELIMITER), root)?,
-        atom(alloc, Kind::Plain(Class::Open), big)?,
-    ]?;
-    Ok(MathList::from_vec(items))
+        atom(rt, alloc, Kind::Vcenter, rows),
+        atom(rt, alloc, Kind::Vcenter, table),
+        atom(rt, alloc, Kind::Radical(NO_DELIMITER), root),
+        atom(rt, alloc, Kind::Plain(Class::Open), big),
+    ];
+    MathList::from_vec(items.expect(rt, "memory"))
 }
 
 // The nucleus of the atom at an index.
@@ -163,10 +165,10 @@ fn codes(rows: &RowList) -> Option<(u8, u8)> {
 }
 
 // A list that was put into an arena, and comes back from it.
-fn returned(alloc: Global, list: MathList) -> Result<MathList, AllocError> {
+fn returned(rt: &impl Abort, alloc: Global, list: MathList) -> MathList {
     let mut arena = Arena::new(alloc);
-    let span = put_list(&mut arena, &list)?;
-    list_of(alloc, &arena, span)
+    let span = put_list(&mut arena, &list).expect(rt, "memory");
+    list_of(alloc, &arena, span).expect(rt, "memory")
 }
 
 // The code of the symbol of a list of one atom.
@@ -191,8 +193,8 @@ fn field_code(field: &Field) -> Option<u8> {
 #[test]
 fn items_come_back(rt: HostRuntime) {
     let alloc = rt.alloc();
-    let list = enclosed(alloc).expect(&rt, "memory");
-    let list = returned(alloc, list).expect(&rt, "memory");
+    let list = enclosed(&rt, alloc);
+    let list = returned(&rt, alloc, list);
     assert!(rt;
         matches!(
             list.as_slice(),
@@ -220,8 +222,8 @@ fn items_come_back(rt: HostRuntime) {
 #[test]
 fn scripts_come_back(rt: HostRuntime) {
     let alloc = rt.alloc();
-    let list = scripted(alloc).expect(&rt, "memory");
-    let list = returned(alloc, list).expect(&rt, "memory");
+    let list = scripted(&rt, alloc);
+    let list = returned(&rt, alloc, list);
     assert!(rt;
         match list.get(0) {
             Some(Item::Atom(atom)) => {
@@ -239,8 +241,8 @@ fn scripts_come_back(rt: HostRuntime) {
 #[test]
 fn fractions_and_choices_come_back(rt: HostRuntime) {
     let alloc = rt.alloc();
-    let list = fraction(alloc).expect(&rt, "memory");
-    let list = returned(alloc, list).expect(&rt, "memory");
+    let list = fraction(&rt, alloc);
+    let list = returned(&rt, alloc, list);
     assert!(rt;
         match list.get(0) {
             Some(Item::Fraction(fraction)) => {
@@ -251,8 +253,8 @@ fn fractions_and_choices_come_back(rt: HostRuntime) {
             _ => false,
         }
     );
-    let list = choice(alloc).expect(&rt, "memory");
-    let list = returned(alloc, list).expect(&rt, "memory");
+    let list = choice(&rt, alloc);
+    let list = returned(&rt, alloc, list);
     assert!(rt;
         match list.get(0) {
             Some(Item::Choice(choice)) => {
@@ -269,8 +271,8 @@ fn fractions_and_choices_come_back(rt: HostRuntime) {
 #[test]
 fn nuclei_come_back(rt: HostRuntime) {
     let alloc = rt.alloc();
-    let list = nuclei(alloc).expect(&rt, "memory");
-    let list = returned(alloc, list).expect(&rt, "memory");
+    let list = nuclei(&rt, alloc);
+    let list = returned(&rt, alloc, list);
     assert!(rt; list.len() == 4);
     assert!(rt;
         match nucleus(&list, 0) {
@@ -312,7 +314,7 @@ fn symbol(thing: Option<Thing>) -> Option<Symbol> {
 #[test]
 fn a_list_of_a_choice_comes_before_the_rest(rt: HostRuntime) {
     let alloc = rt.alloc();
-    let list = choice(alloc).expect(&rt, "memory");
+    let list = choice(&rt, alloc);
     let mut arena = Arena::new(alloc);
     let span = put_list(&mut arena, &list).expect(&rt, "memory");
     let mut rest = Rest::of(alloc, span);
@@ -330,7 +332,7 @@ fn a_list_of_a_choice_comes_before_the_rest(rt: HostRuntime) {
 #[test]
 fn a_joined_symbol_comes_before_the_rest(rt: HostRuntime) {
     let alloc = rt.alloc();
-    let list = letter(alloc, 97).expect(&rt, "memory");
+    let list = letter(&rt, alloc, 97);
     let mut arena = Arena::new(alloc);
     let span = put_list(&mut arena, &list).expect(&rt, "memory");
     let mut rest = Rest::of(alloc, span);

@@ -1,11 +1,10 @@
-ghost use Rattle.std.specs.Prelude.{◌≤◌, ◌≤ℤ◌, ◌^◌, length, IfOk, pos};
+ghost use Rattle.std.specs.Prelude.{◌≤ℤ◌, ◌^◌, IfOk, pos};
 ghost use Rattle.mt_scaled.specs.Number.{Within};
 ghost use Rattle.mt_box.specs.Columns.{IsModestEntry};
-ghost use Rattle.mt_box.specs.Rows.{AllModest, IsModest};
 
 use crate::pieces::{LETTER, SMALL, glyph, letter, space};
 use mt_box::{
-    Entry, Extents, Mark, Node, NodeId, PackError, Packed, Piece, Place, PlaceError, Row, clean,
+    Entry, Extents, Mark, Node, NodeId, PackError, Packed, Piece, Place, PlaceError, clean,
     first_out, glyph_box, hpack, hpack_glyph, hpack_kern, hpack_to, places, put_places, recentre,
     row_extents, shrink_of, unmarked, vpack, with_extents,
 };
@@ -188,7 +187,7 @@ fn recentres(rt: HostRuntime) {
 }
 
 #[test]
-fn measures_spaces(rt: HostRuntime) -> Result<(), AllocError> {
+fn measures_spaces(rt: HostRuntime) {
     let space = Piece::Space {
         width: 145632,
         shrink: 145632,
@@ -197,14 +196,15 @@ fn measures_spaces(rt: HostRuntime) -> Result<(), AllocError> {
         width: 5,
         shrink: 2,
     };
-    let row = Items::from_vec(vec![in rt.alloc(); space, Piece::Kern(-7), other]?);
+    let row = Items::from_vec(vec![in rt.alloc(); space, Piece::Kern(-7), other].expect(
+        &rt, "memory",
+    ));
     let want = Extents {
         width: 145630,
         height: 0,
         depth: 0,
     };
     assert!(rt; row_extents(&row) == want && shrink_of(&row) == 145634);
-    Ok(())
 }
 
 // Three letters with two spaces, set to a width that is at most their own.
@@ -290,10 +290,10 @@ fn packs_a_kern(rt: HostRuntime) {
 }
 
 #[test]
-fn puts_places_after_others(rt: HostRuntime) -> Result<(), AllocError> {
+fn puts_places_after_others(rt: HostRuntime) {
     let body = power(rt.alloc()).expect(&rt, "memory");
     let first = glyph(4, 98, 1, 2);
-    let mut page = vec![in rt.alloc(); first]?;
+    let mut page = vec![in rt.alloc(); first].expect(&rt, "memory");
     let refusal = put_places(&mut page, &body, 0, 475136, 3).err();
     assert!(rt; refusal == Some(PlaceError::TooMany));
     assert!(rt; page.as_slice() == [first].as_slice());
@@ -305,43 +305,6 @@ fn puts_places_after_others(rt: HostRuntime) -> Result<(), AllocError> {
         glyph(1, 50, 655360, 229376),
     ];
     assert!(rt; page.as_slice() == want.as_slice());
-    Ok(())
-}
-
-// A row of so many thin glyphs.
-fn glyphs(alloc: Global, count: u32) -> Result<Row, AllocError>
-    requires { count ≤ 2 ^ 21 }
-    ensures few { IfOk result (λ row. length row ≤ 2 ^ 21) }
-    ensures modest { IfOk result AllModest }
-{
-    let mut pieces = Vec::new(alloc);
-    for _turn in 0..count {
-        pieces.push(thin())?;
-    }
-    Ok(Items::from_vec(pieces))
-}
-
-fn thin() -> Piece
-    ensures { IsModest result }
-{
-    Piece::Glyph {
-        font: 3,
-        code: 97,
-        extents: Extents {
-            width: 100,
-            height: 0,
-            depth: 0,
-        },
-    }
-}
-
-#[test]
-fn packs_fifty_thousand_glyphs(rt: HostRuntime) {
-    let row = glyphs(rt.alloc(), 50000).expect(&rt, "memory");
-    let body = hpack(rt.alloc(), row).expect(&rt, "memory");
-    assert!(rt; body.extents().width == 5000000);
-    let page = places(rt.alloc(), &body, 0, 0, 50000).expect(&rt, "memory");
-    assert!(rt; page.get(49999) == Some(&glyph(3, 97, 4999900, 0)));
 }
 
 // The box as the only piece of a row; one of the greatest level stays as it is.

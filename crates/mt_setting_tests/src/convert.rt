@@ -13,7 +13,6 @@ use mt_rules::{Atom, Class, Field, Item, Kind, Limits, MathList, Style, Symbol};
 use mt_samples::toy_fonts;
 use std::alloc::{AllocError, Global};
 use std::process::Abort;
-use std::test::Fail;
 
 // So many atoms of this class, each of this symbol.
 fn push_atoms(
@@ -111,21 +110,23 @@ fn sum_sign_box(rt: &impl Abort, alloc: Global, fonts: &FontSet) -> Result<Packe
 }
 
 #[test]
-fn sets_the_items_of_a_sum(rt: HostRuntime) -> Result<(), Fail> {
+fn sets_the_items_of_a_sum(rt: HostRuntime) {
     let alloc = rt.alloc();
-    let fonts = toy_fonts(alloc)?;
-    let half = first_pass(alloc, &fonts, sum(alloc)?, Style::T).expect(&rt, "the items");
+    let fonts = toy_fonts(alloc).expect(&rt, "memory");
+    let half = first_pass(alloc, &fonts, sum(alloc).expect(&rt, "memory"), Style::T).expect(
+        &rt,
+        "the items",
+    );
     assert_eq!(rt; half.items.len(), 3);
     assert_eq!(rt; (half.height, half.depth), (327680, 0));
     assert!(rt; half.items.get(1).is_some_and(|plus| is_binary(plus)));
-    Ok(())
 }
 
 #[test]
-fn sets_a_sum_in_two_passes(rt: HostRuntime) -> Result<(), Fail> {
+fn sets_a_sum_in_two_passes(rt: HostRuntime) {
     let alloc = rt.alloc();
-    let fonts = toy_fonts(alloc)?;
-    let row = sum_row(&rt, alloc, &fonts)?;
+    let fonts = toy_fonts(alloc).expect(&rt, "memory");
+    let row = sum_row(&rt, alloc, &fonts).expect(&rt, "memory");
     assert_eq!(rt; row.len(), 5);
     assert_eq!(rt; row_extents(&row).width, 1274304);
     assert_eq!(rt; shrink_of(&row), 291264);
@@ -137,14 +138,13 @@ fn sets_a_sum_in_two_passes(rt: HostRuntime) -> Result<(), Fail> {
         glyph(3, 98, 946624, 327680),
     ];
     assert_eq!(rt; found.as_slice(), wanted.as_slice());
-    Ok(())
 }
 
 #[test]
-fn sets_limits_in_display_style(rt: HostRuntime) -> Result<(), Fail> {
+fn sets_limits_in_display_style(rt: HostRuntime) {
     let alloc = rt.alloc();
-    let fonts = toy_fonts(alloc)?;
-    let body = sum_sign_box(&rt, alloc, &fonts)?;
+    let fonts = toy_fonts(alloc).expect(&rt, "memory");
+    let body = sum_sign_box(&rt, alloc, &fonts).expect(&rt, "memory");
     let found = places(alloc, &body, 0, body.extents().height, 3).expect(&rt, "its places");
     let wanted = [
         glyph(4, 110, 294912, 311296),
@@ -152,5 +152,4 @@ fn sets_limits_in_display_style(rt: HostRuntime) -> Result<(), Fail> {
         glyph(4, 105, 294912, 1785856),
     ];
     assert_eq!(rt; found.as_slice(), wanted.as_slice());
-    Ok(())
 }

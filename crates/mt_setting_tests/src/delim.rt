@@ -5,7 +5,6 @@ use mt_delim::{Variant, choose_variant, delimiter_box};
 use mt_family::Size;
 use mt_rules::{Delim, PartError, Symbol};
 use mt_samples::toy_fonts;
-use std::test::Fail;
 
 const SLASH: Delim = Delim {
     small: Symbol { fam: 0, code: 47 },
@@ -18,8 +17,8 @@ const BRACE: Delim = Delim {
 };
 
 #[test]
-fn characters_by_the_wanted_size(rt: HostRuntime) -> Result<(), Fail> {
-    let fonts = toy_fonts(rt.alloc())?;
+fn characters_by_the_wanted_size(rt: HostRuntime) {
+    let fonts = toy_fonts(rt.alloc()).expect(&rt, "memory");
     // no slash is so tall
     assert_eq!(rt;
         choose_variant(&fonts, SLASH, Size::Text, 737919),
@@ -40,7 +39,6 @@ fn characters_by_the_wanted_size(rt: HostRuntime) -> Result<(), Fail> {
             }
         );
     }
-    Ok(())
 }
 
 // What is in the column of a brace with so many repeats in a row.
@@ -61,9 +59,9 @@ fn brace_marks(repeats: u64) -> [Mark; 5] {
 }
 
 #[test]
-fn repeats_are_one_node(rt: HostRuntime) -> Result<(), Fail> {
+fn repeats_are_one_node(rt: HostRuntime) {
     let alloc = rt.alloc();
-    let fonts = toy_fonts(alloc)?;
+    let fonts = toy_fonts(alloc).expect(&rt, "memory");
     for (wanted, repeats) in [(737919, 1), (328417280, 2000)] {
         let brace = delimiter_box(alloc, &fonts, BRACE, Size::Text, wanted).expect(&rt, "a brace");
         let marks = brace_marks(repeats);
@@ -72,13 +70,12 @@ fn repeats_are_one_node(rt: HostRuntime) -> Result<(), Fail> {
             assert_eq!(rt; &node.mark, mark);
         }
     }
-    Ok(())
 }
 
 #[test]
-fn boxes_by_the_wanted_size(rt: HostRuntime) -> Result<(), Fail> {
+fn boxes_by_the_wanted_size(rt: HostRuntime) {
     let alloc = rt.alloc();
-    let fonts = toy_fonts(alloc)?;
+    let fonts = toy_fonts(alloc).expect(&rt, "memory");
     let brace = delimiter_box(alloc, &fonts, BRACE, Size::Text, 737919).expect(&rt, "a brace");
     let height = brace.body.extents().height;
     let page = places(alloc, &brace.body, 0, height, 5).expect(&rt, "five places");
@@ -107,5 +104,4 @@ fn boxes_by_the_wanted_size(rt: HostRuntime) -> Result<(), Fail> {
             Err(PartError::TooTall(2001))
         )
     );
-    Ok(())
 }

@@ -85,7 +85,7 @@ fn numbered_page(rt: &impl Abort, alloc: Global, line: i64) -> Result<PlaceList,
     requires some { pos 1 ≤ℤ line }
     requires in_range { line ≤ℤ pos max_dimen }
 {
-    let fonts = four_fonts(rt, alloc)?;
+    let fonts = four_fonts(rt, alloc);
     let row = spaced_letters(alloc)?;
     let number = Numbered {
         row: letters(alloc)?,
@@ -96,9 +96,9 @@ fn numbered_page(rt: &impl Abort, alloc: Global, line: i64) -> Result<PlaceList,
 }
 
 #[test]
-fn places_a_display(rt: HostRuntime) -> Result<(), AllocError> {
+fn places_a_display(rt: HostRuntime) {
     // all spaces shrink whole, and the number is beside the display
-    let page = numbered_page(&rt, rt.alloc(), 2621440)?;
+    let page = numbered_page(&rt, rt.alloc(), 2621440).expect(&rt, "memory");
     let want = [
         glyph(3, 97, 327680, 327680),
         glyph(3, 43, 655360, 327680),
@@ -109,7 +109,7 @@ fn places_a_display(rt: HostRuntime) -> Result<(), AllocError> {
     ];
     assert!(rt; page.as_slice() == want.as_slice());
     // 1sp less, and the number is below it
-    let page = numbered_page(&rt, rt.alloc(), 2621439)?;
+    let page = numbered_page(&rt, rt.alloc(), 2621439).expect(&rt, "memory");
     let want = [
         glyph(3, 97, 673568, 327680),
         glyph(3, 43, 1146880, 327680),
@@ -119,7 +119,6 @@ fn places_a_display(rt: HostRuntime) -> Result<(), AllocError> {
         glyph(3, 41, 2293759, 1114112),
     ];
     assert!(rt; page.as_slice() == want.as_slice());
-    Ok(())
 }
 
 fn line(alloc: Global, shift: i64, code: u8, extents: Extents) -> Result<Line, PackError>

@@ -11,7 +11,6 @@ use mt_family::FontSet;
 use mt_scaled::in_range;
 use std::alloc::{AllocError, Global};
 use std::process::Abort;
-use std::test::Fail;
 
 const NO_PAGE: [u8; 56] = [
     247, 2, 1, 131, 146, 192, 28, 59, 0, 0, 0, 0, 3, 232, 0, 248, 255, 255, 255, 255, 1, 131, 146,
@@ -167,36 +166,36 @@ fn gives(
 }
 
 #[test]
-fn writes_pages(rt: HostRuntime) -> Result<(), Fail> {
+fn writes_pages(rt: HostRuntime) {
     let alloc = rt.alloc();
-    let fonts = four_fonts(&rt, alloc)?;
+    let fonts = four_fonts(&rt, alloc);
     let none = PageList::from_vec(Vec::new(alloc));
-    assert!(rt; gives(&rt, alloc, &fonts, &none, &NO_PAGE)?);
-    let three = three_pages(alloc)?;
-    assert!(rt; gives(&rt, alloc, &fonts, &three, &THREE_PAGES)?);
-    let eight = eight_places(alloc)?;
-    assert!(rt; gives(&rt, alloc, &fonts, &eight, &REGISTERS)?);
-    Ok(())
+    assert!(rt; gives(&rt, alloc, &fonts, &none, &NO_PAGE).expect(&rt, "memory"));
+    let three = three_pages(alloc).expect(&rt, "memory");
+    assert!(rt; gives(&rt, alloc, &fonts, &three, &THREE_PAGES).expect(&rt, "memory"));
+    let eight = eight_places(alloc).expect(&rt, "memory");
+    assert!(rt; gives(&rt, alloc, &fonts, &eight, &REGISTERS).expect(&rt, "memory"));
 }
 
 #[test]
-fn refuses_too_many_pages(rt: HostRuntime) -> Result<(), Fail> {
+fn refuses_too_many_pages(rt: HostRuntime) {
     let alloc = rt.alloc();
-    let fonts = four_fonts(&rt, alloc)?;
+    let fonts = four_fonts(&rt, alloc);
     let mut pages = Vec::new(alloc);
     for _ in 0..65536 {
-        pages.push(PlaceList::from_vec(Vec::new(alloc)))?;
+        pages
+            .push(PlaceList::from_vec(Vec::new(alloc)))
+            .expect(&rt, "memory");
     }
     let pages = PageList::from_vec(pages);
     assert_eq!(rt;
         written(&rt, alloc, &fonts, &pages).err(),
         Some(DviWriteError::TooManyPages(65536))
     );
-    Ok(())
 }
 
 #[test]
-fn chooses_the_form_of_a_move(rt: HostRuntime) -> Result<(), Fail> {
+fn chooses_the_form_of_a_move(rt: HostRuntime) {
     assert_eq!(rt; move_code(0, 5, 6), MoveForm::None);
     assert_eq!(rt; move_code(0, 0, 6), MoveForm::None);
     assert_eq!(rt; move_code(5, 5, 6), MoveForm::First);
@@ -210,5 +209,4 @@ fn chooses_the_form_of_a_move(rt: HostRuntime) -> Result<(), Fail> {
     assert_eq!(rt; move_code(-8388608, 5, 6), MoveForm::Bytes(3));
     assert_eq!(rt; move_code(8388608, 5, 6), MoveForm::Bytes(4));
     assert_eq!(rt; move_code(-2147483647, 5, 6), MoveForm::Bytes(4));
-    Ok(())
 }

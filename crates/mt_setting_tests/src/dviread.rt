@@ -5,7 +5,6 @@ use mt_box::{PageList, Place};
 use mt_dviread::{DviError, read_dvi};
 use mt_family::FontSet;
 use std::alloc::{AllocError, Global};
-use std::test::Fail;
 
 // A page of one glyph.
 const ONE_GLYPH: [u8; 148] = [
@@ -181,9 +180,9 @@ fn repeated(
 }
 
 #[test]
-fn reads_one_glyph_and_refuses_its_parts(rt: HostRuntime) -> Result<(), Fail> {
+fn reads_one_glyph_and_refuses_its_parts(rt: HostRuntime) {
     let alloc = rt.alloc();
-    let fonts = four_fonts(&rt, alloc)?;
+    let fonts = four_fonts(&rt, alloc);
     let pages = read_dvi(alloc, &fonts, &ONE_GLYPH).expect(&rt, "a file");
     assert!(rt; pages.len() == 1 && has_page(&pages, 0, &[glyph(3, 97, 0, 327680)]));
     let mut start = 0;
@@ -195,54 +194,50 @@ fn reads_one_glyph_and_refuses_its_parts(rt: HostRuntime) -> Result<(), Fail> {
         assert_eq!(rt; cut, Some(DviError::Truncated(start)));
     }
     assert_eq!(rt; fault(alloc, &fonts, &ONE_GLYPH[..147]), None);
-    Ok(())
 }
 
 #[test]
-fn reads_moves_and_a_file_of_tex(rt: HostRuntime) -> Result<(), Fail> {
+fn reads_moves_and_a_file_of_tex(rt: HostRuntime) {
     let alloc = rt.alloc();
-    let fonts = four_fonts(&rt, alloc)?;
+    let fonts = four_fonts(&rt, alloc);
     let pages = read_dvi(alloc, &fonts, &MOVES).expect(&rt, "a file");
     assert!(rt; pages.len() == 1 && has_page(&pages, 0, &moved()));
     let pages = read_dvi(alloc, &fonts, &BY_TEX).expect(&rt, "a file");
     assert!(rt; pages.len() == 3 && has_page(&pages, 0, &first_by_tex()));
     assert!(rt; has_page(&pages, 1, &[]) && has_page(&pages, 2, &last_by_tex()));
-    Ok(())
 }
 
 #[test]
-fn refuses_changed_bytes(rt: HostRuntime) -> Result<(), Fail> {
+fn refuses_changed_bytes(rt: HostRuntime) {
     let alloc = rt.alloc();
-    let fonts = four_fonts(&rt, alloc)?;
+    let fonts = four_fonts(&rt, alloc);
     for change in &CHANGES_OF_ONE_GLYPH {
-        assert!(rt; refuses(alloc, &fonts, &ONE_GLYPH, *change)?);
+        assert!(rt; refuses(alloc, &fonts, &ONE_GLYPH, *change).expect(&rt, "memory"));
     }
     for change in &CHANGES_OF_MOVES {
-        assert!(rt; refuses(alloc, &fonts, &MOVES, *change)?);
+        assert!(rt; refuses(alloc, &fonts, &MOVES, *change).expect(&rt, "memory"));
     }
-    Ok(())
 }
 
 #[test]
-fn keeps_its_limits(rt: HostRuntime) -> Result<(), Fail> {
+fn keeps_its_limits(rt: HostRuntime) {
     let alloc = rt.alloc();
-    let fonts = four_fonts(&rt, alloc)?;
-    let down = repeated(alloc, 60, &[160, 127, 255, 255, 255], 1, &[157, 1])?;
+    let fonts = four_fonts(&rt, alloc);
+    let down = repeated(alloc, 60, &[160, 127, 255, 255, 255], 1, &[157, 1]).expect(&rt, "memory");
     assert_eq!(rt; fault(alloc, &fonts, &down), Some(DviError::OutOfRange(65)));
-    let pushes = repeated(alloc, 60, &[141], 1000, &[])?;
+    let pushes = repeated(alloc, 60, &[141], 1000, &[]).expect(&rt, "memory");
     assert_eq!(rt;
         fault(alloc, &fonts, &pushes),
         Some(DviError::Truncated(1060))
     );
-    let pushes = repeated(alloc, 60, &[141], 1001, &[])?;
+    let pushes = repeated(alloc, 60, &[141], 1001, &[]).expect(&rt, "memory");
     assert_eq!(rt;
         fault(alloc, &fonts, &pushes),
         Some(DviError::TooDeep(1060))
     );
-    let pushes = repeated(alloc, 60, &[141], 1000, &[142, 141, 141])?;
+    let pushes = repeated(alloc, 60, &[141], 1000, &[142, 141, 141]).expect(&rt, "memory");
     assert_eq!(rt;
         fault(alloc, &fonts, &pushes),
         Some(DviError::TooDeep(1062))
     );
-    Ok(())
 }

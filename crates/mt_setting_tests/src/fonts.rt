@@ -53,20 +53,15 @@ pub fn load(
 }
 
 /// The set of a list, each of its fonts from one file.
-pub fn fonts_of(
-    rt: &impl Abort,
-    alloc: Global,
-    list: &[u8],
-    file: &[u8],
-) -> Result<FontSet, AllocError>
+pub fn fonts_of(rt: &impl Abort, alloc: Global, list: &[u8], file: &[u8]) -> FontSet
     requires { length list.now ≤ 65536 }
 {
     let list = read_font_list(alloc, list).expect(rt, "a font list");
-    let fonts = load(rt, alloc, list.lines.as_slice(), file, file)?;
-    Ok(FontSet::build(alloc, list, fonts).expect(rt, "a set of fonts"))
+    let fonts = load(rt, alloc, list.lines.as_slice(), file, file).expect(rt, "memory");
+    FontSet::build(alloc, list, fonts).expect(rt, "a set of fonts")
 }
 
 /// A set of four fonts with the letter a, of which font 3 is toym at 10pt.
-pub fn four_fonts(rt: &impl Abort, alloc: Global) -> Result<FontSet, AllocError> {
+pub fn four_fonts(rt: &impl Abort, alloc: Global) -> FontSet {
     fonts_of(rt, alloc, LIST, &FONT)
 }

@@ -13,7 +13,6 @@ use mt_status::Notes;
 use mt_tfm::read_tfm;
 use std::alloc::{AllocError, Global};
 use std::process::Abort;
-use std::test::Fail;
 
 // x with the superscript 2. A list that is set has to be modest: the contract says that this one is.
 fn square(alloc: Global) -> Result<MathList, AllocError>
@@ -53,33 +52,31 @@ fn square_box(rt: &impl Abort, alloc: Global, fonts: &FontSet) -> Result<Packed,
 }
 
 #[test]
-fn sets_a_list(rt: HostRuntime) -> Result<(), Fail> {
+fn sets_a_list(rt: HostRuntime) {
     let alloc = rt.alloc();
-    let fonts = toy_fonts(alloc)?;
-    let body = square_box(&rt, alloc, &fonts)?;
+    let fonts = toy_fonts(alloc).expect(&rt, "memory");
+    let body = square_box(&rt, alloc, &fonts).expect(&rt, "memory");
     let found = places(alloc, &body, 0, body.extents().height, 100).expect(&rt, "its places");
     assert_eq!(rt; found.as_slice(), SQUARE.as_slice());
-    Ok(())
 }
 
 #[test]
-fn reads_a_tfm_file(rt: HostRuntime) -> Result<(), Fail> {
+fn reads_a_tfm_file(rt: HostRuntime) {
     let alloc = rt.alloc();
-    let file = toy_tfm(alloc, Toy::Italic)?;
+    let file = toy_tfm(alloc, Toy::Italic).expect(&rt, "memory");
     // At 10pt, with the character whose kerns place accents.
-    let font = read_tfm(alloc, file.as_slice(), 655360, Some(127))?;
+    let font = read_tfm(alloc, file.as_slice(), 655360, Some(127)).expect(&rt, "memory");
     assert!(rt; font.exists(b'x'));
     assert_eq!(rt;
         (font.width(b'x'), font.height(b'x'), font.depth(b'x')),
         (327680, 327680, 0)
     );
-    Ok(())
 }
 
 #[test]
-fn reads_a_dvi_file(rt: HostRuntime) -> Result<(), Fail> {
+fn reads_a_dvi_file(rt: HostRuntime) {
     let alloc = rt.alloc();
-    let fonts = toy_fonts(alloc)?;
+    let fonts = toy_fonts(alloc).expect(&rt, "memory");
     // The file of a source of one formula, on lines of 6.5in.
     let mut notes = Notes::none();
     let file = source_file(alloc, &fonts, 30785863, b"$x^2$", &mut notes).expect(&rt, "a file");
@@ -89,5 +86,4 @@ fn reads_a_dvi_file(rt: HostRuntime) -> Result<(), Fail> {
             .get(0)
             .is_some_and(|page| page.as_slice() == SQUARE.as_slice())
     );
-    Ok(())
 }

@@ -14,7 +14,6 @@ use mt_rules::{Delim, PackedList, Style, Symbol};
 use mt_samples::toy_fonts;
 use std::alloc::{AllocError, Global};
 use std::process::Abort;
-use std::test::Fail;
 
 const SIGN: Delim = Delim {
     small: Symbol { fam: 2, code: 112 },
@@ -29,29 +28,27 @@ fn letter(rt: &impl Abort, alloc: Global) -> Packed
 }
 
 #[test]
-fn a_rule_over_a_letter(rt: HostRuntime) -> Result<(), Fail> {
+fn a_rule_over_a_letter(rt: HostRuntime) {
     let alloc = rt.alloc();
-    let fonts = toy_fonts(alloc)?;
+    let fonts = toy_fonts(alloc).expect(&rt, "memory");
     let body = overline_box(alloc, &fonts, Size::Text, letter(&rt, alloc)).expect(&rt, "a box");
     let page = places(alloc, &body, 0, body.extents().height, 2).expect(&rt, "two places");
     assert_eq!(rt;
         page.as_slice(),
         [rule(0, 81920, 40960, 327680), glyph(3, 97, 0, 532480)].as_slice()
     );
-    Ok(())
 }
 
 #[test]
-fn a_rule_under_a_letter(rt: HostRuntime) -> Result<(), Fail> {
+fn a_rule_under_a_letter(rt: HostRuntime) {
     let alloc = rt.alloc();
-    let fonts = toy_fonts(alloc)?;
+    let fonts = toy_fonts(alloc).expect(&rt, "memory");
     let body = underline_box(alloc, &fonts, Size::Text, letter(&rt, alloc)).expect(&rt, "a box");
     let page = places(alloc, &body, 0, body.extents().height, 2).expect(&rt, "two places");
     assert_eq!(rt;
         page.as_slice(),
         [glyph(3, 97, 0, 327680), rule(0, 491520, 40960, 327680)].as_slice()
     );
-    Ok(())
 }
 
 // Whether a symbol is found at a size.
@@ -85,7 +82,7 @@ fn accented(code: u8, h: i64, v: i64) -> [Place; 2] {
 }
 
 #[test]
-fn an_accent_over_a_letter(rt: HostRuntime) -> Result<(), Fail> {
+fn an_accent_over_a_letter(rt: HostRuntime) {
     let alloc = rt.alloc();
     // as wide as the next larger accent, and 40960 higher than the font's x-height
     let wide = Extents {
@@ -94,7 +91,7 @@ fn an_accent_over_a_letter(rt: HostRuntime) -> Result<(), Fail> {
         depth: 0,
     };
     let letter_m = glyph_box(alloc, 3, 97, wide).expect(&rt, "a letter");
-    let body = wide_accent(&rt, alloc, letter_m)?;
+    let body = wide_accent(&rt, alloc, letter_m).expect(&rt, "memory");
     assert!(rt;
         body.extents()
             == Extents {
@@ -105,10 +102,9 @@ fn an_accent_over_a_letter(rt: HostRuntime) -> Result<(), Fail> {
     let page = places(alloc, &body, 0, 0, 2).expect(&rt, "two places");
     assert_eq!(rt; page.as_slice(), accented(99, 7, -40960).as_slice());
     // an accent that is wider than its letter
-    let body = wide_accent(&rt, alloc, letter(&rt, alloc))?;
+    let body = wide_accent(&rt, alloc, letter(&rt, alloc)).expect(&rt, "memory");
     let page = places(alloc, &body, 0, 0, 2).expect(&rt, "two places");
     assert_eq!(rt; page.as_slice(), accented(98, -20473, 0).as_slice());
-    Ok(())
 }
 
 // The letter a, and a letter b that is higher.
@@ -126,10 +122,10 @@ fn two_rows(rt: &impl Abort, alloc: Global) -> Result<PackedList, AllocError>
 }
 
 #[test]
-fn two_rows_about_the_axis(rt: HostRuntime) -> Result<(), Fail> {
+fn two_rows_about_the_axis(rt: HostRuntime) {
     let alloc = rt.alloc();
-    let fonts = toy_fonts(alloc)?;
-    let rows = two_rows(&rt, alloc)?;
+    let fonts = toy_fonts(alloc).expect(&rt, "memory");
+    let rows = two_rows(&rt, alloc).expect(&rt, "memory");
     let body = vcenter_box(alloc, &fonts, Size::Text, rows).expect(&rt, "a box");
     // 386432 between the rows, 1114119 in all, and the axis at 163840
     let want = Extents {
@@ -141,7 +137,6 @@ fn two_rows_about_the_axis(rt: HostRuntime) -> Result<(), Fail> {
     let page = places(alloc, &body, 0, 0, 2).expect(&rt, "two places");
     let want = [glyph(3, 97, 0, -393220), glyph(3, 98, 0, 393212)];
     assert_eq!(rt; page.as_slice(), want.as_slice());
-    Ok(())
 }
 
 // What a box of no width reaches.
@@ -158,8 +153,8 @@ fn reach(height: i64, depth: i64) -> Extents
 }
 
 #[test]
-fn shifts_of_fractions(rt: HostRuntime) -> Result<(), Fail> {
-    let fonts = toy_fonts(rt.alloc())?;
+fn shifts_of_fractions(rt: HostRuntime) {
+    let fonts = toy_fonts(rt.alloc()).expect(&rt, "memory");
     // the gap lacks 81921 of seven rules; half of an odd lack is rounded up
     let shifts = fraction_shifts(&fonts, Style::D, 0, reach(0, 368640), reach(327681, 0));
     let want = Shifts {
@@ -174,13 +169,12 @@ fn shifts_of_fractions(rt: HostRuntime) -> Result<(), Fail> {
         down: 450560,
     };
     assert!(rt; shifts == want);
-    Ok(())
 }
 
 #[test]
-fn a_root_of_negative_depth(rt: HostRuntime) -> Result<(), Fail> {
+fn a_root_of_negative_depth(rt: HostRuntime) {
     let alloc = rt.alloc();
-    let fonts = toy_fonts(alloc)?;
+    let fonts = toy_fonts(alloc).expect(&rt, "memory");
     let extents = Extents {
         width: 327680,
         height: 204800,
@@ -195,7 +189,6 @@ fn a_root_of_negative_depth(rt: HostRuntime) -> Result<(), Fail> {
         glyph(6, 0, 327680, 578560),
     ];
     assert_eq!(rt; page.as_slice(), want.as_slice());
-    Ok(())
 }
 
 // A letter of the toy italic at the script size, as a box.
@@ -208,9 +201,9 @@ fn small_letter(rt: &impl Abort, alloc: Global, code: u8) -> Packed
 // A letter over a letter, with a rule 3sp thick: half of 3 is 2, so the denominator is 1sp higher than
 // its shift says.
 #[test]
-fn a_rule_of_odd_thickness(rt: HostRuntime) -> Result<(), Fail> {
+fn a_rule_of_odd_thickness(rt: HostRuntime) {
     let alloc = rt.alloc();
-    let fonts = toy_fonts(alloc)?;
+    let fonts = toy_fonts(alloc).expect(&rt, "memory");
     let num = small_letter(&rt, alloc, 97);
     let den = small_letter(&rt, alloc, 98);
     let body = fraction_box(
@@ -231,15 +224,14 @@ fn a_rule_of_odd_thickness(rt: HostRuntime) -> Result<(), Fail> {
         glyph(4, 98, 78643, 720895),
     ];
     assert_eq!(rt; page.as_slice(), want.as_slice());
-    Ok(())
 }
 
 #[test]
-fn a_letter_with_a_degree_on_marks(rt: HostRuntime) -> Result<(), Fail> {
+fn a_letter_with_a_degree_on_marks(rt: HostRuntime) {
     let alloc = rt.alloc();
-    let fonts = toy_fonts(alloc)?;
-    let mut marks = Marks::of_box(alloc, letter(&rt, alloc))?;
-    marks.push_box(&letter(&rt, alloc))?;
+    let fonts = toy_fonts(alloc).expect(&rt, "memory");
+    let mut marks = Marks::of_box(alloc, letter(&rt, alloc)).expect(&rt, "memory");
+    marks.push_box(&letter(&rt, alloc)).expect(&rt, "memory");
     let row = root_on_marks(&mut marks, &fonts, Style::T, LETTER, LETTER).expect(&rt, "a row");
     // a math unit is 36408, and the degree is raised by 196610
     let want = Extents {
@@ -248,30 +240,28 @@ fn a_letter_with_a_degree_on_marks(rt: HostRuntime) -> Result<(), Fail> {
         depth: 0,
     };
     assert!(rt; row == want);
-    let body = marks.into_box(row, 1)?;
+    let body = marks.into_box(row, 1).expect(&rt, "memory");
     let page = places(alloc, &body, 0, 524290, 2).expect(&rt, "two places");
     let degree = glyph(3, 97, 182040, 327680);
     assert_eq!(rt;
         page.as_slice(),
         [degree, glyph(3, 97, 145640, 524290)].as_slice()
     );
-    Ok(())
 }
 
 #[test]
-fn what_is_left_of_a_letter_on_marks(rt: HostRuntime) -> Result<(), Fail> {
+fn what_is_left_of_a_letter_on_marks(rt: HostRuntime) {
     let alloc = rt.alloc();
     let mut marks = Marks::new(alloc);
-    marks.push_box(&letter(&rt, alloc))?;
-    let left = veil_on_marks(&mut marks, LETTER, true, false, false)?;
+    marks.push_box(&letter(&rt, alloc)).expect(&rt, "memory");
+    let left = veil_on_marks(&mut marks, LETTER, true, false, false).expect(&rt, "memory");
     let want = Extents {
         width: 327680,
         height: 0,
         depth: 0,
     };
     assert!(rt; left == want);
-    let body = marks.top_box(alloc, left, 1)?;
+    let body = marks.top_box(alloc, left, 1).expect(&rt, "memory");
     let page = places(alloc, &body, 0, 0, 1).expect(&rt, "no place");
     assert_eq!(rt; page.len(), 0);
-    Ok(())
 }

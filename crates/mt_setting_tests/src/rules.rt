@@ -1,4 +1,3 @@
-ghost use Rattle.std.specs.Prelude.{IfOk};
 ghost use Rattle.mt_rules.specs.Facts.{StandsInside};
 ghost use Rattle.mt_rules.specs.View.{element_of};
 
@@ -9,7 +8,8 @@ use mt_rules::{
     Atom, Body, Choice, Class, Document, Field, Formula, Fraction, Glue, Item, Kind, Limits,
     MathList, Page, PartError, RowList, Style, Symbol, TableRow, TableRows, Tag,
 };
-use std::alloc::{AllocError, Global};
+use std::alloc::Global;
+use std::process::Abort;
 
 const STYLES: [Style; 8] = [
     Style::D,
@@ -44,36 +44,40 @@ fn styles_of_parts(rt: HostRuntime) {
 }
 
 // A letter of family 1.
-fn letter(alloc: Global, code: u8) -> Result<Item, AllocError>
-    ensures { IfOk result (λ item. StandsInside (element_of item)) }
+fn letter(rt: &impl Abort, alloc: Global, code: u8) -> Item
+    ensures { StandsInside (element_of result) }
 {
-    Ok(Item::Atom(Box::new(
-        alloc,
-        Atom {
-            kind: Kind::Plain(Class::Ord),
-            limits: Limits::Default,
-            nucleus: Field::Sym(Symbol { fam: 1, code }),
-            sup: Field::Empty,
-            sub: Field::Empty,
-        },
-    )?))
+    let atom = Atom {
+        kind: Kind::Plain(Class::Ord),
+        limits: Limits::Default,
+        nucleus: Field::Sym(Symbol { fam: 1, code }),
+        sup: Field::Empty,
+        sub: Field::Empty,
+    };
+    Item::Atom(Box::new(alloc, atom).expect(rt, "memory"))
+}
+
+fn list(rt: &impl Abort, alloc: Global, item: Item) -> MathList
+    requires { StandsInside (element_of item) }
+{
+    MathList::from_vec(vec![in alloc; item].expect(rt, "memory"))
 }
 
 // A list with boundaries and a middle.
-fn bounded(alloc: Global) -> Result<MathList, AllocError> {
+fn bounded(rt: &impl Abort, alloc: Global) -> MathList {
     let items = vec![in alloc;
         Item::Left(NO_DELIMITER),
         Item::Nonscript,
         Item::Middle(NO_DELIMITER),
         Item::Kern(5),
         Item::Right(NO_DELIMITER),
-    ]?;
-    Ok(MathList::from_vec(items))
+    ];
+    MathList::from_vec(items.expect(rt, "memory"))
 }
 
 #[test]
 fn lists_hold_what_they_are_made_of(rt: HostRuntime) {
-    let list = bounded(rt.alloc()).expect(&rt, "memory");
+    let list = bounded(&rt, rt.alloc());
     assert!(rt; list.len() == 5 && list.get(5).is_none());
     assert!(rt; matches!(list.get(3), Some(Item::Kern(5))));
     assert!(rt; matches!(list.as_slice(), [Item::Left(_), .., Item::Right(_)]));
@@ -81,34 +85,35 @@ fn lists_hold_what_they_are_made_of(rt: HostRuntime) {
 }
 
 // A letter over a choice of styles.
-fn fraction(alloc: Global) -> Result<Item, AllocError>
-    ensures { IfOk result (λ item. StandsInside (element_of item)) }
+fn fraction(rt: &impl Abort, alloc: Global) -> Item
+    ensures { StandsInside (element_of result) }
 {
     let choice = Choice {
         display: MathList::from_vec(Vec::new(alloc)),
-        text: MathList::from_vec(vec![in alloc; Item::Style(Style::S)]?),
+        text: list(rt, alloc, Item::Style(Style::S)),
         script: MathList::from_vec(Vec::new(alloc)),
         small: MathList::from_vec(Vec::new(alloc)),
     };
+    let below = Item::Choice(Box::new(alloc, choice).expect(rt, "memory"));
     let fraction = Fraction {
         thickness: Some(3),
         left: NO_DELIMITER,
         right: NO_DELIMITER,
-        num: MathList::from_vec(vec![in alloc; letter(alloc, 97)?]?),
-        den: MathList::from_vec(vec![in alloc; Item::Choice(Box::new(alloc, choice)?)]?),
+        num: list(rt, alloc, letter(rt, alloc, 97)),
+        den: list(rt, alloc, below),
     };
-    Ok(Item::Fraction(Box::new(alloc, fraction)?))
+    Item::Fraction(Box::new(alloc, fraction).expect(rt, "memory"))
 }
 
 // A fraction as the only row.
-fn rows(alloc: Global) -> Result<RowList, AllocError> {
-    let row = MathList::from_vec(vec![in alloc; fraction(alloc)?]?);
-    Ok(RowList::from_vec(vec![in alloc; row]?))
+fn rows(rt: &impl Abort, alloc: Global) -> RowList {
+    let row = list(rt, alloc, fraction(rt, alloc));
+    RowList::from_vec(vec![in alloc; row].expect(rt, "memory"))
 }
 
 #[test]
 fn rows_hold_lists(rt: HostRuntime) {
-    let rows = rows(rt.alloc()).expect(&rt, "memory");
+    let rows = rows(&rt, rt.alloc());
     assert!(rt; rows.len() == 1 && !rows.is_empty() && rows.get(1).is_none());
     let fraction = rows.get(0).and_then(|row| row.get(0));
     assert!(rt; matches!(fraction, Some(Item::Fraction(_))));
@@ -116,22 +121,22 @@ fn rows_hold_lists(rt: HostRuntime) {
 }
 
 // A row of one empty cell.
-fn table_rows(alloc: Global) -> Result<TableRows, AllocError> {
+fn table_rows(rt: &impl Abort, alloc: Global) -> TableRows {
     let cell = MathList::from_vec(Vec::new(alloc));
-    let row = TableRow::from_vec(vec![in alloc; cell]?);
-    Ok(TableRows::from_vec(vec![in alloc; row]?))
+    let row = TableRow::from_vec(vec![in alloc; cell].expect(rt, "memory"));
+    TableRows::from_vec(vec![in alloc; row].expect(rt, "memory"))
 }
 
 #[test]
 fn rows_of_a_table_hold_cells(rt: HostRuntime) {
-    let rows = table_rows(rt.alloc()).expect(&rt, "memory");
+    let rows = table_rows(&rt, rt.alloc());
     assert!(rt; rows.len() == 1 && !rows.is_empty() && rows.get(1).is_none());
     assert!(rt; rows.get(0).is_some_and(|row| row.len() == 1));
     assert!(rt; rows.as_slice().len() == 1 && rows.into_vec().len() == 1);
 }
 
 // An atom without rows, subscripted by nothing.
-fn vcenter(alloc: Global) -> Result<MathList, AllocError> {
+fn vcenter(rt: &impl Abort, alloc: Global) -> MathList {
     let atom = Atom {
         kind: Kind::Vcenter,
         limits: Limits::Default,
@@ -139,33 +144,34 @@ fn vcenter(alloc: Global) -> Result<MathList, AllocError> {
         sup: Field::Empty,
         sub: Field::List(MathList::from_vec(Vec::new(alloc))),
     };
-    Ok(MathList::from_vec(vec![in alloc; Item::Atom(Box::new(alloc, atom)?)]?))
+    let item = Item::Atom(Box::new(alloc, atom).expect(rt, "memory"));
+    MathList::from_vec(vec![in alloc; item].expect(rt, "memory"))
 }
 
 // A displayed formula with a space as its number.
-fn document(alloc: Global) -> Result<Document, AllocError> {
+fn document(rt: &impl Abort, alloc: Global) -> Document {
     let number = Item::MuSpace(Glue {
         width: 3,
         shrink: 0,
     });
-    let tag = MathList::from_vec(vec![in alloc; number]?);
+    let tag = list(rt, alloc, number);
     let formula = Formula {
         number: 1,
         display: true,
-        body: Body::List(vcenter(alloc)?),
+        body: Body::List(vcenter(rt, alloc)),
         tag: Some(Tag {
             body: tag,
             left: false,
         }),
     };
-    let page = Page::from_vec(vec![in alloc; formula]?);
-    Ok(Document::from_vec(vec![in alloc; page]?))
+    let page = Page::from_vec(vec![in alloc; formula].expect(rt, "memory"));
+    Document::from_vec(vec![in alloc; page].expect(rt, "memory"))
 }
 
 #[test]
 fn documents_hold_formulas(rt: HostRuntime) {
-    assert!(rt; document(rt.alloc()).expect(&rt, "memory").len() == 1);
-    assert!(rt; !vcenter(rt.alloc()).expect(&rt, "memory").is_empty());
+    assert!(rt; document(&rt, rt.alloc()).len() == 1);
+    assert!(rt; !vcenter(&rt, rt.alloc()).is_empty());
 }
 
 #[test]

@@ -33,7 +33,7 @@ const FONT: [u8; 148] = [
     0, 160, 43, 0, 0, 35, 43,
 ];
 
-fn odd_fonts(rt: &impl Abort, alloc: Global) -> Result<FontSet, AllocError> {
+fn odd_fonts(rt: &impl Abort, alloc: Global) -> FontSet {
     fonts_of(rt, alloc, LIST, &FONT)
 }
 
@@ -73,8 +73,8 @@ fn shifts_beside(
 }
 
 #[test]
-fn shifts_of_scripts(rt: HostRuntime) -> Result<(), AllocError> {
-    let fonts = odd_fonts(&rt, rt.alloc())?;
+fn shifts_of_scripts(rt: HostRuntime) {
+    let fonts = odd_fonts(&rt, rt.alloc());
     // the style, the height and the depth of a box as nucleus, those of the scripts, and the shifts
     let cases = [
         // sup2; a quarter of the x-height is 3750
@@ -111,7 +111,6 @@ fn shifts_of_scripts(rt: HostRuntime) -> Result<(), AllocError> {
         let shifts = shifts_beside(&fonts, style, body, sup, sub);
         assert_eq!(rt; shifts, Shifts { up, down });
     }
-    Ok(())
 }
 
 // A box with one glyph.
@@ -150,12 +149,12 @@ fn box_behind(rt: &impl Abort, alloc: Global, row: &Row) -> (i64, Extents, Place
 }
 
 #[test]
-fn both_scripts_form_a_box(rt: HostRuntime) -> Result<(), AllocError> {
+fn both_scripts_form_a_box(rt: HostRuntime) {
     let alloc = rt.alloc();
-    let fonts = odd_fonts(&rt, alloc)?;
+    let fonts = odd_fonts(&rt, alloc);
     let sup = glyph_in(&rt, alloc, 1, 97, extents(15, 23, -3));
     let sub = glyph_in(&rt, alloc, 1, 98, extents(10, 9, 5));
-    let nucleus = letter(alloc)?;
+    let nucleus = letter(alloc).expect(&rt, "memory");
     let row = attach_scripts(alloc, &fonts, Style::T, nucleus, 1501, Some(sup), Some(sub)).expect(
         &rt, "a row",
     );
@@ -165,46 +164,72 @@ fn both_scripts_form_a_box(rt: HostRuntime) -> Result<(), AllocError> {
     assert_eq!(rt; reach, extents(34284, 23025, 5));
     let want = [glyph(1, 97, 1501, -23002), glyph(1, 98, 0, 0)];
     assert_eq!(rt; places.as_slice(), want.as_slice());
-    Ok(())
 }
 
 #[test]
-fn a_lone_script_follows_the_nucleus(rt: HostRuntime) -> Result<(), AllocError> {
+fn a_lone_script_follows_the_nucleus(rt: HostRuntime) {
     let alloc = rt.alloc();
-    let fonts = odd_fonts(&rt, alloc)?;
+    let fonts = odd_fonts(&rt, alloc);
     let sup = glyph_in(&rt, alloc, 1, 97, extents(15, 23, -3));
-    let row = attach_scripts(alloc, &fonts, Style::T, letter(alloc)?, 7, Some(sup), None).expect(
-        &rt, "a row",
-    );
+    let row = attach_scripts(
+        alloc,
+        &fonts,
+        Style::T,
+        letter(alloc).expect(&rt, "memory"),
+        7,
+        Some(sup),
+        None,
+    )
+    .expect(&rt, "a row");
     let (raise, reach, _) = box_behind(&rt, alloc, &row);
     assert_eq!(rt; (raise, reach), (14001, extents(32783, 23, -3)));
     let sub = glyph_in(&rt, alloc, 1, 98, extents(10, 9, 5));
-    let row = attach_scripts(alloc, &fonts, Style::T, letter(alloc)?, 7, None, Some(sub)).expect(
-        &rt, "a row",
-    );
+    let row = attach_scripts(
+        alloc,
+        &fonts,
+        Style::T,
+        letter(alloc).expect(&rt, "memory"),
+        7,
+        None,
+        Some(sub),
+    )
+    .expect(&rt, "a row");
     let (raise, reach, _) = box_behind(&rt, alloc, &row);
     assert_eq!(rt; (raise, reach), (-6001, extents(32778, 9, 5)));
-    let row = attach_scripts(alloc, &fonts, Style::T, letter(alloc)?, 7, None, None).expect(
-        &rt, "a row",
-    );
+    let row = attach_scripts(
+        alloc,
+        &fonts,
+        Style::T,
+        letter(alloc).expect(&rt, "memory"),
+        7,
+        None,
+        None,
+    )
+    .expect(&rt, "a row");
     assert_eq!(rt; row.len(), 1);
-    Ok(())
 }
 
 #[test]
-fn a_script_is_refused_when_it_is_wider(rt: HostRuntime) -> Result<(), AllocError> {
+fn a_script_is_refused_when_it_is_wider(rt: HostRuntime) {
     let alloc = rt.alloc();
-    let fonts = odd_fonts(&rt, alloc)?;
+    let fonts = odd_fonts(&rt, alloc);
     let sup = glyph_in(&rt, alloc, 1, 97, extents(1073709056, 3, 1));
-    let answer = attach_scripts(alloc, &fonts, Style::T, letter(alloc)?, 0, Some(sup), None);
+    let answer = attach_scripts(
+        alloc,
+        &fonts,
+        Style::T,
+        letter(alloc).expect(&rt, "memory"),
+        0,
+        Some(sup),
+        None,
+    );
     assert_eq!(rt; answer.err(), Some(PackError::Overflow(1073741824)));
-    Ok(())
 }
 
 #[test]
-fn limits_stand_above_and_below(rt: HostRuntime) -> Result<(), AllocError> {
+fn limits_stand_above_and_below(rt: HostRuntime) {
     let alloc = rt.alloc();
-    let fonts = odd_fonts(&rt, alloc)?;
+    let fonts = odd_fonts(&rt, alloc);
     let nucleus = glyph_in(&rt, alloc, 7, 19, extents(30001, 16001, 7));
     let sup = glyph_in(&rt, alloc, 1, 97, extents(10000, 7, -5001));
     let sub = glyph_in(&rt, alloc, 1, 98, extents(10001, 4001, 5));
@@ -226,5 +251,4 @@ fn limits_stand_above_and_below(rt: HostRuntime) -> Result<(), AllocError> {
     assert_eq!(rt; body.extents(), extents(0, 0, 0));
     let list = places(alloc, &body, 0, 0, 9).expect(&rt, "places");
     assert_eq!(rt; list.as_slice(), [glyph(7, 19, 2, 0)].as_slice());
-    Ok(())
 }
