@@ -31,6 +31,31 @@ fn character_at_fault(alloc: Global, font: &[u8]) -> Option<u8> {
     }
 }
 
+// The name of the file of the font of a number, counted from 0.
+fn file_of_font<C: Cabinet>(
+    alloc: Global,
+    list: &str,
+    number: u32,
+    cabinet: &mut C,
+) -> Result<String, Unsaid>
+    ensures holds { C.holds cabinet.new ≡ C.holds cabinet.old }
+{
+    let read = fetched_list(alloc, cabinet, list)?;
+    let line = read.list.lines.get(number as usize).ok_or(Unsaid)?;
+    tfm_name(alloc, &line.name)
+}
+
+// Adds the line for a font's file with these bytes.
+fn push_font_file(out: &mut Text, run: Refusal<'_>, file: &str, font: &[u8]) {
+    out.push_all(&[file.as_bytes(), b": "]);
+    out.push_explanation(run.alloc, run.status);
+    if let Some(code) = character_at_fault(run.alloc, font) {
+        out.push(b": character ");
+        push_character(out, code);
+    }
+    out.push(b"\n");
+}
+
 /// Adds the line for the font of a number, counted from 0, whose TFM file has a fault: the file's name, and the
 /// character, where one is at fault.
 pub fn explain_font<C: Cabinet>(
@@ -42,17 +67,9 @@ pub fn explain_font<C: Cabinet>(
 ) -> Result<(), Unsaid>
     ensures holds { C.holds cabinet.new ≡ C.holds cabinet.old }
 {
-    let read = fetched_list(run.alloc, cabinet, list)?;
-    let line = read.list.lines.get(number as usize).ok_or(Unsaid)?;
-    let file = tfm_name(run.alloc, &line.name)?;
+    let file = file_of_font(run.alloc, list, number, cabinet)?;
     let font = fetched(run.alloc, cabinet, &file, MAX_TFM)?;
-    out.push_all(&[file.as_bytes(), b": "]);
-    out.push_explanation(run.alloc, run.status);
-    if let Some(code) = character_at_fault(run.alloc, font.as_slice()) {
-        out.push(b": character ");
-        push_character(out, code);
-    }
-    out.push(b"\n");
+    push_font_file(out, run, &file, font.as_slice());
     Ok(())
 }
 

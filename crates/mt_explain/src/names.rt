@@ -54,24 +54,52 @@ fn push_nearest(alloc: Global, out: &mut Text, macros: &Macros, name: &[u8]) {
     }
 }
 
+// What can be written in place of a name.
+fn replacement_of(name: &[u8]) -> Option<&'static Replacement> {
+    IN_FORMULAS.iter().find(|known| known.0 == name)
+}
+
+fn is_outside_alone(name: &[u8]) -> bool {
+    OUTSIDE_ALONE.contains(&name)
+}
+
+fn is_other_name(name: &[u8]) -> bool {
+    OTHER_NAMES
+        .split(|byte| *byte == b' ')
+        .any(|other| other == name)
+}
+
+// What is said of a name that is allowed elsewhere, or that plain TeX has.
+fn elsewhere(name: &[u8]) -> Option<&'static [u8]> {
+    if name == b"hbox".as_slice() {
+        Some(b" is allowed only in \\vcenter")
+    } else if is_outside_alone(name) {
+        Some(b" is allowed only outside formulas")
+    } else if is_other_name(name) {
+        Some(b" is a name of plain TeX that mathset does not have")
+    } else {
+        None
+    }
+}
+
+// Adds what is said of a name for which nothing else can be written.
+fn push_irreplaceable(alloc: Global, out: &mut Text, macros: &Macros, name: &[u8]) {
+    match elsewhere(name) {
+        Some(text) => out.push(text),
+        None => {
+            out.push(b" is not defined");
+            push_nearest(alloc, out, macros, name);
+        }
+    }
+}
+
 /// Adds that a name means nothing in a formula, and what to write in its place, where it is known.
 pub fn push_unknown_name(alloc: Global, out: &mut Text, macros: &Macros, name: &[u8]) {
     out.push_all(&[b"\\", name]);
-    if name == b"hbox".as_slice() {
-        return out.push(b" is allowed only in \\vcenter");
+    match replacement_of(name) {
+        Some(known) => push_replacement(out, known),
+        None => push_irreplaceable(alloc, out, macros, name),
     }
-    if let Some(known) = IN_FORMULAS.iter().find(|known| known.0 == name) {
-        return push_replacement(out, known);
-    }
-    if OUTSIDE_ALONE.contains(&name) {
-        return out.push(b" is allowed only outside formulas");
-    }
-    if OTHER_NAMES.contains(&name) {
-        let text = b" is a name of plain TeX that mathset does not have";
-        return out.push(text);
-    }
-    out.push(b" is not defined");
-    push_nearest(alloc, out, macros, name)
 }
 
 /// Whether a name means nothing in formulas, or nothing outside of `\vcenter`.

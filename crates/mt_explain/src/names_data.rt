@@ -68,26 +68,20 @@ pub static OUTSIDE_FORMULAS: [(&[u8], &[u8]); 12] = [
     (b"let", b": write \\def\\a{\\b}"),
 ];
 
-/// Names of plain TeX's and TeX's own that authors type in formulas, and that mathset does not have.
-#[rattlefmt::skip]
-pub static OTHER_NAMES: [&[u8]; 162] = [
-    b"Longleftarrow", b"Longleftrightarrow", b"Longrightarrow", b"Relbar", b"active", b"allowbreak", b"angle",
-    b"arrowvert", b"begingroup", b"bgroup", b"bigbreak", b"bordermatrix", b"bowtie", b"box", b"braceld",
-    b"bracelu", b"bracerd", b"braceru", b"bracevert", b"buildrel", b"centerline", b"char", b"cong", b"copy",
-    b"ddots", b"displ", b"displaywidth", b"doteq", b"dots", b"egroup", b"endgroup", b"endinsert", b"enskip",
-    b"enspace", b"fi", b"footnote", b"global", b"goodbreak", b"halign", b"hang", b"hbar", b"hfil", b"hfill",
-    b"hfilneg", b"hidewidth", b"hookleftarrow", b"hookrightarrow", b"hrule", b"hrulefill", b"hss", b"ialign", b"if",
-    b"iff", b"ifmmode", b"ifx", b"item", b"itemitem", b"joinrel", b"jot", b"lbrack", b"leftarrowfill", b"leftline",
-    b"let", b"lgroup", b"lhook", b"liminf", b"limsup", b"line", b"llap", b"lmoustache", b"long", b"longleftarrow",
-    b"longleftrightarrow", b"longmapsto", b"longrightarrow", b"loop", b"lower", b"magnification", b"magstep",
-    b"mathpalette", b"mathsurround", b"medmuskip", b"medskip", b"midinsert", b"models", b"moveleft", b"moveright",
-    b"multispan", b"muskip", b"narrower", b"negthinspace", b"noalign", b"nobreak", b"noindent", b"nointerlineskip",
-    b"normalbaselines", b"notin", b"null", b"nulldelimiterspace", b"number", b"oalign", b"offinterlineskip",
-    b"oldstyle", b"omit", b"ooalign", b"openup", b"overbrace", b"overleftarrow", b"overrightarrow", b"pageno",
-    b"parindent", b"penalty", b"raise", b"rbrack", b"relbar", b"repeat", b"rgroup", b"rhook",
-    b"rightarrowfill", b"rightleftharpoons", b"rightline", b"rlap", b"rmoustache", b"sb", b"scriptfont",
-    b"scriptscriptfont", b"scriptspace", b"setbox", b"skew", b"slash", b"smallskip", b"sp", b"space", b"span",
-    b"special", b"strut", b"surd", b"tabskip", b"textfont", b"textindent", b"the", b"thickmuskip", b"thinmuskip",
-    b"thinspace", b"topinsert", b"underbar", b"underbrace", b"unhbox", b"unskip", b"upbracefill", b"vadjust",
-    b"valign", b"vbox", b"vdots", b"vfil", b"vfill", b"vfootnote", b"vglue", b"vrule", b"vskip", b"vss", b"vtop",
-];
+/// Names of plain TeX's and TeX's own that authors type in formulas, and that mathset does not have, with a blank between
+/// each two.
+pub static OTHER_NAMES: &[u8] =
+    b"Longleftarrow Longleftrightarrow Longrightarrow Relbar active allowbreak angle arrowvert begingroup \
+    bgroup bigbreak bordermatrix bowtie box braceld bracelu bracerd braceru bracevert buildrel centerline \
+    char cong copy ddots displ displaywidth doteq dots egroup endgroup endinsert enskip enspace fi footnote \
+    global goodbreak halign hang hbar hfil hfill hfilneg hidewidth hookleftarrow hookrightarrow hrule \
+    hrulefill hss ialign if iff ifmmode ifx item itemitem joinrel jot lbrack leftarrowfill leftline let \
+    lgroup lhook liminf limsup line llap lmoustache long longleftarrow longleftrightarrow longmapsto \
+    longrightarrow loop lower magnification magstep mathpalette mathsurround medmuskip medskip midinsert \
+    models moveleft moveright multispan muskip narrower negthinspace noalign nobreak noindent \
+    nointerlineskip normalbaselines notin null nulldelimiterspace number oalign offinterlineskip oldstyle \
+    omit ooalign openup overbrace overleftarrow overrightarrow pageno parindent penalty raise rbrack relbar \
+    repeat rgroup rhook rightarrowfill rightleftharpoons rightline rlap rmoustache sb scriptfont \
+    scriptscriptfont scriptspace setbox skew slash smallskip sp space span special strut surd tabskip \
+    textfont textindent the thickmuskip thinmuskip thinspace topinsert underbar underbrace unhbox unskip \
+    upbracefill vadjust valign vbox vdots vfil vfill vfootnote vglue vrule vskip vss vtop";

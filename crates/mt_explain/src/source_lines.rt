@@ -9,7 +9,7 @@ use crate::place::place_at;
 use crate::refusal::Refusal;
 use crate::source_words::push_words;
 use crate::text::{Text, Unsaid};
-use mt_locate::{Definition, locate};
+use mt_locate::{Definition, Located, locate};
 use mt_outside::Cabinet;
 use mt_status::NamedFamily;
 use mt_token::MAX_SOURCE;
@@ -29,19 +29,19 @@ fn push_definition(
     Ok(())
 }
 
-// Adds what is said of a fault in a source, whose bytes are these, but for the line of the source.
-fn push_source(
+// Adds what is said of a fault at this place of a source, whose bytes are these, and the line of the source.
+fn push_located(
     out: &mut Text,
     run: Refusal<'_>,
     file: &str,
     source: &[u8],
+    located: &Located,
     family: Option<(&ReadList, NamedFamily)>,
 ) -> Result<(), Unsaid> {
-    let located = locate(run.alloc, source, run.status, run.notes)?.ok_or(Unsaid)?;
     let place = place_at(source, located.offset).ok_or(Unsaid)?;
     push_place(out, file, place);
     out.push(b": ");
-    push_words(out, run, source, &located);
+    push_words(out, run, source, located);
     if let Some((list, named)) = family {
         push_family(out, &list.list, named);
     }
@@ -51,6 +51,20 @@ fn push_source(
     }
     push_excerpt(out, source, place);
     Ok(())
+}
+
+// Adds the lines for a fault in a source, whose bytes are these.
+fn push_source(
+    out: &mut Text,
+    run: Refusal<'_>,
+    file: &str,
+    source: &[u8],
+    family: Option<(&ReadList, NamedFamily)>,
+) -> Result<(), Unsaid> {
+    match locate(run.alloc, source, run.status, run.notes)? {
+        Some(located) => push_located(out, run, file, source, &located, family),
+        None => Err(Unsaid),
+    }
 }
 
 /// Adds the lines for a fault in the source of this name. `named` is the family of the list that the status names; where

@@ -1,4 +1,4 @@
-//! Lists in an arena: what is put there comes back, and a choice's list and a joined symbol come before the rest.
+//! Lists in an arena: what is put there comes back.
 ghost use Rattle.std.specs.Prelude.{◌≡◌, ◌<◌};
 ghost use Rattle.mt_rules.specs.Facts.{IsField, NoBoundary};
 ghost use Rattle.mt_rules.specs.Sequence.{AtomElement, EmptyPart};
@@ -6,7 +6,7 @@ ghost use Rattle.mt_rules.specs.View.{element_of, part_of_field};
 ghost use Rattle.mt_rules.specs.declared.kind.Limits.TheVariants.{Default};
 
 use crate::pieces::NO_DELIMITER;
-use mt_arena::{Arena, Cell, Noad, Rest, Thing, list_of, put_list};
+use mt_arena::{Arena, list_of, put_list};
 use mt_rules::{
     Atom, Choice, Class, Field, Fraction, Glue, Item, Kind, Limits, Look, MathList, Root, RowList,
     Style, Symbol, Table, TableRows,
@@ -298,50 +298,4 @@ fn nuclei_come_back(rt: HostRuntime) {
         }
     );
     assert!(rt; matches!(nucleus(&list, 3), Some(Field::Big { level: 2, .. })));
-}
-
-// The symbol of a thing that is an atom.
-fn symbol(thing: Option<Thing>) -> Option<Symbol> {
-    match thing {
-        Some(Thing::Atom(noad)) => match noad.nucleus {
-            Cell::Sym(symbol) => Some(symbol),
-            _ => None,
-        },
-        _ => None,
-    }
-}
-
-#[test]
-fn a_list_of_a_choice_comes_before_the_rest(rt: HostRuntime) {
-    let alloc = rt.alloc();
-    let list = choice(&rt, alloc);
-    let mut arena = Arena::new(alloc);
-    let span = put_list(&mut arena, &list).expect(&rt, "memory");
-    let mut rest = Rest::of(alloc, span);
-    if let Some(Thing::Choice(spans)) = rest.pop(&arena) {
-        rest.enter(spans.text).expect(&rt, "memory");
-        rest.push(Thing::Style(Style::T));
-    }
-    assert!(rt; matches!(rest.pop(&arena), Some(Thing::Style(Style::T))));
-    assert!(rt; symbol(rest.peek(&arena)) == Some(Symbol { fam: 1, code: 98 }));
-    assert!(rt; symbol(rest.pop(&arena)) == Some(Symbol { fam: 1, code: 98 }));
-    assert!(rt; symbol(rest.pop(&arena)) == Some(Symbol { fam: 1, code: 101 }));
-    assert!(rt; rest.pop(&arena).is_none());
-}
-
-#[test]
-fn a_joined_symbol_comes_before_the_rest(rt: HostRuntime) {
-    let alloc = rt.alloc();
-    let list = letter(&rt, alloc, 97);
-    let mut arena = Arena::new(alloc);
-    let span = put_list(&mut arena, &list).expect(&rt, "memory");
-    let mut rest = Rest::of(alloc, span);
-    if let Some(Thing::Atom(noad)) = rest.pop(&arena) {
-        rest.push(Thing::Atom(Noad {
-            nucleus: Cell::Sym(X),
-            ..noad
-        }));
-    }
-    assert!(rt; symbol(rest.pop(&arena)) == Some(X));
-    assert!(rt; rest.pop(&arena).is_none());
 }

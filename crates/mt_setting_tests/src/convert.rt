@@ -7,7 +7,7 @@ ghost use Rattle.mt_rules.specs.View.{sequence_of};
 
 use crate::pieces::glyph;
 use mt_box::{Packed, Row, hpack, places, row_extents, shrink_of};
-use mt_convert::{Half, first_pass, second_pass, set_list};
+use mt_convert::{first_pass, second_pass, set_list};
 use mt_family::FontSet;
 use mt_rules::{Atom, Class, Field, Item, Kind, Limits, MathList, Style, Symbol};
 use mt_samples::toy_fonts;
@@ -85,14 +85,6 @@ fn sum_sign(alloc: Global) -> Result<MathList, AllocError>
     Ok(MathList::from_vec(items))
 }
 
-// An atom of class Bin that is one piece.
-fn is_binary(half: &Half) -> bool {
-    match half {
-        Half::Set { class, row } => *class == Class::Bin && row.len() == 1,
-        _ => false,
-    }
-}
-
 // The row of the sum in text style, by both passes.
 fn sum_row(rt: &impl Abort, alloc: Global, fonts: &FontSet) -> Result<Row, AllocError>
     ensures few { IfOk result (λ row. length row ≤ 2 ^ 21) }
@@ -107,19 +99,6 @@ fn sum_row(rt: &impl Abort, alloc: Global, fonts: &FontSet) -> Result<Row, Alloc
 fn sum_sign_box(rt: &impl Abort, alloc: Global, fonts: &FontSet) -> Result<Packed, AllocError> {
     let row = set_list(alloc, fonts, sum_sign(alloc)?, Style::D).expect(rt, "a row");
     Ok(hpack(alloc, row).expect(rt, "a box"))
-}
-
-#[test]
-fn sets_the_items_of_a_sum(rt: HostRuntime) {
-    let alloc = rt.alloc();
-    let fonts = toy_fonts(alloc).expect(&rt, "memory");
-    let half = first_pass(alloc, &fonts, sum(alloc).expect(&rt, "memory"), Style::T).expect(
-        &rt,
-        "the items",
-    );
-    assert_eq!(rt; half.items.len(), 3);
-    assert_eq!(rt; (half.height, half.depth), (327680, 0));
-    assert!(rt; half.items.get(1).is_some_and(|plus| is_binary(plus)));
 }
 
 #[test]

@@ -1,6 +1,6 @@
 //! The delimiters of the toy fonts.
-use crate::pieces::{NO_DELIMITER, glyph};
-use mt_box::{Extents, Mark, places};
+use crate::pieces::NO_DELIMITER;
+use mt_box::{Extents, Mark};
 use mt_delim::{Variant, choose_variant, delimiter_box};
 use mt_family::Size;
 use mt_rules::{Delim, PartError, Symbol};
@@ -62,46 +62,30 @@ fn brace_marks(repeats: u64) -> [Mark; 5] {
 fn repeats_are_one_node(rt: HostRuntime) {
     let alloc = rt.alloc();
     let fonts = toy_fonts(alloc).expect(&rt, "memory");
-    for (wanted, repeats) in [(737919, 1), (328417280, 2000)] {
-        let brace = delimiter_box(alloc, &fonts, BRACE, Size::Text, wanted).expect(&rt, "a brace");
-        let marks = brace_marks(repeats);
-        assert_eq!(rt; brace.body.nodes().len(), marks.len());
-        for (node, mark) in brace.body.nodes().iter().zip(marks.iter()) {
-            assert_eq!(rt; &node.mark, mark);
-        }
+    let brace = delimiter_box(alloc, &fonts, BRACE, Size::Text, 328417280).expect(&rt, "a brace");
+    let marks = brace_marks(2000);
+    assert!(rt; brace.body.nodes().len() == marks.len());
+    for (node, mark) in brace.body.nodes().iter().zip(marks.iter()) {
+        assert!(rt; &node.mark == mark);
     }
 }
 
 #[test]
-fn boxes_by_the_wanted_size(rt: HostRuntime) {
+fn a_slash_is_centred_by_its_raise(rt: HostRuntime) {
     let alloc = rt.alloc();
     let fonts = toy_fonts(alloc).expect(&rt, "memory");
-    let brace = delimiter_box(alloc, &fonts, BRACE, Size::Text, 737919).expect(&rt, "a brace");
-    let height = brace.body.extents().height;
-    let page = places(alloc, &brace.body, 0, height, 5).expect(&rt, "five places");
-    let want = [
-        glyph(9, 56, 0, height),
-        glyph(9, 62, 0, height + 204800),
-        glyph(9, 60, 0, height + 286720),
-        glyph(9, 62, 0, height + 614400),
-        glyph(9, 58, 0, height + 696320),
-    ];
-    assert_eq!(rt; page.as_slice(), want.as_slice());
-    let none = delimiter_box(alloc, &fonts, NO_DELIMITER, Size::Text, 5).expect(&rt, "a box");
-    assert_eq!(rt; none.body.extents().width, 78643);
     let slash = delimiter_box(alloc, &fonts, SLASH, Size::Text, 737919).expect(&rt, "a slash");
     let extents = Extents {
         width: 327680,
         height: 40960,
         depth: 450560,
     };
-    assert_eq!(rt; slash.body.extents(), extents);
-    assert_eq!(rt; slash.raise, 368640);
-    assert!(rt; delimiter_box(alloc, &fonts, BRACE, Size::Text, 328417280).is_ok());
-    assert!(rt;
-        matches!(
-            delimiter_box(alloc, &fonts, BRACE, Size::Text, 328417281),
-            Err(PartError::TooTall(2001))
-        )
-    );
+    assert!(rt; slash.raise == 368640 && slash.body.extents() == extents);
+}
+
+#[test]
+fn refuses_more_than_2000_repeats(rt: HostRuntime) {
+    let fonts = toy_fonts(rt.alloc()).expect(&rt, "memory");
+    let refused = delimiter_box(rt.alloc(), &fonts, BRACE, Size::Text, 328417281);
+    assert!(rt; matches!(refused, Err(PartError::TooTall(2001))));
 }

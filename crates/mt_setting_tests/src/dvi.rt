@@ -196,17 +196,22 @@ fn refuses_too_many_pages(rt: HostRuntime) {
 
 #[test]
 fn chooses_the_form_of_a_move(rt: HostRuntime) {
-    assert_eq!(rt; move_code(0, 5, 6), MoveForm::None);
-    assert_eq!(rt; move_code(0, 0, 6), MoveForm::None);
-    assert_eq!(rt; move_code(5, 5, 6), MoveForm::First);
-    assert_eq!(rt; move_code(6, 6, 6), MoveForm::First);
-    assert_eq!(rt; move_code(6, 5, 6), MoveForm::Second);
-    assert_eq!(rt; move_code(127, 5, 6), MoveForm::Bytes(1));
-    assert_eq!(rt; move_code(128, 5, 6), MoveForm::Bytes(2));
-    assert_eq!(rt; move_code(-128, 5, 6), MoveForm::Bytes(1));
-    assert_eq!(rt; move_code(-129, 5, 6), MoveForm::Bytes(2));
-    assert_eq!(rt; move_code(32768, 5, 6), MoveForm::Bytes(3));
-    assert_eq!(rt; move_code(-8388608, 5, 6), MoveForm::Bytes(3));
-    assert_eq!(rt; move_code(8388608, 5, 6), MoveForm::Bytes(4));
-    assert_eq!(rt; move_code(-2147483647, 5, 6), MoveForm::Bytes(4));
+    // Beside registers of 5 and 6, or of twice 6.
+    let forms = [
+        (5, MoveForm::First),
+        (6, MoveForm::Second),
+        (127, MoveForm::Bytes(1)),
+        (128, MoveForm::Bytes(2)),
+        (-128, MoveForm::Bytes(1)),
+        (-129, MoveForm::Bytes(2)),
+        (32768, MoveForm::Bytes(3)),
+        (-8388608, MoveForm::Bytes(3)),
+        (8388608, MoveForm::Bytes(4)),
+        (-2147483647, MoveForm::Bytes(4)),
+    ];
+    for (length, form) in forms {
+        assert!(rt; move_code(length, 5, 6) == form);
+    }
+    assert!(rt; move_code(0, 0, 6) == MoveForm::None);
+    assert!(rt; move_code(6, 6, 6) == MoveForm::First);
 }

@@ -3,8 +3,6 @@
 #![tactic(auto)]
 
 #[cfg(test)]
-mod align;
-#[cfg(test)]
 mod arena;
 #[cfg(test)]
 mod boxes;

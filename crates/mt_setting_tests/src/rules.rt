@@ -1,4 +1,4 @@
-ghost use Rattle.mt_rules.specs.Facts.{StandsInside};
+ghost use Rattle.mt_rules.specs.Facts.{NoBoundary, StandsInside};
 ghost use Rattle.mt_rules.specs.View.{element_of};
 
 use crate::pieces::NO_DELIMITER;
@@ -59,6 +59,7 @@ fn letter(rt: &impl Abort, alloc: Global, code: u8) -> Item
 
 fn list(rt: &impl Abort, alloc: Global, item: Item) -> MathList
     requires { StandsInside (element_of item) }
+    ensures { NoBoundary result }
 {
     MathList::from_vec(vec![in alloc; item].expect(rt, "memory"))
 }

@@ -167,49 +167,6 @@ fn both_scripts_form_a_box(rt: HostRuntime) {
 }
 
 #[test]
-fn a_lone_script_follows_the_nucleus(rt: HostRuntime) {
-    let alloc = rt.alloc();
-    let fonts = odd_fonts(&rt, alloc);
-    let sup = glyph_in(&rt, alloc, 1, 97, extents(15, 23, -3));
-    let row = attach_scripts(
-        alloc,
-        &fonts,
-        Style::T,
-        letter(alloc).expect(&rt, "memory"),
-        7,
-        Some(sup),
-        None,
-    )
-    .expect(&rt, "a row");
-    let (raise, reach, _) = box_behind(&rt, alloc, &row);
-    assert_eq!(rt; (raise, reach), (14001, extents(32783, 23, -3)));
-    let sub = glyph_in(&rt, alloc, 1, 98, extents(10, 9, 5));
-    let row = attach_scripts(
-        alloc,
-        &fonts,
-        Style::T,
-        letter(alloc).expect(&rt, "memory"),
-        7,
-        None,
-        Some(sub),
-    )
-    .expect(&rt, "a row");
-    let (raise, reach, _) = box_behind(&rt, alloc, &row);
-    assert_eq!(rt; (raise, reach), (-6001, extents(32778, 9, 5)));
-    let row = attach_scripts(
-        alloc,
-        &fonts,
-        Style::T,
-        letter(alloc).expect(&rt, "memory"),
-        7,
-        None,
-        None,
-    )
-    .expect(&rt, "a row");
-    assert_eq!(rt; row.len(), 1);
-}
-
-#[test]
 fn a_script_is_refused_when_it_is_wider(rt: HostRuntime) {
     let alloc = rt.alloc();
     let fonts = odd_fonts(&rt, alloc);
@@ -245,10 +202,4 @@ fn limits_stand_above_and_below(rt: HostRuntime) {
         glyph(1, 98, 9998, 21008),
     ];
     assert_eq!(rt; list.as_slice(), want.as_slice());
-    // without limits the greatest width is 0
-    let nucleus = glyph_in(&rt, alloc, 7, 19, extents(-3, -5, -7));
-    let body = limits_box(alloc, &fonts, Size::Text, nucleus, 5, None, None).expect(&rt, "a box");
-    assert_eq!(rt; body.extents(), extents(0, 0, 0));
-    let list = places(alloc, &body, 0, 0, 9).expect(&rt, "places");
-    assert_eq!(rt; list.as_slice(), [glyph(7, 19, 2, 0)].as_slice());
 }

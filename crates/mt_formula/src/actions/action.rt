@@ -15,7 +15,7 @@ use mt_scan::{
 };
 
 /// How a field begins.
-#[derive(Clone, Copy, Debug, PartialEq, Eq)]
+#[derive(Clone, Copy)]
 pub enum FieldStart {
     /// It is a symbol.
     Symbol(Symbol),
@@ -24,7 +24,7 @@ pub enum FieldStart {
 }
 
 /// What a token does in a list.
-#[derive(Clone, Copy, Debug, PartialEq, Eq)]
+#[derive(Clone, Copy)]
 pub enum Action {
     /// Nothing.
     Nothing,

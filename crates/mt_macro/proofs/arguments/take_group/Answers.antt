@@ -1,5 +1,5 @@
 use Rattle.std.proofs.Common.{arith}
-use Rattle.mt_macro.proofs.Gathers.{grouping_start, grouping_none, grouping_ends}
+use Rattle.mt_macro.proofs.Gathers.{grouping_start, grouping_more, grouping_none, grouping_ends}
 use Rattle.mt_macro.proofs.arguments.take_group.Goals as goal
 
 pub loop-run-init : goal.loop-run-init
@@ -15,3 +15,8 @@ pub returns : goal.returns
 returns g c =
     let v = rw c.in_default.is at c.in_ok-run.ensures in
     grouping_none _ _ _ _ _ _ _ _ c.loop-run.invariant v
+
+pub loop-run-preserved : goal.loop-run-preserved
+loop-run-preserved g c =
+    let v = rw c.in-Some.is at c.in_ok-run.ensures in
+    grouping_more _ _ _ _ _ _ _ _ _ _ _ _ c.in-Some.run' c.loop-run.invariant v c.in-Open.ensures c.in_ok-push_part-in-Open.ensures (omega arith)
