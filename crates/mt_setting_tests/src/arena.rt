@@ -195,28 +195,30 @@ fn items_come_back(rt: HostRuntime) {
     let alloc = rt.alloc();
     let list = enclosed(&rt, alloc);
     let list = returned(&rt, alloc, list);
+    assert!(rt; list.len() == 9 && matches!(list.as_slice(), [Item::Left(_), .., Item::Right(_)]));
+    assert!(rt; matches!(list.get(1), Some(Item::Style(Style::S))));
     assert!(rt;
         matches!(
-            list.as_slice(),
-            [
-                Item::Left(_),
-                Item::Style(Style::S),
-                Item::MuSpace(Glue {
-                    width: 3,
-                    shrink: -1
-                }),
-                Item::Space(Glue {
-                    width: 3,
-                    shrink: -1
-                }),
-                Item::Middle(_),
-                Item::MuKern(7),
-                Item::Kern(-8),
-                Item::Nonscript,
-                Item::Right(_),
-            ]
+            list.get(2),
+            Some(Item::MuSpace(Glue {
+                width: 3,
+                shrink: -1
+            }))
         )
     );
+    assert!(rt;
+        matches!(
+            list.get(3),
+            Some(Item::Space(Glue {
+                width: 3,
+                shrink: -1
+            }))
+        )
+    );
+    assert!(rt; matches!(list.get(4), Some(Item::Middle(_))));
+    assert!(rt; matches!(list.get(5), Some(Item::MuKern(7))));
+    assert!(rt; matches!(list.get(6), Some(Item::Kern(-8))));
+    assert!(rt; matches!(list.get(7), Some(Item::Nonscript)));
 }
 
 #[test]

@@ -4,7 +4,7 @@ use crate::pieces::{glyph, rule};
 use mt_box::{PageList, Place};
 use mt_dviread::{DviError, read_dvi};
 use mt_family::FontSet;
-use std::alloc::{AllocError, Global};
+use std::alloc::Global;
 
 // A page of one glyph.
 const ONE_GLYPH: [u8; 148] = [
@@ -65,42 +65,6 @@ const BY_TEX: [u8; 468] = [
     223, 223, 223, 223, 223, 223, 223,
 ];
 
-// A byte of a file that is changed, and the fault then: where, the byte, the cause and its offset.
-type Change = (usize, u8, u8, u64);
-
-const CHANGES_OF_ONE_GLYPH: [Change; 14] = [
-    (1, 139, 3, 0),
-    (6, 171, 3, 0),
-    (0, 248, 3, 0),
-    (88, 249, 2, 88),
-    (100, 139, 5, 88),
-    (138, 138, 5, 137),
-    (141, 89, 5, 137),
-    (147, 222, 5, 137),
-    (66, 239, 6, 80),
-    (125, 174, 6, 117),
-    (132, 1, 6, 117),
-    (80, 97, 6, 80),
-    (86, 142, 8, 86),
-    (86, 98, 7, 86),
-];
-
-const CHANGES_OF_MOVES: [Change; 13] = [
-    (101, 239, 1, 101),
-    (123, 98, 1, 122),
-    (93, 255, 2, 93),
-    (131, 138, 2, 136),
-    (58, 171, 4, 15),
-    (57, 248, 4, 15),
-    (163, 1, 5, 137),
-    (153, 231, 5, 137),
-    (91, 222, 6, 91),
-    (96, 0, 7, 96),
-    (97, 98, 7, 97),
-    (90, 142, 8, 90),
-    (87, 138, 10, 88),
-];
-
 // The places of the pages of BY_TEX, as DVItype tells them.
 fn first_by_tex() -> [Place; 13] {
     [
@@ -140,45 +104,6 @@ fn fault(alloc: Global, fonts: &FontSet, bytes: &[u8]) -> Option<DviError> {
     read_dvi(alloc, fonts, bytes).err()
 }
 
-fn with_byte(alloc: Global, bytes: &[u8], at: usize, byte: u8) -> Result<Vec<u8>, AllocError> {
-    let mut changed = Vec::from_slice(alloc, bytes)?;
-    if let Some(place) = changed.get_mut(at) {
-        *place = byte;
-    }
-    Ok(changed)
-}
-
-// Whether the fault of a file with a byte changed is this one.
-fn refuses(
-    alloc: Global,
-    fonts: &FontSet,
-    bytes: &[u8],
-    change: Change,
-) -> Result<bool, AllocError> {
-    let (at, byte, cause, offset) = change;
-    let changed = with_byte(alloc, bytes, at, byte)?;
-    match fault(alloc, fonts, &changed) {
-        Some(error) => Ok(error.number() == cause && error.place() == Some(offset)),
-        None => Ok(false),
-    }
-}
-
-// The first bytes of MOVES, so many bytes once or several times, and other bytes.
-fn repeated(
-    alloc: Global,
-    first: usize,
-    bytes: &[u8],
-    count: u32,
-    last: &[u8],
-) -> Result<Vec<u8>, AllocError> {
-    let mut all = Vec::from_slice(alloc, MOVES.get(..first).unwrap_or(&[]))?;
-    for _ in 0..count {
-        all.extend_from_slice(bytes)?;
-    }
-    all.extend_from_slice(last)?;
-    Ok(all)
-}
-
 #[test]
 fn reads_one_glyph_and_refuses_its_parts(rt: HostRuntime) {
     let alloc = rt.alloc();
@@ -205,39 +130,4 @@ fn reads_moves_and_a_file_of_tex(rt: HostRuntime) {
     let pages = read_dvi(alloc, &fonts, &BY_TEX).expect(&rt, "a file");
     assert!(rt; pages.len() == 3 && has_page(&pages, 0, &first_by_tex()));
     assert!(rt; has_page(&pages, 1, &[]) && has_page(&pages, 2, &last_by_tex()));
-}
-
-#[test]
-fn refuses_changed_bytes(rt: HostRuntime) {
-    let alloc = rt.alloc();
-    let fonts = four_fonts(&rt, alloc);
-    for change in &CHANGES_OF_ONE_GLYPH {
-        assert!(rt; refuses(alloc, &fonts, &ONE_GLYPH, *change).expect(&rt, "memory"));
-    }
-    for change in &CHANGES_OF_MOVES {
-        assert!(rt; refuses(alloc, &fonts, &MOVES, *change).expect(&rt, "memory"));
-    }
-}
-
-#[test]
-fn keeps_its_limits(rt: HostRuntime) {
-    let alloc = rt.alloc();
-    let fonts = four_fonts(&rt, alloc);
-    let down = repeated(alloc, 60, &[160, 127, 255, 255, 255], 1, &[157, 1]).expect(&rt, "memory");
-    assert_eq!(rt; fault(alloc, &fonts, &down), Some(DviError::OutOfRange(65)));
-    let pushes = repeated(alloc, 60, &[141], 1000, &[]).expect(&rt, "memory");
-    assert_eq!(rt;
-        fault(alloc, &fonts, &pushes),
-        Some(DviError::Truncated(1060))
-    );
-    let pushes = repeated(alloc, 60, &[141], 1001, &[]).expect(&rt, "memory");
-    assert_eq!(rt;
-        fault(alloc, &fonts, &pushes),
-        Some(DviError::TooDeep(1060))
-    );
-    let pushes = repeated(alloc, 60, &[141], 1000, &[142, 141, 141]).expect(&rt, "memory");
-    assert_eq!(rt;
-        fault(alloc, &fonts, &pushes),
-        Some(DviError::TooDeep(1062))
-    );
 }
