@@ -3,6 +3,8 @@
 #![tactic(auto)]
 
 #[cfg(test)]
+mod align;
+#[cfg(test)]
 mod arena;
 #[cfg(test)]
 mod boxes;
