@@ -1,11 +1,13 @@
 //! What the pages of a source are added to.
-ghost use Rattle.std.specs.Prelude.{◌≡◌, ◌++◌, ◌∷◌, [], List, OnOk};
+ghost use Rattle.std.specs.Prelude.{◌≡◌, ◌++◌, ◌∷◌, [], List, None, OnOk, ℕ};
 ghost use Rattle.mt_box.specs.declared.place.Place.{Place as PlaceFields};
 ghost use Rattle.mt_family.specs.SetValue.{SetValue};
 ghost use Rattle.mt_pages.specs.LineWidth.{IsLineWidth};
 ghost use Rattle.mt_pages.specs.Pages.{source_pages};
 ghost use Rattle.mt_status.specs.Notes.{NotesFault};
 ghost use Rattle.mt_pages.specs.inner.Added.{AddsPages, CanAdd};
+ghost use Rattle.mt_pages.specs.inner.SetPages.{ArePagesOf, IsStart};
+ghost use Rattle.mt_reader.specs.PageReading.{CanGoOn};
 
 use crate::pages::PageSetter;
 use mt_box::PlaceList;
@@ -25,6 +27,31 @@ pub trait PageSink {
         requires { CanAdd fonts.now (HasPages fonts.now) self.old page }
         ensures { (pages : List (List PlaceFields)) → HasPages fonts.now pages self.old
             → OnOk result (HasPages fonts.now (pages ++ page ∷ []) self.new) };
+}
+
+// Adds the pages of a setter that has handed out none.
+fn add_all<S: PageSink>(
+    sink: &mut S,
+    alloc: Global,
+    fonts: &FontSet,
+    width: i64,
+    setter: &mut PageSetter<'_>,
+    notes: &mut Notes,
+) -> Result<(), Status>
+    requires width { IsLineWidth width }
+    requires start { IsStart fonts.now width setter.old }
+    requires more { CanGoOn setter.old.reader }
+    requires none { notes.old.formula ≡ None }
+    requires empty { S.HasPages fonts.now [] sink.old }
+    ensures is { (source : List ℕ) → ArePagesOf fonts.now width source [] setter.old
+        → AddsPages fonts.now (S.HasPages fonts.now) (source_pages fonts.now width source) result sink.new }
+    ensures units { notes.new.units ≡ notes.old.units }
+    ensures formula { NotesFault result notes.new.formula }
+{
+    while let Some(page) = setter.next_page(alloc, fonts, width, notes)? {
+        sink.add(fonts, page)?;
+    }
+    Ok(())
 }
 
 /// Adds the pages of a source, set in these fonts on lines of `width` scaled points. A page is added as soon as it is set.
@@ -56,8 +83,5 @@ pub fn add_pages<S: PageSink>(
         return Err(Status::OutOfMemory);
     };
     let mut setter = PageSetter::new(alloc, tables, source)?;
-    while let Some(page) = setter.next_page(alloc, fonts, width, notes)? {
-        sink.add(fonts, page)?;
-    }
-    Ok(())
+    add_all(sink, alloc, fonts, width, &mut setter, notes)
 }

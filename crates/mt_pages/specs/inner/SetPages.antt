@@ -79,6 +79,11 @@ pub record ArePagesOf (fonts : SetValue) (width : ℤ) (source : List ℕ) (page
   pub few : length pages ≤ pages_ended s.reader
   pub room : length (all_places pages) + s.room ≡ max_places
 
+-- the setter has handed out no page of its source
+pub record IsStart (fonts : SetValue) (width : ℤ) (s : PageSetter) : Type 0 where
+  pub source : List ℕ
+  pub are : ArePagesOf fonts width source [] s
+
 -- what a reader's next page is, or the refusal of the document
 abbrev pub AreFormulasOf : SetValue → List ℕ → List (List Formula) → PageSetter → Result (Option (List Formula)) Status → Type 0
 AreFormulasOf fonts source read new (Ok (Some page)) = IsReadFrom fonts source (read ++ page ∷ []) new.reader
