@@ -12,7 +12,7 @@ use Rattle.mt_reader.specs.declared.document_error.DocError.{DocError}
 use Rattle.mt_reader.specs.declared.document_error.DocError.TheVariants.{Source, Outside, Expand, Read, Total, Pages, OutOfMemory}
 use Rattle.mt_reader.specs.Documents.{NotLexed, document}
 use Rattle.mt_reader.specs.Refusals.{IsDocument, IsRefusal}
-use Rattle.mt_reader.specs.SourceReading.{IsFaultOf}
+use Rattle.mt_reader.specs.SourceReading.{IsFaultOf, IsRefusedAt}
 use Rattle.mt_reader.specs.Sources.{document_by, plain_words, word_token}
 use Rattle.mt_reader.specs.Weights.{page_weight, pages_weight}
 
@@ -32,15 +32,13 @@ fault_refuses (Total n count) cause h = elim h [ ]
 fault_refuses (Pages count) cause h = elim h [ ]
 fault_refuses OutOfMemory cause h = tt
 
-pub source_refused : (units : Units) (answer : Answer) (e : DocError) → ((list : List Spanned) → answer ≡ Ok list → IsRefusal e (document units plain_codes plain_words (map word_token list)))
-    → ((cause : TokenError) → fault_of answer ≡ Some cause → IsFaultOf cause e) → IsRefusal e (document_by units answer)
-source_refused units (Ok list) e f g = f list refl
-source_refused units (Err cause) e f g = fault_refuses e cause (g cause refl)
-
-pub source_read : (units : Units) (answer : Answer) (pages : List (List Formula)) → ((list : List Spanned) → answer ≡ Ok list → document units plain_codes plain_words (map word_token list) ≡ Ok pages)
-    → ((cause : TokenError) → fault_of answer ≡ Some cause → ⊥) → document_by units answer ≡ Ok pages
-source_read units (Ok list) pages f g = f list refl
-source_read units (Err cause) pages f g = absurd (g cause refl)
+-- a document of the tokens, or a refusal at the fault of a token, is what the source is answered
+pub document_is : (units : Units) (answer : Answer) (result : Result (List (List Formula)) DocError)
+    → ((list : List Spanned) → answer ≡ Ok list → IsDocument result (document units plain_codes plain_words (map word_token list)))
+    → ((cause : TokenError) → fault_of answer ≡ Some cause → IsRefusedAt cause result) → IsDocument result (document_by units answer)
+document_is units (Ok list) result f g = f list refl
+document_is units (Err cause) (Ok pages) f g = absurd (g cause refl)
+document_is units (Err cause) (Err e) f g = fault_refuses e cause (g cause refl)
 
 pub weight_more : (read : List (List Formula)) (page : List Formula) → pages_weight (read ++ page ∷ []) ≡ pages_weight read + page_weight page
 weight_more read page = omega (arith, sum_by-append page_weight read (page ∷ []), sum_by-cons page_weight page [])

@@ -144,6 +144,11 @@ IsBeforeFault cause new (Ok (Some page)) = fault_ahead new ≡ Some cause
 IsBeforeFault cause new (Ok None) = ⊥
 IsBeforeFault cause new (Err e) = IsFaultOf cause e
 
+-- where the source has this fault, it is the result, or memory ran out
+abbrev pub IsRefusedAt : TokenError → Result (List (List Formula)) DocError → Type 0
+IsRefusedAt cause (Ok pages) = ⊥
+IsRefusedAt cause (Err e) = IsFaultOf cause e
+
 -- ---- what the parts of a reader leave
 
 -- these pages of the document are still those that were handed out, or it is refused

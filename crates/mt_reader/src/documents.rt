@@ -1,9 +1,14 @@
 //! Documents.
-ghost use Rattle.std.specs.Prelude.{◌≡◌, ◌≤◌, ◌^◌, ◌++◌, ◌∷◌, [], length, IfOk, OnOk};
+ghost use Rattle.std.specs.Prelude.{◌≡◌, ◌≤◌, ◌*◌, ◌^◌, ◌++◌, ◌∷◌, [], length, IfOk, List, OnOk, Some};
 ghost use Rattle.mt_scaled.specs.Number.{Within};
 ghost use Rattle.mt_token.specs.Tokens.{max_source};
+ghost use Rattle.mt_token.specs.declared.token.Token.{Token as TokenFields};
+ghost use Rattle.mt_token.specs.declared.token.TokenError.{TokenError as TokenErrorFields};
 ghost use Rattle.mt_plain.specs.CodeTables.{plain_codes};
+ghost use Rattle.mt_reader.specs.Documents.{document};
+ghost use Rattle.mt_reader.specs.PageReading.{CanGoOn, IsReadOf, fault_ahead, left_to_read};
 ghost use Rattle.mt_reader.specs.Sources.{plain_words, source_document};
+ghost use Rattle.mt_reader.specs.SourceReading.{IsRefusedAt};
 ghost use Rattle.mt_reader.specs.Refusals.{IsDocument};
 ghost use Rattle.mt_reader.specs.Weights.{pages_weight, HaveFewItems, IsModestDocument};
 ghost use Rattle.mt_reader.specs.Tags.{HaveTagsPlaced};
@@ -24,6 +29,27 @@ fn push_page(pages: &mut Vec<Page>, page: Page) -> Result<(), AllocError>
     Ok(())
 }
 
+// The pages of a reader that has handed out none.
+fn read_pages(
+    alloc: Global,
+    units: Units,
+    reader: &mut PageReader<'_>,
+) -> Result<Document, DocError>
+    requires em { Within (2 ^ 31) units.em }
+    requires ex { Within (2 ^ 31) units.ex }
+    requires more { CanGoOn reader.old }
+    ensures is { (tokens : List TokenFields) → IsReadOf units tokens [] reader.old
+        → IsDocument result (document units plain_codes plain_words tokens) }
+    ensures fault { (cause : TokenErrorFields) → fault_ahead reader.old ≡ Some cause → IsRefusedAt cause result }
+    ensures few { IfOk result (λ pages. 2 * pages_weight pages ≤ left_to_read reader.old) }
+{
+    let mut pages = Vec::new(alloc);
+    while let Some(page) = reader.next_page(alloc, units)? {
+        push_page(&mut pages, page.to_page(alloc)?)?;
+    }
+    Ok(Document::from_vec(pages))
+}
+
 // The document of a source that is not too long, by tables with plain TeX's codes and macros.
 fn document_of(
     alloc: Global,
@@ -40,11 +66,7 @@ fn document_of(
     ensures few { IfOk result (λ pages. pages_weight pages ≤ 2 ^ 21) }
 {
     let mut reader = PageReader::new(alloc, tables, bytes);
-    let mut pages = Vec::new(alloc);
-    while let Some(page) = reader.next_page(alloc, units)? {
-        push_page(&mut pages, page.to_page(alloc)?)?;
-    }
-    Ok(Document::from_vec(pages))
+    read_pages(alloc, units, &mut reader)
 }
 
 /// The document of a source: its formulas, page by page, read with plain TeX's codes and macros and with those that the

@@ -1,39 +1,10 @@
-use Rattle.std.proofs.Common.{◌≡◌, ◌++◌, ◌∷◌, [], List, ap, map, subst, sym, arith, ◌∙◌}
-use Rattle.std.specs.Prelude.{Ok}
-use Rattle.std.proofs.lemmas.Result.{err_from_is_err_and}
+use Rattle.std.proofs.Common.{◌∙◌}
 use Rattle.mt_token.specs.Tokens.{source_tokens}
-use Rattle.mt_rules.specs.declared.document.Formula.{Formula}
-use Rattle.mt_reader.specs.PageReading.{IsReadOf}
-use Rattle.mt_reader.specs.Sources.{word_token}
-use Rattle.mt_reader.specs.Weights.{pages_weight}
-use Rattle.mt_reader.proofs.SourceDocuments.{source_read, source_refused, weight_more}
+use Rattle.mt_reader.proofs.SourceDocuments.{document_is}
 use Rattle.mt_reader.proofs.documents.document_of.Goals as goal
-
-pub returns-in_err-page-clause-is : goal.returns-in_err-page-clause-is
-returns-in_err-page-clause-is c =
-    let p = err_from_is_err_and c.from_residual.result c.from_residual.ensures.1 in
-    rw (p.1, p.2)
-    (source_refused c.args.units (source_tokens c.args.bytes.now) _
-    (λ list e. c.in_err-page.ensures.is (map word_token list) c.loop-pages.pages.items (c.loop-pages.invariant.is list e))
-    (λ cause e. c.in_err-page.ensures.fault cause (c.loop-pages.invariant.fault cause e)))
 
 pub returns-clause-is : goal.returns-clause-is
 returns-clause-is c =
-    source_read c.args.units (source_tokens c.args.bytes.now) _
-    (λ list e. (rw c.in_default.is at c.in_ok-page.ensures.is (map word_token list) c.loop-pages.pages.items (c.loop-pages.invariant.is list e)).0 ∙ ap Ok (sym c.from_vec.ensures))
-    (λ cause e. rw c.in_default.is at c.in_ok-page.ensures.fault cause (c.loop-pages.invariant.fault cause e))
-
-pub loop-pages-preserved : goal.loop-pages-preserved
-loop-pages-preserved c =
-    let h = c.loop-pages.invariant in
-    let bounded = rw c.in-Some.is at c.in_ok-page.ensures.more in
-    let pushed : c.push_page.new.pages.items ≡ c.loop-pages.pages.items ++ c.in-Some.page ∷ [] =
-    c.in_ok-push_page.ensures ∙ ap (λ (page : List Formula). c.loop-pages.pages.items ++ page ∷ []) c.in_ok-to_page.ensures in
-    record {
-      is = λ list e.
-          subst (λ (pages : List (List Formula)). IsReadOf c.args.units (map word_token list) pages c.next_page.new.self) (sym pushed)
-          (rw c.in-Some.is at c.in_ok-page.ensures.is (map word_token list) c.loop-pages.pages.items (h.is list e));
-      fault = λ cause e. rw c.in-Some.is at c.in_ok-page.ensures.fault cause (h.fault cause e);
-      more = bounded.more;
-      weight = omega (arith, ap pages_weight pushed, weight_more c.loop-pages.pages.items c.in-Some.page, bounded.weight, h.weight);
-    }
+    document_is c.args.units (source_tokens c.args.bytes.now) c.read_pages.result
+    (λ list e. c.read_pages.ensures.is _ (c.new-reader.ensures.is c.args.units list e))
+    (λ cause e. c.read_pages.ensures.fault cause (c.new-reader.ensures.fault ∙ e))
