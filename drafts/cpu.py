@@ -6,7 +6,7 @@ while True:
         if not p.isdigit(): continue
         try:
             c=open(f'/proc/{p}/comm').read().strip()
-            if c not in('rattle','antt','clang','llc','opt','ld.lld','lld'): 
+            if not c.startswith(('rattle','antt','clang','llc','opt','ld.lld','lld')):
                 continue
             st=open(f'/proc/{p}/stat').read().rsplit(')',1)[1].split()
             cpu=(int(st[11])+int(st[12])+0)/hz; start=st[19]
