@@ -33,8 +33,11 @@ pub enum Mark {
 /// x grows to the right and y upward, in scaled points.
 #[derive(Clone, Copy, Debug, PartialEq, Eq)]
 pub struct Node {
+    /// The offset to the right, in scaled points.
     pub x: i64,
+    /// The offset upward, in scaled points.
     pub y: i64,
+    /// What is at the node.
     pub mark: Mark,
     /// The first node after this one that is not in it, or the end where there is none.
     pub after: NodeId,

@@ -1,4 +1,4 @@
--- What cabinets and sinks stand for.
+-- The states of cabinets and sinks.
 use Rattle.std.specs.Prelude.{◌≡◌, ◌⊎◌, ◌<◌, ℕ, List, length, take, Bool, true, false, Option, Some, None, Contains}
 use Rattle.mt_outside.specs.declared.files.Held.{Held}
 use Rattle.mt_outside.specs.Files.{find_file}
@@ -18,7 +18,7 @@ pub record CabinetState : Type 0 where
 abbrev pub Fails : CabinetState → List ℕ → Type 0
 Fails cabinet name = Contains cabinet.fail (next_count cabinet.calls) ⊎ (find_file cabinet.files name ≡ None)
 
--- a cabinet that tells no files
+-- a cabinet whose files are not known
 pub record FaultState : Type 0 where
   pub faults : ℕ
   pub lost : Option (List ℕ)

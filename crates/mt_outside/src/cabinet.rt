@@ -33,7 +33,7 @@ impl From<AllocError> for FetchError {
 
 /// Gives files by their names.
 pub trait Cabinet {
-    /// The files that it holds, where it tells them.
+    /// The files that it holds, where they are known.
     ghost holds: { Self → Option (List Held) };
 
     /// How often a call failed, up to 2^64 - 1. It never falls.

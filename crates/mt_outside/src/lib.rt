@@ -1,8 +1,8 @@
 //! Where files come from and where bytes go: cabinets and sinks, in memory and over the system.
 //!
-//! What a cabinet holds and what a sink has taken are told where they can be known, so that
-//! contracts can speak of them. A real file or stream tells nothing. Each failure is counted, and
-//! none is taken for an end or for a success.
+//! The contracts of cabinets and sinks in memory say which files they hold and which bytes they have
+//! taken. Those of the system's files and streams cannot. Each failure is counted, and none is taken
+//! for an end or for a success.
 #![tactic(auto)]
 
 mod cabinet;

@@ -15,8 +15,8 @@ pub enum PutError {
 
 /// Takes bytes.
 pub trait Sink {
-    /// The bytes that it has taken, where it tells them. A sink that tells after a call told before
-    /// it.
+    /// The bytes that it has taken, where they are known. Where they are known after a call, they
+    /// were known before it.
     ghost written: { Self → Option (List ℕ) };
 
     /// How often a call failed, up to 2^64 - 1. It never falls.

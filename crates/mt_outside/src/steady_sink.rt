@@ -7,7 +7,7 @@ use crate::{PutError, Sink};
 use std::alloc::{AllocError, Global};
 use std::marker::Model;
 
-/// Bytes in memory; a put never fails. Past its capacity it takes every byte and tells nothing more.
+/// Bytes in memory; a put never fails. Past its capacity it takes every byte, and what it holds is not known.
 #[derive(Debug, Drop)]
 pub struct SteadySink {
     bytes: Vec<u8>,

@@ -1,4 +1,4 @@
-//! A sink over a stream. It tells no bytes; its own clauses say what the stream got.
+//! A sink over a stream. What it holds is not known; its own clauses say what the stream got.
 ghost use Rattle.std.specs.Prelude.{◌≡◌, ◌<◌, ◌≤◌, IfOk, OnErr, None, length, nat_lt};
 ghost use Rattle.std.specs.Io.KnownBytes.{WriteAppends};
 ghost use Rattle.mt_outside.specs.Counts.{WriteLeaves, next_count};

@@ -32,7 +32,7 @@ fault_refuses (Total n count) cause h = elim h [ ]
 fault_refuses (Pages count) cause h = elim h [ ]
 fault_refuses OutOfMemory cause h = tt
 
--- a document of the tokens, or a refusal at the fault of a token, is what the source is answered
+-- the answer for a source is a document of its tokens, or a refusal at the fault of a token
 pub document_is : (units : Units) (answer : Answer) (result : Result (List (List Formula)) DocError)
     → ((list : List Spanned) → answer ≡ Ok list → IsDocument result (document units plain_codes plain_words (map word_token list)))
     → ((cause : TokenError) → fault_of answer ≡ Some cause → IsRefusedAt cause result) → IsDocument result (document_by units answer)

@@ -5,7 +5,7 @@ use Rattle.std.specs.Prelude.{ℕ, List, codes}
 abbrev pub default_line : ℕ
 default_line = 30785863
 
--- the same as a word, as `clap` is told it (the two agree: `proofs/RequestCases.antt`)
+-- the same as a word, for `clap` (the two agree: `proofs/RequestCases.antt`)
 abbrev pub default_line_word : List ℕ
 default_line_word = codes "30785863"
 

@@ -15,7 +15,7 @@ use std::alloc::{AllocError, Global};
 /// The width of a line in sp where the words give none: 6.5in.
 pub const DEFAULT_LINE: i64 = 30_785_863;
 
-// The same, as `clap` is told it.
+// The same as a word, for `clap`.
 const DEFAULT_WORD: &str = "30785863";
 
 fn line_range<'a>() -> ValueParser<'a>
