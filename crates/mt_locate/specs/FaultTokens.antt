@@ -36,13 +36,13 @@ fault_numbers (Pages page) = Some (Page page)
 fault_numbers (Source cause) = None
 fault_numbers OutOfMemory = None
 
-abbrev pub are_told : Numbers → Option Numbers → Bool
-are_told numbers None = false
-are_told numbers (Some found) = is_same found numbers
+abbrev pub are_numbers : Numbers → Option Numbers → Bool
+are_numbers numbers None = false
+are_numbers numbers (Some found) = is_same found numbers
 
 -- whether a fault has these numbers
-abbrev pub is_told : Numbers → DocError → Bool
-is_told numbers fault = are_told numbers (fault_numbers fault)
+abbrev pub has_numbers : Numbers → DocError → Bool
+has_numbers numbers fault = are_numbers numbers (fault_numbers fault)
 
 abbrev pub expand_token : ExpandError → FaultToken
 expand_token (MissingArgument index) = Macro index

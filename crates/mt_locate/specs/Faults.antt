@@ -1,5 +1,5 @@
 -- Where in a source a fault is (`fault_offset`), by the place at which its reading stops.
-use Rattle.std.specs.Prelude.{◌≡◌, ◌+◌, ◌^◌, ℕ, Bool, true, false, List, [], ◌∷◌, map, slice_get, take, Option, Some, None, Result, Ok, Err}
+use Rattle.std.specs.Prelude.{◌≡◌, ◌+◌, ◌^◌, ℕ, Bool, true, false, List, [], ◌∷◌, map, slice_get, take, Option, Some, None, Ok}
 use Rattle.mt_scaled.specs.Number.{Within}
 use Rattle.mt_scaled.specs.declared.unit.Units.{Units}
 use Rattle.mt_token.specs.Tokens.{source_tokens, spanned}
@@ -8,12 +8,10 @@ use Rattle.mt_macro.specs.Expansion.{Expansion, Expanded, NoArgument}
 use Rattle.mt_macro.specs.PlacedExpansion.{Stop, at_call, placed_expansion}
 use Rattle.mt_macro.specs.Table.{Table}
 use Rattle.mt_macro.specs.Traced.{traced_tokens}
-use Rattle.mt_macro.specs.declared.expansion.ExpandError.{ExpandError}
-use Rattle.mt_macro.specs.declared.expansion.ExpandError.TheVariants.{MissingArgument}
-use Rattle.mt_reader.specs.Refusals.{IsRefusal}
-use Rattle.mt_reader.specs.Stops.{AtFormula, AtFault, FormulaTokens, StopPlace, StopReason, formula_from}
+use Rattle.mt_reader.specs.Stops.{AtFormula, AtFault, FormulaTokens, IsReason, StopPlace, StopReason, formula_from}
 use Rattle.mt_reader.specs.declared.document_error.DocError.{DocError}
-use Rattle.mt_locate.specs.FaultTokens.{fault_token, is_told}
+use Rattle.mt_reader.specs.declared.stop.StopCause.TheVariants.{Fault}
+use Rattle.mt_locate.specs.FaultTokens.{fault_token, has_numbers}
 use Rattle.mt_locate.specs.Places.{offset_within}
 use Rattle.mt_locate.specs.Unmatched.{unmatched_token}
 use Rattle.mt_locate.specs.declared.fault_token.FaultToken.{FaultToken}
@@ -51,12 +49,6 @@ expanded_token macros wanted None index = None
 expanded_token macros wanted (Some f) index =
     token_of_list (wanted_tokens wanted (placed_expansion at_call macros f.tokens)) f.closing index
 
--- whether an expansion that ends so has the tokens that are wanted
-abbrev pub has_wanted : Result (Unit {0}) ExpandError → Wanted → Bool
-has_wanted (Ok done) Whole = true
-has_wanted (Err (MissingArgument index)) ToMacro = true
-has_wanted end wanted = false
-
 -- the token of an index of a traced formula
 abbrev pub traced_token : Option TracedFormula → ℕ → Option Token
 traced_token None index = None
@@ -79,17 +71,17 @@ token_offset source (Some t) = offset_within source t.start
 abbrev pub fault_offset : List ℕ → List Token → StopPlace → DocError → Option ℕ
 fault_offset source tokens place fault = token_offset source (token_at tokens place (fault_token fault))
 
--- the offset of a fault, where it is the one that is reported
-abbrev pub told_offset : Bool → Option ℕ → Option ℕ
-told_offset true offset = offset
-told_offset false offset = None
+-- an offset, where this is so
+abbrev pub offset_where : Bool → Option ℕ → Option ℕ
+offset_where true offset = offset
+offset_where false offset = None
 
 -- an offset is that of the fault at which reading stops, where it has these numbers
 abbrev pub IsFaultAt : Option ℕ → Numbers → List ℕ → List Token → StopPlace → StopReason → Type 0
 IsFaultAt found numbers source tokens place AtFormula = found ≡ None
 IsFaultAt found numbers source tokens place (AtFault refusal) =
-    (fault : DocError) × IsRefusal fault (Err refusal)
-    × (found ≡ told_offset (is_told numbers fault) (fault_offset source tokens place fault))
+    (fault : DocError) × IsReason (Fault fault) (AtFault refusal)
+    × (found ≡ offset_where (has_numbers numbers fault) (fault_offset source tokens place fault))
 
 -- there is none where reading does not stop
 abbrev pub IsFaultFound : Option ℕ → Numbers → List ℕ → List Token → Option StopPlace → Type 0

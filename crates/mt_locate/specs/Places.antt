@@ -14,16 +14,16 @@ located_offset (Some located) = Some located.offset
 abbrev pub offset_within : List ℕ → ℕ → Option ℕ
 offset_within source offset = if nat_le offset (length source) then Some offset else None
 
--- the offset of the byte of a fault with this number, where it is the one that is reported, with the cause that is reported
-abbrev pub told_place : List ℕ → Option ℕ → ℕ → ℕ → ℕ → Option ℕ
-told_place source None number offset cause = None
-told_place source (Some at) number offset cause =
+-- the offset of the byte of a fault with this number, where offset and cause are the same
+abbrev pub place_where_same : List ℕ → Option ℕ → ℕ → ℕ → ℕ → Option ℕ
+place_where_same source None number offset cause = None
+place_where_same source (Some at) number offset cause =
     if (at == offset) && (number == cause) then offset_within source at else None
 
-abbrev pub told_fault : List ℕ → Option TokenError → ℕ → ℕ → Option ℕ
-told_fault source None offset cause = None
-told_fault source (Some fault) offset cause = told_place source (token_error_place fault) (token_error_number fault) offset cause
+abbrev pub fault_where_same : List ℕ → Option TokenError → ℕ → ℕ → Option ℕ
+fault_where_same source None offset cause = None
+fault_where_same source (Some fault) offset cause = place_where_same source (token_error_place fault) (token_error_number fault) offset cause
 
 -- the offset of this byte, where the tokens of the source end at it for this cause
 abbrev pub byte_found : List ℕ → ℕ → ℕ → Option ℕ
-byte_found source offset cause = told_fault source (fault_of (source_tokens source)) offset cause
+byte_found source offset cause = fault_where_same source (fault_of (source_tokens source)) offset cause

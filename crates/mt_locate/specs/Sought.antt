@@ -25,6 +25,12 @@ sought_in subject notes = Nothing
 abbrev pub sought_of : Status → Notes → Sought
 sought_of status notes = sought_in (subject_of status) notes
 
+-- the number of the formula that is sought, if one is
+abbrev pub sought_formula : Sought → Option ℕ
+sought_formula (Formula n) = Some n
+sought_formula sought = None
+
+-- whether the numbers of a status are those of a fault
 abbrev pub is_same : Numbers → Numbers → Bool
 is_same (Token n token cause) (Token m index number) = ((n == m) && (token == index)) && (cause == number)
 is_same (OfFormula n) (OfFormula m) = n == m

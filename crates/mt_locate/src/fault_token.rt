@@ -1,6 +1,6 @@
 //! The numbers of a fault of the reading, and the token at which it is.
 ghost use Rattle.std.specs.Prelude.{◌≡◌};
-ghost use Rattle.mt_locate.specs.FaultTokens.{fault_numbers, fault_token, is_told};
+ghost use Rattle.mt_locate.specs.FaultTokens.{fault_numbers, fault_token, has_numbers};
 
 use crate::sought::is_same;
 use mt_macro::ExpandError;
@@ -46,13 +46,10 @@ pub fn fault_numbers(fault: DocError) -> Option<Numbers>
 }
 
 /// Whether a fault has these numbers.
-pub fn is_told(numbers: Numbers, fault: DocError) -> bool
-    ensures { result ≡ is_told numbers fault }
+pub fn has_numbers(numbers: Numbers, fault: DocError) -> bool
+    ensures { result ≡ has_numbers numbers fault }
 {
-    match fault_numbers(fault) {
-        Some(found) => is_same(found, numbers),
-        None => false,
-    }
+    fault_numbers(fault).is_some_and(|found| is_same(found, numbers))
 }
 
 /// At which token a fault of the reading is.

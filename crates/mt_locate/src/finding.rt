@@ -1,31 +1,29 @@
 //! Where in a source a refusal is.
-ghost use Rattle.std.specs.Prelude.{◌≡◌, ◌≤◌, ◌^◌, ◌↔◌, ℕ, List, IfOk, IfSome, IsTrue, None, Ok, Some, length, map};
+ghost use Rattle.std.specs.Prelude.{◌≡◌, ◌≤◌, ◌^◌, ◌↔◌, ℕ, List, IfOk, IfSome, IsTrue, None, Ok, Some, length};
 ghost use Rattle.std.specs.Option.{option_copied};
 ghost use Rattle.mt_scaled.specs.Number.{Within};
 ghost use Rattle.mt_scaled.specs.declared.unit.Units.{Units as UnitFields};
-ghost use Rattle.mt_token.specs.Tokens.{max_source, source_tokens, spanned};
 ghost use Rattle.mt_token.specs.declared.token.Token.{Token as TokenFields};
 ghost use Rattle.mt_plain.specs.CodeTables.{plain_codes};
 ghost use Rattle.mt_plain.specs.PlainMacros.{plain_table};
-ghost use Rattle.mt_reader.specs.Stops.{StopReason, formula_from, stop, stop_view};
+ghost use Rattle.mt_reader.specs.Stops.{IsReason, StopReason, formula_from, stop, stop_view};
 ghost use Rattle.mt_locate.specs.Places.{byte_found, located_offset};
-ghost use Rattle.mt_locate.specs.Faults.{IsFaultFound, IsRead, expanded_token, fault_offset, first_token};
-ghost use Rattle.mt_locate.specs.Faults.{formula_found, told_offset, token_offset};
-ghost use Rattle.mt_locate.specs.FaultTokens.{is_told};
+ghost use Rattle.mt_locate.specs.Faults.{IsFaultAt, IsFaultFound, IsRead, expanded_token, fault_offset};
+ghost use Rattle.mt_locate.specs.Faults.{formula_found, formula_offset, token_offset};
 ghost use Rattle.mt_locate.specs.Sought.{sought_of};
 ghost use Rattle.mt_status.specs.declared.subject.Numbers.{Numbers as NumbersFields};
 ghost use Rattle.mt_locate.specs.declared.sought.Sought.TheVariants.{Byte, Fault, Formula, Nothing};
 
 use crate::definitions::definition_of;
-use crate::fault_token::{FaultToken, fault_token, is_told};
+use crate::fault_token::{FaultToken, fault_token, has_numbers};
 use crate::places::{Definition, FaultyFormula, Located, located_at};
 use crate::sought::{Sought, sought_of};
 use crate::traces::{TracedFormula, Wanted, traced_formula};
 use crate::unmatched::unmatched_token;
 use mt_reader::{DocError, Stop, StopCause, read_to_stop};
 use mt_scaled::{Name, Units};
-use mt_status::{Notes, Numbers, Status};
-use mt_token::{Token, TokenError, TokenList, first_fault, tokens};
+use mt_status::{Notes, Status};
+use mt_token::{Token, TokenError, first_fault, tokens};
 use std::alloc::{AllocError, Global};
 
 /// The greatest size of a unit of a font, in scaled points.
@@ -45,34 +43,28 @@ fn locate_byte(source: &[u8], offset: u64, cause: u8) -> Option<Located>
     None
 }
 
-// A fault at the first of these tokens, where no single token is at fault.
-fn located_first(source: &[u8], tokens: &[Token], fault: Option<DocError>) -> Option<Located>
+// A fault at a token of the source, if there is one.
+fn located_token(source: &[u8], token: Option<&Token>, fault: Option<DocError>) -> Option<Located>
     ensures is { IfSome result (λ located. located.offset ≤ length source.now) }
-    ensures at { located_offset result ≡ token_offset source.now (first_token tokens.now) }
+    ensures at { located_offset result ≡ token_offset source.now (option_copied token.entry) }
 {
-    match tokens {
-        [token, ..] => located_at(source, token.start as usize, fault),
-        [] => None,
-    }
+    located_at(source, token?.start as usize, fault)
 }
 
-// A fault at a token of the source, if there is one.
-fn located_token(
+// A fault at a token of the source, of which a copy is noted.
+fn located_with_token(
     alloc: Global,
     source: &[u8],
-    fault: DocError,
     token: Option<&Token>,
+    fault: DocError,
 ) -> Result<Option<Located>, AllocError>
     ensures is { IfOk result (λ found. IfSome found (λ located. located.offset ≤ length source.now)) }
     ensures at { IfOk result (λ found. located_offset found ≡ token_offset source.now (option_copied token.entry)) }
 {
-    let Some(token) = token else {
+    let (Some(found), Some(mut located)) = (token, located_token(source, token, Some(fault))) else {
         return Ok(None);
     };
-    let Some(mut located) = located_at(source, token.start as usize, Some(fault)) else {
-        return Ok(None);
-    };
-    located.token = Some(token.copied(alloc)?);
+    located.token = Some(found.copied(alloc)?);
     Ok(Some(located))
 }
 
@@ -106,10 +98,7 @@ fn locate_in_formula(
     let Some(traced) = traced_formula(alloc, &stop, wanted)? else {
         return Ok(None);
     };
-    let Some(token) = traced.token_at(index) else {
-        return Ok(None);
-    };
-    let Some(mut located) = located_at(source, token.start as usize, Some(fault)) else {
+    let Some(mut located) = located_token(source, traced.token_at(index), Some(fault)) else {
         return Ok(None);
     };
     let name = macro_name(&stop, &traced, wanted, index);
@@ -140,15 +129,11 @@ fn locate_fault(
 {
     match fault_token(fault) {
         FaultToken::OfSource(index) => {
-            located_token(alloc, source, fault, tokens.get(index as usize))
+            located_with_token(alloc, source, tokens.get(index as usize), fault)
         }
         FaultToken::Unmatched(index) => {
-            located_token(
-                alloc,
-                source,
-                fault,
-                unmatched_token(tokens, index as usize),
-            )
+            let token = unmatched_token(tokens, index as usize);
+            located_with_token(alloc, source, token, fault)
         }
         FaultToken::Expanded(index) => {
             locate_in_formula(alloc, source, fault, stop, Wanted::Expanded, index as usize)
@@ -156,90 +141,35 @@ fn locate_fault(
         FaultToken::Macro(index) => {
             locate_in_formula(alloc, source, fault, stop, Wanted::ToMacro, index as usize)
         }
-        FaultToken::First => Ok(located_first(source, stop.from, Some(fault))),
+        FaultToken::First => Ok(located_token(source, stop.from.first(), Some(fault))),
         FaultToken::Nowhere => Ok(None),
     }
 }
 
-// The same, where the fault has these numbers.
-fn locate_told(
+// What is found where reading stops: the fault, where it has the numbers that are sought, or the first `$` of a formula.
+fn locate_stop(
     alloc: Global,
     source: &[u8],
     tokens: &[Token],
-    numbers: Numbers,
-    fault: DocError,
+    sought: Sought,
     stop: Stop<'_>,
 ) -> Result<Option<Located>, AllocError>
     ensures is { IfOk result (λ found. IfSome found (λ located. located.offset ≤ length source.now)) }
-    ensures at { (reason : StopReason) → IfOk result (λ found. located_offset found
-        ≡ told_offset (is_told numbers fault)
-        (fault_offset source.now tokens.now (stop_view reason stop.entry) fault)) }
+    ensures fault { (numbers : NumbersFields) → (reason : StopReason) → sought ≡ Fault numbers
+        → IsReason stop.entry.cause reason → IfOk result (λ found. IsFaultAt (located_offset found) numbers source.now
+        tokens.now (stop_view reason stop.entry) reason) }
+    ensures formula { (n : ℕ) → (reason : StopReason) → sought ≡ Formula n → IsReason stop.entry.cause reason
+        → IfOk result (λ found. located_offset found
+        ≡ formula_offset source.now (stop_view reason stop.entry) reason) }
 {
-    if is_told(numbers, fault) {
-        locate_fault(alloc, source, tokens, fault, stop)
-    } else {
-        Ok(None)
-    }
-}
-
-// The tokens of a source, if it has them.
-fn source_list(alloc: Global, source: &[u8]) -> Result<Option<TokenList>, AllocError>
-    ensures is { (list : List TokenFields) → source_tokens source.now ≡ Ok (map spanned list)
-        → IfOk result (λ found. found ≡ Some list) }
-    ensures short { IfOk result (λ found. IfSome found (λ list. length list ≤ max_source)) }
-{
-    match tokens(alloc, source) {
-        Ok(list) => Ok(Some(list)),
-        Err(TokenError::OutOfMemory) => Err(AllocError),
-        Err(_) => Ok(None),
-    }
-}
-
-// The fault at which reading stops, where it has these numbers.
-fn locate_reading(
-    alloc: Global,
-    source: &[u8],
-    tokens: &[Token],
-    units: Units,
-    numbers: Numbers,
-) -> Result<Option<Located>, AllocError>
-    requires em { Within (2 ^ 31) units.em }
-    requires ex { Within (2 ^ 31) units.ex }
-    requires short { length tokens.now ≤ max_source }
-    ensures is { IfOk result (λ found. IfSome found (λ located. located.offset ≤ length source.now)) }
-    ensures at { IfOk result (λ found. IsFaultFound (located_offset found) numbers source.now tokens.now
-        (stop units None plain_codes plain_table tokens.now)) }
-{
-    let Some(stop) = read_to_stop(alloc, units, tokens, None)? else {
-        return Ok(None);
-    };
-    match stop.cause {
-        StopCause::Fault(fault) => locate_told(alloc, source, tokens, numbers, fault, stop),
-        StopCause::Formula => Ok(None),
-    }
-}
-
-// The first `$` of a formula.
-fn locate_formula(
-    alloc: Global,
-    source: &[u8],
-    tokens: &[Token],
-    units: Units,
-    n: u32,
-) -> Result<Option<Located>, AllocError>
-    requires em { Within (2 ^ 31) units.em }
-    requires ex { Within (2 ^ 31) units.ex }
-    requires short { length tokens.now ≤ max_source }
-    ensures is { IfOk result (λ found. IfSome found (λ located. located.offset ≤ length source.now)) }
-    ensures at { IfOk result (λ found. located_offset found
-        ≡ formula_found source.now (stop units (Some n) plain_codes plain_table tokens.now)) }
-{
-    let Some(stop) = read_to_stop(alloc, units, tokens, Some(n))? else {
-        return Ok(None);
-    };
-    match stop.cause {
-        StopCause::Formula => Ok(located_first(source, stop.from, None)),
-        StopCause::Fault(_) => Ok(None),
+    match (stop.cause, sought) {
+        (StopCause::Fault(fault), Sought::Fault(numbers)) if has_numbers(numbers, fault) => {
+            locate_fault(alloc, source, tokens, fault, stop)
+        }
+        (StopCause::Formula, Sought::Formula(_)) => {
+            Ok(located_token(source, stop.from.first(), None))
+        }
+        _ => Ok(None),
     }
 }
 
@@ -281,22 +211,24 @@ fn locate_read(
     let Some(units) = usable(units) else {
         return Ok(None);
     };
-    let Some(list) = source_list(alloc, source)? else {
-        return Ok(None);
+    let list = match tokens(alloc, source) {
+        Ok(list) => list,
+        Err(TokenError::OutOfMemory) => return Err(AllocError),
+        Err(_) => return Ok(None),
     };
-    match sought {
-        Sought::Fault(numbers) => locate_reading(alloc, source, list.as_slice(), units, numbers),
-        Sought::Formula(n) => locate_formula(alloc, source, list.as_slice(), units, n),
-        Sought::Byte(..) | Sought::Nothing => Ok(None),
+    let tokens = list.as_slice();
+    match read_to_stop(alloc, units, tokens, sought.formula())? {
+        Some(stop) => locate_stop(alloc, source, tokens, sought, stop),
+        None => Ok(None),
     }
 }
 
-/// Where a refusal is in the source of which its status tells, with what the run noted. A byte and a token outside of
-/// formulas are where they are, but a formula without its end is where the brace is that has no partner. A token of a
-/// formula after expansion is where it is written, and one of a macro's body where the formula calls the macro; behind the
-/// last one it is the closing `$`. A macro that lacks an argument is where the formula calls it, or the macro in whose body
-/// it is. What is wrong with a formula as a whole, a page too many and a place too many are at the first `$` of the
-/// formula. `None` where the status tells of no place in a source, or the source does not have what it tells.
+/// Where in a source the refusal is of which this status and these notes are. A byte or a token outside of formulas is
+/// where it is, and a formula without its end at the brace that has no partner. A token of a formula after expansion is
+/// where it is written, and one of a macro's body where the formula calls the macro; past the last one it is the closing
+/// `$`. A macro that lacks an argument is where the formula calls it, or the macro in whose body it is. What is wrong with
+/// a formula as a whole, a page too many and a place too many are at the first `$` of the formula. `None` where the status
+/// has no place in a source, or the source does not have that fault.
 ///
 /// # Errors
 ///

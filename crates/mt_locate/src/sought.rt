@@ -1,6 +1,6 @@
 //! What of a source is sought.
 ghost use Rattle.std.specs.Prelude.{◌≡◌};
-ghost use Rattle.mt_locate.specs.Sought.{is_same, sought_of};
+ghost use Rattle.mt_locate.specs.Sought.{is_same, sought_formula, sought_of};
 
 use mt_status::{Notes, Numbers, Status, Subject};
 
@@ -15,6 +15,18 @@ pub enum Sought {
     Formula(u32),
     /// Nothing of it.
     Nothing,
+}
+
+impl Sought {
+    /// The number of the formula that is sought, if one is.
+    pub fn formula(self) -> Option<u32>
+        ensures { result ≡ sought_formula self }
+    {
+        match self {
+            Sought::Formula(n) => Some(n),
+            Sought::Byte(..) | Sought::Fault(_) | Sought::Nothing => None,
+        }
+    }
 }
 
 /// What of a source is sought for a status, with the number of the formula that has a place too many as the run noted it.

@@ -2,7 +2,7 @@
 ghost use Rattle.std.specs.Prelude.{◌≡◌, ℕ, IfOk};
 ghost use Rattle.std.specs.Option.{option_copied};
 ghost use Rattle.mt_reader.specs.Stops.{formula_from};
-ghost use Rattle.mt_locate.specs.Faults.{expanded_token, has_wanted, traced_token};
+ghost use Rattle.mt_locate.specs.Faults.{expanded_token, traced_token};
 
 use crate::places::FaultyFormula;
 use mt_macro::{ExpandError, Trace, Traced, trace};
@@ -29,17 +29,6 @@ pub struct TracedFormula<'a> {
     pub tokens: Items<Traced>,
 }
 
-// Whether an expansion ends so that it has the tokens that are wanted.
-fn has_wanted(end: &Result<(), ExpandError>, wanted: Wanted) -> bool
-    ensures { result ≡ has_wanted end.now wanted }
-{
-    match (end, wanted) {
-        (Ok(()), Wanted::Expanded) => true,
-        (Err(ExpandError::MissingArgument(_)), Wanted::ToMacro) => true,
-        _ => false,
-    }
-}
-
 /// The formula at which reading stops, traced; `None` where it has no end, or not the tokens that are wanted.
 ///
 /// # Errors
@@ -57,13 +46,14 @@ pub fn traced_formula<'a>(
         return Ok(None);
     };
     let Trace { tokens, end } = trace(alloc, &stop.tables.macros, formula.tokens)?;
-    if !has_wanted(&end, wanted) {
-        return Ok(None);
+    let tokens = Items::from_vec(tokens);
+    let traced = TracedFormula { formula, tokens };
+    match (end, wanted) {
+        (Ok(()), Wanted::Expanded) | (Err(ExpandError::MissingArgument(_)), Wanted::ToMacro) => {
+            Ok(Some(traced))
+        }
+        _ => Ok(None),
     }
-    Ok(Some(TracedFormula {
-        formula,
-        tokens: Items::from_vec(tokens),
-    }))
 }
 
 impl<'a> TracedFormula<'a> {
