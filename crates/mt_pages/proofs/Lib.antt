@@ -10,6 +10,8 @@ pub mod DisplayLemmas
 pub mod DocumentLemmas
 -- pages that are set and placed one after another
 pub mod SetLemmas
+-- the formula that has the first place too many
+pub mod OverfullLemmas
 -- small sources
 mod Worked
 -- lines of the listing, one after another

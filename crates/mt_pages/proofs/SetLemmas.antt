@@ -1,6 +1,6 @@
 -- Pages that are set and placed one after another, with the first fault held back.
 use Rattle.std.proofs.Common.{◌≡◌, ℕ, ◌+◌, ◌≤◌, false, List, [], ◌∷◌, ◌++◌, length, map, refl, sym, ◌∙◌, ap, subst, arith, ℤ, Option, Some, None, Result, Ok, Err, All, IfSome, nat_lt}
-use Rattle.mt_pages.proofs.Common.{All-append, All-cons, All-nil, append-nil, count_by-le-length, ◌>>=◌, Token, SetValue, units_of, Place, max_dvi_pages, max_places, IsWritable, all_places, Formula, CanGoOn, GoesOn, IsBounded, IsNextPage, IsReadOf, left_to_read, pages_ended, pages_view, ReaderView, document_from, document_of, document_lines, document_pages, no_lines, page_lines, PageLinesValue, source_pages, is_glyph_place, is_rule_place, IsPure, Origin, PureBy, Status, pure_err}
+use Rattle.mt_pages.proofs.Common.{All-append, All-cons, All-nil, append-nil, count_by-le-length, ◌>>=◌, Token, SetValue, units_of, Place, max_dvi_pages, max_places, IsWritable, all_places, Formula, CanGoOn, GoesOn, IsBounded, IsNextPage, IsReadOf, left_to_read, pages_ended, pages_view, ReaderView, document_from, document_of, document_lines, document_overfull, document_pages, no_lines, page_lines, NotesOnly, PageLinesValue, source_overfull, source_pages, is_glyph_place, is_rule_place, IsPure, Origin, PureBy, Status, pure_err}
 use Rattle.std.proofs.lemmas.Bool.Decides.{nat_tests}
 use Rattle.std.proofs.lemmas.List.{append_assoc, length-append}
 use Rattle.mt_dvi.specs.FileOf.{CanTake, IsFileOf}
@@ -21,13 +21,14 @@ use Rattle.mt_pages.specs.inner.Texts.{AreCountsOf, HasRoom}
 use Rattle.mt_pages.specs.declared.summaries.Counts.{Counts}
 use Rattle.mt_pages.specs.inner.Added.{AreFit, CanAdd}
 use Rattle.mt_pages.specs.inner.Placed.{PlacedValue, place_rest}
-use Rattle.mt_pages.specs.inner.SetPages.{AreFormulasOf, ArePagesOf, GoesOnAfter, IsNextOf, IsReadAs, IsReadFrom, PlacesPage, SetsPage, IsTold, KeepsPlaces, count_places, end_of, is_setting, rest_after, rest_pages, append_page}
+use Rattle.mt_pages.specs.inner.SetPages.{AreFormulasOf, ArePagesOf, GoesOnAfter, IsNextOf, IsReadAs, IsReadFrom, PlacesPage, SetsPage, IsTold, KeepsPlaces, count_places, end_of, is_setting, noted_at_end, overfull_after, rest_after, rest_pages, append_page}
 use Rattle.mt_status.specs.Origins.{Told, refusal_origin}
 use Rattle.mt_pages.proofs.PageRefusals.{few_refused}
 use Rattle.mt_pages.specs.declared.pages.FirstFault.{FirstFault}
 use Rattle.mt_pages.specs.declared.pages.FirstFault.TheVariants.{Nothing, Place as HeldPlace, Setting as HeldSetting}
 use Rattle.mt_pages.specs.declared.pages.PageSetter.{PageSetter}
 use Rattle.mt_pages.proofs.DocumentLemmas.{pages_start}
+use Rattle.mt_pages.proofs.OverfullLemmas.{notes_only, overfull_all, overfull_refused, overfull_start}
 use Rattle.mt_pages.proofs.PageLemmas.{all_places_length}
 
 -- ---- the pages of a source
@@ -41,6 +42,9 @@ module _ (set : SetValue) (width : ℤ) (source : List ℕ) where
     is = λ rest.
         pages_start set width rest
         ∙ sym (ap (λ (h : FirstFault). rest_after set width [] s.room h rest) held ∙ ap (λ (n : ℕ). rest_pages set width (Ok (record { pages = []; room = n })) rest) room);
+    overfull = λ rest.
+        overfull_start set width rest
+        ∙ sym (ap (λ (h : FirstFault). overfull_after set width s.room h rest) held ∙ ap (λ (n : ℕ). overfull_after set width n Nothing rest) room);
     told = subst IsTold (sym held) tt;
     few = omega arith;
     room = omega (arith, room);
@@ -56,10 +60,11 @@ module _ (set : SetValue) (width : ℤ) (source : List ℕ) where
 
   -- one page more
   pub are_more : (pages : List (List Place)) (read : List (List Formula)) (page : List Formula) (old mid new : PageSetter) (places : Option (List Place))
-      → ((rest : List (List Formula)) → document_pages set width (read ++ rest) ≡ rest_after set width pages old.room old.held rest) → IsTold old.held → length pages ≤ pages_ended old.reader → length (all_places pages) + old.room ≡ max_places
+      → ((rest : List (List Formula)) → document_pages set width (read ++ rest) ≡ rest_after set width pages old.room old.held rest)
+      → ((rest : List (List Formula)) → document_overfull set width (read ++ rest) ≡ overfull_after set width old.room old.held rest) → IsTold old.held → length pages ≤ pages_ended old.reader → length (all_places pages) + old.room ≡ max_places
       → IsReadFrom set source (read ++ page ∷ []) mid.reader → pages_ended mid.reader ≡ pages_ended old.reader + 1 → KeepsPlaces old mid → SetsPage set width page mid new places → pages_view new.reader ≡ pages_view mid.reader
       → ArePagesOf set width source (append_page pages places) new
-  are_more pages read page old mid new places is told few room reader ended keeps done kept = record {
+  are_more pages read page old mid new places is over told few room reader ended keeps done kept = record {
     read = read ++ page ∷ [];
     reader = subst (λ (v : ReaderView). IsReadAs (units_of set) (source_tokens source) (read ++ page ∷ []) v) (sym kept) reader;
     is = λ rest.
@@ -67,6 +72,11 @@ module _ (set : SetValue) (width : ℤ) (source : List ℕ) where
         ∙ (is (page ∷ rest)
         ∙ (sym (ap (λ (n : ℕ). rest_after set width pages n mid.held (page ∷ rest)) keeps.room ∙ ap (λ (h : FirstFault). rest_after set width pages old.room h (page ∷ rest)) keeps.held)
         ∙ done.is pages rest));
+    overfull = λ rest.
+        ap (document_overfull set width) (append_assoc read (page ∷ []) rest)
+        ∙ (over (page ∷ rest)
+        ∙ (sym (ap (λ (n : ℕ). overfull_after set width n mid.held (page ∷ rest)) keeps.room ∙ ap (λ (h : FirstFault). overfull_after set width old.room h (page ∷ rest)) keeps.held)
+        ∙ done.overfull rest));
     told = done.told (subst IsTold (sym keeps.held) told);
     few = omega (arith, with_none pages places (pages_ended old.reader) few, ended, ap (λ (v : ReaderView). v.state.ended) kept);
     room = with_room pages places mid.room new.room (omega (arith, room, keeps.room)) done.room;
@@ -90,6 +100,13 @@ module _ (set : SetValue) (width : ℤ) (source : List ℕ) where
       → result ≡ end_of s.held → IsNextOf set width source pages new result
   next_end pages s new result are all ends = subst (λ (r : Result (Option (List Place)) Status). IsNextOf set width source pages new r) (sym ends) (end_by pages s.room s.held new are.told (are_all pages s are all))
 
+  -- the formula that is noted at the end
+  pub next_overfull : (pages : List (List Place)) (s : PageSetter) (formula : Option ℕ) (are : ArePagesOf set width source pages s) → document_of set source ≡ Ok are.read
+      → formula ≡ noted_at_end s.held → NotesOnly (source_overfull set width source) formula
+  next_overfull pages s formula are all noted =
+      notes_only (source_overfull set width source) formula
+      (overfull_all set width source are.read s.room s.held all (ap (document_overfull set width) (sym (append-nil are.read)) ∙ are.overfull []) ∙ sym noted)
+
 -- ---- a page that is not set
 
 refused_rest : (set : SetValue) (width : ℤ) (placed : Result PlacedValue Status) (page : List Formula) (rest : List (List Formula)) (status : Status) → page_lines set width no_lines page ≡ Err status
@@ -108,6 +125,7 @@ pub setting_held : (set : SetValue) (width : ℤ) (page : List Formula) (room : 
     → IsPure (page_lines set width no_lines page) (Err status) → PlacesPage set width page room held room (HeldSetting status) None
 setting_held set width page room held status others told is = record {
   is = refused_after set width page room held status others (subst (λ (o : Origin). PureBy o (page_lines set width no_lines page ≡ Err status)) told is);
+  overfull = overfull_refused set width page room held status (subst (λ (o : Origin). PureBy o (page_lines set width no_lines page ≡ Err status)) told is);
   told = λ before. few_refused set width page status is told;
   room = omega arith;
 }
@@ -170,7 +188,7 @@ are_set set w v source pages page old mid new found got places e are some formul
     let reader : IsReadFrom set source (are.read ++ page ∷ []) mid.reader = subst (λ (o : Option (List Formula)). AreFormulasOf set source are.read mid (Ok o)) some (formulas source are.read are.reader) in
     let bounded : IsBounded old.reader mid.reader page = subst (λ (o : Option (List Formula)). GoesOn old.reader mid.reader (Ok o)) some more in
     let at : SetsPage set v page mid new places = subst (λ (x : ℤ). SetsPage set x page mid new places) e (subst (λ (o : Option (List Place)). SetsPage set w page mid new o) is done) in
-    are_more set v source pages are.read page old mid new places are.is are.told are.few are.room reader bounded.ended keeps at kept
+    are_more set v source pages are.read page old mid new places are.is are.overfull are.told are.few are.room reader bounded.ended keeps at kept
 
 pub record GoesOnIn (first new : PageSetter) : Type 0 where
   pub more : CanGoOn new.reader
@@ -196,6 +214,9 @@ next_none set w v source pages new found e none is =
 
 pub next_refused : (set : SetValue) (w v : ℤ) (source : List ℕ) (status : Status) → w ≡ v → IsPure (source_pages set w source) (Err status) → IsPure (source_pages set v source) (Err status)
 next_refused set w v source status e is = subst (λ (x : ℤ). IsPure (source_pages set x source) (Err status)) e is
+
+pub next_noted : (set : SetValue) (w v : ℤ) (source : List ℕ) (formula : Option ℕ) → w ≡ v → NotesOnly (source_overfull set w source) formula → NotesOnly (source_overfull set v source) formula
+next_noted set w v source formula e is = subst (λ (x : ℤ). NotesOnly (source_overfull set x source) formula) e is
 
 -- ---- the pages that were added
 

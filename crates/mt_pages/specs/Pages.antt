@@ -1,5 +1,6 @@
--- The pages of a source (`source_pages`): the lines of all formulas, then the places of these lines, page by page.
-use Rattle.std.specs.Prelude.{ℕ, ◌+◌, ◌-◌, ℤ, List, [], ◌∷◌, ◌++◌, length, replicate, get_or, Option, Some, None, Result, Ok, Err}
+-- The pages of a source (`source_pages`): the lines of all formulas, then the places of these lines, page by page. And the formula
+-- that has the first place too many (`source_overfull`).
+use Rattle.std.specs.Prelude.{◌≡◌, ⊤, ℕ, ◌+◌, ◌-◌, ℤ, List, [], ◌∷◌, ◌++◌, length, replicate, get_or, Option, Some, None, Result, Ok, Err}
 use Rattle.mt_scaled.specs.Results.{◌>>=◌}
 use Rattle.mt_family.specs.SetValue.{SetValue}
 use Rattle.mt_box.specs.declared.place.Place.{Place}
@@ -91,3 +92,33 @@ unfoldable pub source_pages : SetValue → ℤ → List ℕ → Result (List (Li
 source_pages set width bytes = do
   document ← document_of set bytes
   document_pages set width document
+
+-- what is found in a value; where there is a refusal, nothing
+abbrev pub found_in : {T : Type 0} → Result T Status → (T → Option ℕ) → Option ℕ
+found_in (Ok x) find = find x
+found_in (Err status) find = None
+
+-- what is found behind the places of a page; where it has a fault, that is the formula of the page
+abbrev pub unless_placed : Result (List Place) Status → Option ℕ → (List Place → Option ℕ) → Option ℕ
+unless_placed (Ok places) formula find = find places
+unless_placed (Err status) formula find = formula
+
+-- The formula of pages that has the first place for which there is no room, where that is their first fault. There is as much
+-- room on a page as the pages before it leave.
+abbrev pub pages_overfull : ℕ → List PageLinesValue → Option ℕ
+pages_overfull room [] = None
+pages_overfull room (page ∷ pages) =
+    unless_placed (page_places room page) (page_overfull room page) (λ places. pages_overfull (room - length places) pages)
+
+-- the same of a document: all its formulas are set before a place is found
+unfoldable pub document_overfull : SetValue → ℤ → List (List Formula) → Option ℕ
+document_overfull set width document = found_in (document_lines set width document) (λ pages. pages_overfull max_places pages)
+
+-- the same of a source
+unfoldable pub source_overfull : SetValue → ℤ → List ℕ → Option ℕ
+source_overfull set width bytes = found_in (document_of set bytes) (λ document. document_overfull set width document)
+
+-- a formula that is noted is this one
+abbrev pub NotesOnly : Option ℕ → Option ℕ → Type 0
+NotesOnly overfull None = ⊤
+NotesOnly overfull (Some n) = overfull ≡ Some n

@@ -3,10 +3,10 @@ ghost use Rattle.std.specs.Prelude.{◌≡◌, ◌++◌, ◌∷◌, [], List, No
 ghost use Rattle.mt_box.specs.declared.place.Place.{Place as PlaceFields};
 ghost use Rattle.mt_family.specs.SetValue.{SetValue};
 ghost use Rattle.mt_pages.specs.LineWidth.{IsLineWidth};
-ghost use Rattle.mt_pages.specs.Pages.{source_pages};
+ghost use Rattle.mt_pages.specs.Pages.{NotesOnly, source_overfull, source_pages};
 ghost use Rattle.mt_status.specs.Notes.{NotesFault};
 ghost use Rattle.mt_pages.specs.inner.Added.{AddsPages, CanAdd};
-ghost use Rattle.mt_pages.specs.inner.SetPages.{ArePagesOf, IsStart};
+ghost use Rattle.mt_pages.specs.inner.SetPages.{ArePagesOf, IsAtStart};
 ghost use Rattle.mt_reader.specs.PageReading.{CanGoOn};
 
 use crate::pages::PageSetter;
@@ -39,7 +39,7 @@ fn add_all<S: PageSink>(
     notes: &mut Notes,
 ) -> Result<(), Status>
     requires width { IsLineWidth width }
-    requires start { IsStart fonts.now width setter.old }
+    requires start { IsAtStart fonts.now width setter.old }
     requires more { CanGoOn setter.old.reader }
     requires none { notes.old.formula ≡ None }
     requires empty { S.HasPages fonts.now [] sink.old }
@@ -47,6 +47,8 @@ fn add_all<S: PageSink>(
         → AddsPages fonts.now (S.HasPages fonts.now) (source_pages fonts.now width source) result sink.new }
     ensures units { notes.new.units ≡ notes.old.units }
     ensures formula { NotesFault result notes.new.formula }
+    ensures overfull { (source : List ℕ) → ArePagesOf fonts.now width source [] setter.old
+        → NotesOnly (source_overfull fonts.now width source) notes.new.formula }
 {
     while let Some(page) = setter.next_page(alloc, fonts, width, notes)? {
         sink.add(fonts, page)?;
@@ -73,6 +75,7 @@ pub fn add_pages<S: PageSink>(
     ensures is { AddsPages fonts.now (S.HasPages fonts.now) (source_pages fonts.now width source.now) result sink.new }
     ensures units { notes.new.units ≡ notes.old.units }
     ensures formula { NotesFault result notes.new.formula }
+    ensures overfull { NotesOnly (source_overfull fonts.now width source.now) notes.new.formula }
 {
     notes.formula = None;
     // Never: a source is no longer than its fetch allows.

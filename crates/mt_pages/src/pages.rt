@@ -12,13 +12,14 @@ ghost use Rattle.mt_reader.specs.Sources.{plain_words};
 ghost use Rattle.mt_reader.specs.Views.{pages_view};
 ghost use Rattle.mt_reader.specs.Weights.{HasModestLists, page_weight};
 ghost use Rattle.mt_pages.specs.Pages.{PageLinesValue, no_lines, page_lines, page_overfull, page_places};
-ghost use Rattle.mt_pages.specs.Pages.{overfull_formula, stack_refusal};
+ghost use Rattle.mt_pages.specs.Pages.{NotesOnly, overfull_formula, source_overfull, stack_refusal};
 ghost use Rattle.mt_status.specs.Notes.{NotesFault, has_too_many_places};
 ghost use Rattle.mt_pages.specs.LineWidth.{IsLineWidth};
 ghost use Rattle.mt_pages.specs.inner.Lines.{IsPage, IsStackable, LinesHold};
 ghost use Rattle.mt_pages.specs.inner.Placed.{IsToldAnswer, overfull_of, place_fault, status_of};
 ghost use Rattle.mt_pages.specs.inner.SetPages.{AreFormulasOf, ArePagesOf, GoesOnAfter, IsNextOf, IsReadFrom};
 ghost use Rattle.mt_pages.specs.inner.SetPages.{IsTold, SetsPage, KeepsPlaces, end_of, is_nothing, is_setting};
+ghost use Rattle.mt_pages.specs.inner.SetPages.{noted_at_end};
 
 use crate::document::document_refusal;
 use crate::page_lines::{PageLines, page_lines};
@@ -264,6 +265,7 @@ impl<'a> PageSetter<'a> {
         ensures is { result ≡ end_of self.old.held }
         ensures units { notes.new.units ≡ notes.old.units }
         ensures formula { IsTold self.old.held → NotesFault result notes.new.formula }
+        ensures overfull { notes.new.formula ≡ noted_at_end self.old.held }
     {
         match mem::replace(&mut self.held, FirstFault::Nothing) {
             FirstFault::Nothing => Ok(None),
@@ -307,6 +309,9 @@ impl<'a> PageSetter<'a> {
         ensures units { notes.new.units ≡ notes.old.units }
         ensures formula { (source : List ℕ) → (pages : List (List PlaceFields))
             → ArePagesOf fonts.now width source pages self.old → NotesFault result notes.new.formula }
+        ensures overfull { (source : List ℕ) → (pages : List (List PlaceFields))
+            → ArePagesOf fonts.now width source pages self.old
+            → NotesOnly (source_overfull fonts.now width source) notes.new.formula }
     {
         while let Some(page) = self.formulas(alloc, fonts)? {
             if let Some(places) = self.set_and_recycle(alloc, fonts, width, page)? {

@@ -7,7 +7,7 @@ ghost use Rattle.mt_pages.specs.LineWidth.{IsLineWidth};
 ghost use Rattle.mt_status.specs.Notes.{NotesFault};
 ghost use Rattle.mt_status.specs.Origins.{IsPure};
 ghost use Rattle.mt_pages.specs.Output.{IsFileOfSource, listed, summed_up};
-ghost use Rattle.mt_pages.specs.Pages.{source_pages};
+ghost use Rattle.mt_pages.specs.Pages.{NotesOnly, source_overfull, source_pages};
 
 use crate::listings::ListingText;
 use crate::page_sink::{PageSink, add_pages};
@@ -45,6 +45,7 @@ pub fn source_file(
     ensures is { IsFileOfSource fonts.now (source_pages fonts.now width source.now) result }
     ensures units { notes.new.units ≡ notes.old.units }
     ensures formula { NotesFault result notes.new.formula }
+    ensures overfull { NotesOnly (source_overfull fonts.now width source.now) notes.new.formula }
 {
     notes.formula = None;
     let mut file = DviFile::new(alloc, fonts)?;
@@ -98,6 +99,7 @@ pub fn source_listing(
     ensures is { IsPure (listed (source_pages fonts.now width source.now)) result }
     ensures units { notes.new.units ≡ notes.old.units }
     ensures formula { NotesFault result notes.new.formula }
+    ensures overfull { NotesOnly (source_overfull fonts.now width source.now) notes.new.formula }
 {
     let mut text = ListingText::new(alloc);
     add_pages(&mut text, alloc, fonts, width, source, notes)?;
@@ -121,6 +123,7 @@ pub fn source_summary(
     ensures is { IsPure (summed_up formulas (source_pages fonts.now width source.now)) result }
     ensures units { notes.new.units ≡ notes.old.units }
     ensures formula { NotesFault result notes.new.formula }
+    ensures overfull { NotesOnly (source_overfull fonts.now width source.now) notes.new.formula }
 {
     let mut counts = Counts::new();
     add_pages(&mut counts, alloc, fonts, width, source, notes)?;

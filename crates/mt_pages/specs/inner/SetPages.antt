@@ -17,7 +17,7 @@ use Rattle.mt_reader.specs.Sources.{word_token}
 use Rattle.mt_reader.specs.Views.{ReaderView, pages_view}
 use Rattle.mt_reader.specs.declared.page_reader.PageReader.{PageReader}
 use Rattle.mt_pages.specs.Documents.{document_of}
-use Rattle.mt_pages.specs.Pages.{document_lines, document_pages, source_pages}
+use Rattle.mt_pages.specs.Pages.{document_lines, document_overfull, document_pages, found_in, pages_overfull, source_pages}
 use Rattle.mt_pages.specs.inner.Placed.{IsToldFault, PlacedValue, place_rest}
 use Rattle.mt_pages.specs.declared.pages.FirstFault.{FirstFault}
 use Rattle.mt_pages.specs.declared.pages.FirstFault.TheVariants.{Nothing, Place as HeldPlace, Setting as HeldSetting}
@@ -51,6 +51,12 @@ end_of Nothing = Ok None
 end_of (HeldPlace fault) = Err fault.status
 end_of (HeldSetting status) = Err status
 
+-- the formula that is noted where nothing more is read
+abbrev pub noted_at_end : FirstFault → Option ℕ
+noted_at_end Nothing = None
+noted_at_end (HeldPlace fault) = fault.formula
+noted_at_end (HeldSetting status) = None
+
 -- these pages of the document of a source of these tokens were handed out; or the source has this fault of a token, which is ahead
 abbrev pub IsReadAs : Units → Answer → List (List Formula) → ReaderView → Type 0
 IsReadAs units (Ok list) read r = reading.IsReadOf units (map word_token list) read r
@@ -70,17 +76,24 @@ rest_after set width pages room Nothing rest = rest_pages set width (Ok (record 
 rest_after set width pages room (HeldPlace fault) rest = rest_pages set width (Err fault.status) rest
 rest_after set width pages room (HeldSetting status) rest = Err status
 
+-- the formula that has the first place too many, where the pages that are left are placed in so much room, or by the fault that is held back
+abbrev pub overfull_after : SetValue → ℤ → ℕ → FirstFault → List (List Formula) → Option ℕ
+overfull_after set width room Nothing rest = found_in (document_lines set width rest) (λ lines. pages_overfull room lines)
+overfull_after set width room (HeldPlace fault) rest = found_in (document_lines set width rest) (λ lines. fault.formula)
+overfull_after set width room (HeldSetting status) rest = None
+
 -- these pages of the source were handed out; where it has a fault of a token, that is ahead
 pub record ArePagesOf (fonts : SetValue) (width : ℤ) (source : List ℕ) (pages : List (List Place)) (s : PageSetter) : Type 0 where
   pub read : List (List Formula)
   pub reader : IsReadFrom fonts source read s.reader
   pub is : (rest : List (List Formula)) → document_pages fonts width (read ++ rest) ≡ rest_after fonts width pages s.room s.held rest
+  pub overfull : (rest : List (List Formula)) → document_overfull fonts width (read ++ rest) ≡ overfull_after fonts width s.room s.held rest
   pub told : IsTold s.held
   pub few : length pages ≤ pages_ended s.reader
   pub room : length (all_places pages) + s.room ≡ max_places
 
 -- the setter has handed out no page of its source
-pub record IsStart (fonts : SetValue) (width : ℤ) (s : PageSetter) : Type 0 where
+pub record IsAtStart (fonts : SetValue) (width : ℤ) (s : PageSetter) : Type 0 where
   pub source : List ℕ
   pub are : ArePagesOf fonts width source [] s
 
@@ -107,6 +120,7 @@ count_places (Some places) = length places
 pub record PlacesPage (fonts : SetValue) (width : ℤ) (page : List Formula) (old_room : ℕ) (old_held : FirstFault) (new_room : ℕ) (new_held : FirstFault) (places : Option (List Place)) : Type 0 where
   pub is : (pages : List (List Place)) (rest : List (List Formula))
       → rest_after fonts width pages old_room old_held (page ∷ rest) ≡ rest_after fonts width (append_page pages places) new_room new_held rest
+  pub overfull : (rest : List (List Formula)) → overfull_after fonts width old_room old_held (page ∷ rest) ≡ overfull_after fonts width new_room new_held rest
   pub told : IsTold old_held → IsTold new_held
   pub room : count_places places + new_room ≡ old_room
 

@@ -1,7 +1,8 @@
 use Rattle.std.proofs.Common.{[], to_z-of_z, ◌∷◌, ◌++◌, ◌∙◌, ap, refl}
 use Rattle.mt_status.specs.Notes.{is_noted}
 use Rattle.mt_pages.proofs.Common.{err_from_is_err_and}
-use Rattle.mt_pages.proofs.SetLemmas.{handed_out, next_none, next_refused, none_fit}
+use Rattle.mt_pages.proofs.OverfullLemmas.{notes_none}
+use Rattle.mt_pages.proofs.SetLemmas.{handed_out, next_none, next_noted, next_refused, none_fit}
 use Rattle.mt_pages.proofs.page_sink.add_all.Goals as goal
 
 pub loop-page-init : goal.loop-page-init
@@ -75,3 +76,18 @@ returns-clause-formula g c =
     let start = c.requires.start in
     let so = c.loop-page.invariant.so_far start.source (rw (to_z-of_z c.ranges.width) start.are) in
     c.in_ok-page.ensures.formula start.source so.pages so.are
+
+pub returns-in_err-page-clause-overfull : goal.returns-in_err-page-clause-overfull
+returns-in_err-page-clause-overfull g c = λ source are.
+    let so = c.loop-page.invariant.so_far source (rw (to_z-of_z c.ranges.width) are) in
+    next_noted c.args.fonts.now _ c.args.width source _ (to_z-of_z c.ranges.width) (c.in_err-page.ensures.overfull source so.pages so.are)
+
+pub returns-in_err-add-clause-overfull : goal.returns-in_err-add-clause-overfull
+returns-in_err-add-clause-overfull g c = λ source are.
+    let so = c.loop-page.invariant.so_far source (rw (to_z-of_z c.ranges.width) are) in
+    notes_none _ _ (c.in_ok-page.ensures.formula source so.pages so.are)
+
+pub returns-clause-overfull : goal.returns-clause-overfull
+returns-clause-overfull g c = λ source are.
+    let so = c.loop-page.invariant.so_far source (rw (to_z-of_z c.ranges.width) are) in
+    notes_none _ _ (c.in_ok-page.ensures.formula source so.pages so.are)

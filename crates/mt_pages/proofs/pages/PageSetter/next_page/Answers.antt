@@ -1,7 +1,7 @@
 use Rattle.std.proofs.Common.{ap, refl, subst, sym, to_z-of_z, ◌∙◌, List, Option, Some, None, Ok}
 use Rattle.mt_pages.proofs.Common.{err_from_is_err_and, Formula}
-use Rattle.mt_pages.specs.inner.SetPages.{AreFormulasOf, IsTold, end_of}
-use Rattle.mt_pages.proofs.SetLemmas.{are_set, go_set, kept_at, next_end, source_err}
+use Rattle.mt_pages.specs.inner.SetPages.{AreFormulasOf, IsTold, end_of, noted_at_end}
+use Rattle.mt_pages.proofs.SetLemmas.{are_set, go_set, kept_at, next_end, next_overfull, source_err}
 use Rattle.mt_pages.proofs.pages.PageSetter.next_page.Goals as goal
 
 pub returns-in_err-page-clause-is : goal.returns-in_err-page-clause-is
@@ -42,3 +42,11 @@ returns-clause-formula c =
     λ source pages are.
     let a = kept_at c.args.fonts.now _ c.args.width c.args.self.now c.loop-page.self (to_z-of_z c.ranges.width) c.loop-page.invariant.is source pages are in
     c.end.ensures.formula (subst IsTold (sym c.in_ok-page.ensures.keeps.held) a.told)
+
+pub returns-clause-overfull : goal.returns-clause-overfull
+returns-clause-overfull c =
+    λ source pages are.
+    let a = kept_at c.args.fonts.now _ c.args.width c.args.self.now c.loop-page.self (to_z-of_z c.ranges.width) c.loop-page.invariant.is source pages are in
+    next_overfull c.args.fonts.now c.args.width source pages c.loop-page.self _ a
+    (subst (λ (o : Option (List Formula)). AreFormulasOf c.args.fonts.now source a.read c.formulas.new.self (Ok o)) c.in_default.is (c.in_ok-page.ensures.is source a.read a.reader))
+    (c.end.ensures.overfull ∙ ap noted_at_end c.in_ok-page.ensures.keeps.held)
