@@ -4,6 +4,7 @@ use Rattle.std.specs.Prelude.{◌&&◌, Option, Some, None, Result, Ok, Err}
 use Rattle.mt_family.specs.SetValue.{SetValue}
 use Rattle.mt_family.specs.Sets.{units_of}
 use Rattle.mt_outside.specs.declared.files.Held.{Held}
+use Rattle.mt_pages.specs.Pages.{NotesOnly, found_in}
 use Rattle.mt_scaled.specs.declared.unit.Units.{Units}
 use Rattle.mt_status.specs.Notes.{NotesFault, has_too_many_places, is_noted, is_too_many}
 use Rattle.mt_status.specs.declared.status.Status.{Status}
@@ -15,7 +16,7 @@ use Rattle.mathset.specs.Noted.{AreUnitsIn, AreUnitsOf, is_refused_source, refus
 use Rattle.mathset.specs.Outcome.{Outcome}
 use Rattle.mathset.specs.Product.{Product}
 use Rattle.mathset.specs.inner.Runs.{EndLeaves, LeavesOutput}
-use Rattle.mathset.specs.inner.Steps.{IsMade}
+use Rattle.mathset.specs.inner.Steps.{CabinetValue, IsMade, StepLeaves}
 
 -- a formula is noted exactly where the answer is that there are too many places
 pub noted_by : {T : Type 0} (result : Result T Status) (formula : Option ℕ) → NotesFault result formula → is_noted formula ≡ is_too_many result
@@ -25,6 +26,12 @@ noted_by (Err status) formula is = is
 -- the em and the ex of fonts that a step gave
 pub units_in : (answer : Result SetValue Status) (fonts : SetValue) (units : Units) → answer ≡ Ok fonts → units ≡ units_of fonts → AreUnitsIn answer (Some units)
 units_in answer fonts units same is = subst (λ (r : Result SetValue Status). AreUnitsIn r (Some units)) (sym same) is
+
+-- a formula that is noted is found in what a step gave
+pub notes_found : {T : Type 0} (before now : CabinetValue) (steps : List Held → Outcome T) (x : T) (find : T → Option ℕ) (formula : Option ℕ) (files : List Held) → StepLeaves before now steps (Ok x) → before.holds ≡ Some files
+    → NotesOnly (find x) formula → NotesOnly (found_in (steps files).result find) formula
+notes_found before now steps x find formula files step told only =
+    subst (λ (r : Result _ Status). NotesOnly (found_in r find) formula) (sym (step.origin.1 files told)) only
 
 written_few : {K : Type 0} (written : K → Option (List ℕ)) (writes : K → ℕ) (product : Product) (out out' : K) (status : Status) → LeavesOutput written writes product out out' status
     → has_too_many_places status ≡ false

@@ -2,7 +2,9 @@
 ghost use Rattle.std.specs.Prelude.{◌≡◌, ◌&&◌, IsSome, List, None, Some, true};
 ghost use Rattle.mt_outside.specs.declared.files.Held.{Held};
 ghost use Rattle.mathset.specs.FontSteps.{font_set_step};
-ghost use Rattle.mathset.specs.Noted.{AreUnitsIn, AreUnitsOf, is_refused_source, sets_source};
+ghost use Rattle.mathset.specs.Noted.{AreUnitsIn, AreUnitsOf, is_refused_source, request_overfull};
+ghost use Rattle.mathset.specs.Noted.{sets_source, words_overfull};
+ghost use Rattle.mt_pages.specs.Pages.{NotesOnly};
 ghost use Rattle.mathset.specs.inner.Steps.{IsMade, text_of};
 ghost use Rattle.mathset.specs.Steps.{gen_answer, places_steps, request_steps, set_steps};
 ghost use Rattle.mt_status.specs.Notes.{NotesFault, is_noted, is_too_many};
@@ -34,6 +36,8 @@ fn set<C: Cabinet>(
         → AreUnitsIn (font_set_step words.now.fonts files).result notes.new.units }
     ensures noted { is_refused_source result ≡ true → IsSome notes.new.units }
     ensures formula { NotesFault result notes.new.formula }
+    ensures overfull { (files : List Held) → C.holds cabinet.old ≡ Some files
+        → NotesOnly (words_overfull words.now files) notes.new.formula }
 {
     typeset(alloc, words, Form::File, cabinet, notes)
 }
@@ -52,6 +56,8 @@ fn places<C: Cabinet>(
         → AreUnitsIn (font_set_step words.now.fonts files).result notes.new.units }
     ensures noted { is_refused_source result ≡ true → IsSome notes.new.units }
     ensures formula { NotesFault result notes.new.formula }
+    ensures overfull { (files : List Held) → C.holds cabinet.old ≡ Some files
+        → NotesOnly (words_overfull words.now files) notes.new.formula }
 {
     typeset(alloc, words, Form::Listing, cabinet, notes)
 }
@@ -81,6 +87,8 @@ pub fn perform<C: Cabinet>(
         → IsSome notes.new.units }
     ensures formula { is_noted notes.new.formula
         ≡ (sets_source (Some request.now) && is_too_many result) }
+    ensures overfull { (files : List Held) → C.holds cabinet.old ≡ Some files
+        → NotesOnly (request_overfull (Some request.now) files) notes.new.formula }
 {
     match request {
         Request::Set(words) => set(alloc, words, cabinet, notes),

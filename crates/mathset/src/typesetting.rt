@@ -3,9 +3,10 @@ ghost use Rattle.std.specs.Prelude.{◌≡◌, ◌≤◌, IsSome, List, None, So
 ghost use Rattle.mt_outside.specs.declared.files.Held.{Held};
 ghost use Rattle.mt_status.specs.Notes.{NotesFault};
 ghost use Rattle.mt_pages.specs.LineWidth.{IsLineWidth};
+ghost use Rattle.mt_pages.specs.Pages.{NotesOnly, source_overfull};
 ghost use Rattle.mt_pages.specs.Typeset.{typeset_of};
 ghost use Rattle.mathset.specs.FontSteps.{font_set_step};
-ghost use Rattle.mathset.specs.Noted.{AreUnitsIn, is_refused_source};
+ghost use Rattle.mathset.specs.Noted.{AreUnitsIn, file_overfull, is_refused_source, words_overfull};
 ghost use Rattle.mathset.specs.inner.Forms.{IsPutOut, IsTypesetStep};
 ghost use Rattle.mathset.specs.Steps.{source_step, typeset_steps};
 
@@ -44,6 +45,7 @@ fn source_in_form(
     ensures is { IsPutOut form (typeset_of fonts.now width source.now) result }
     ensures units { notes.new.units ≡ notes.old.units }
     ensures formula { NotesFault result notes.new.formula }
+    ensures overfull { NotesOnly (source_overfull fonts.now width source.now) notes.new.formula }
 {
     match form {
         Form::File => source_file(alloc, fonts, width, source, notes),
@@ -64,6 +66,8 @@ fn set_source<C: Cabinet>(
         (source_step words.now.source words.now.line fonts.now) form result }
     ensures units { notes.new.units ≡ notes.old.units }
     ensures formula { NotesFault result notes.new.formula }
+    ensures overfull { (files : List Held) → C.holds cabinet.old ≡ Some files
+        → NotesOnly (file_overfull words.now.source words.now.line fonts.now files) notes.new.formula }
 {
     notes.formula = None;
     let source = fetch_file(alloc, cabinet, words.source, MAX_SOURCE as u64)?;
@@ -90,6 +94,8 @@ pub fn typeset<C: Cabinet>(
         → AreUnitsIn (font_set_step words.now.fonts files).result notes.new.units }
     ensures noted { is_refused_source result ≡ true → IsSome notes.new.units }
     ensures formula { NotesFault result notes.new.formula }
+    ensures overfull { (files : List Held) → C.holds cabinet.old ≡ Some files
+        → NotesOnly (words_overfull words.now files) notes.new.formula }
 {
     notes.formula = None;
     let fonts = read_font_set(alloc, words.fonts, cabinet)?;

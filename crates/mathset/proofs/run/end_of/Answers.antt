@@ -7,7 +7,8 @@ use Rattle.mt_words.specs.declared.request.Request.TheVariants.{Gen}
 use Rattle.mathset.specs.inner.Runs.{IsRun}
 use Rattle.mathset.proofs.RunLemmas.{gen_ends, is_run, not_words}
 use Rattle.mathset.proofs.NoteLemmas.{ended_noted, ended_refused, no_formula, no_units}
-use Rattle.mathset.specs.Noted.{AreUnitsOf, refuses_source, sets_source}
+use Rattle.mathset.specs.Noted.{AreUnitsOf, refuses_source, request_overfull, sets_source}
+use Rattle.mt_pages.specs.Pages.{NotesOnly}
 use Rattle.mt_status.specs.Notes.{has_too_many_places, is_noted}
 use Rattle.mathset.proofs.run.end_of.Goals as goal
 
@@ -71,3 +72,8 @@ returns-in-Err-clause-units g c = λ files told. rw c.none.ensures (no_units _ f
 
 pub returns-in-Err-clause-formula : goal.returns-in-Err-clause-formula
 returns-in-Err-clause-formula g c = rw c.none.ensures (no_formula _)
+
+pub returns-in-Ok-Some-clause-overfull : goal.returns-in-Ok-Some-clause-overfull
+returns-in-Ok-Some-clause-overfull g c =
+    λ files told.
+    subst (λ (r : Option Request). NotesOnly (request_overfull r files) c.perform.new.notes.formula) (sym c.in-Ok-Some.field-0-is ∙ c.in-Ok-Some.ensures) (c.perform.ensures.overfull files told)

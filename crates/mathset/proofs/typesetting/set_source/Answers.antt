@@ -4,9 +4,10 @@ use Rattle.mt_outside.specs.declared.files.Held.{Held}
 use Rattle.mt_token.specs.Tokens.{max_source}
 use Rattle.mathset.specs.Outcome.{plain}
 use Rattle.mathset.specs.Reads.{file_of}
+use Rattle.mt_pages.specs.Pages.{source_overfull}
 use Rattle.mt_pages.specs.Typeset.{TypesetValue, typeset_of}
 use Rattle.mathset.proofs.MadeLemmas.{put_step}
-use Rattle.mathset.proofs.NoteLemmas.{few_of_file}
+use Rattle.mathset.proofs.NoteLemmas.{few_of_file, notes_found}
 use Rattle.mathset.proofs.StepLemmas.{step_err}
 use Rattle.mathset.proofs.WidthLemmas.{line_kept}
 use Rattle.mathset.proofs.typesetting.set_source.Goals as goal
@@ -27,3 +28,10 @@ pub returns-in_err-source-clause-formula : goal.returns-in_err-source-clause-for
 returns-in_err-source-clause-formula g c =
     let p = err_from_is_err_and c.from_residual.result c.from_residual.ensures.1 in
     rw (p.1, p.2) (sym (few_of_file _ c.in_err-source.ensures.of_file))
+
+pub returns-clause-overfull : goal.returns-clause-overfull
+returns-clause-overfull g c =
+    rw (← c.words.view_is)
+    (λ files told.
+    notes_found _ _ (file_of c.words.inside.source.now max_source) _ (source_overfull c.args.fonts.now c.words.inside.line) _ files c.in_ok-source.ensures.is told
+    (rw (line_kept c.words.inside.line c.words.invariant.0 c.words.invariant.1, c.as_slice.ensures) at c.source_in_form.ensures.overfull))

@@ -1,12 +1,13 @@
-use Rattle.std.proofs.Common.{List, sym}
+use Rattle.std.proofs.Common.{List, sym, ◌∙◌}
 use Rattle.std.proofs.lemmas.Result.{err_from_is_err_and}
 use Rattle.mt_outside.specs.declared.files.Held.{Held}
 use Rattle.mt_family.specs.SetValue.{SetValue}
 use Rattle.mathset.specs.FontSteps.{font_set_step}
+use Rattle.mathset.specs.Noted.{file_overfull}
 use Rattle.mathset.specs.Steps.{source_step}
 use Rattle.mt_pages.specs.Typeset.{TypesetValue}
 use Rattle.mathset.proofs.MadeLemmas.{puts_then}
-use Rattle.mathset.proofs.NoteLemmas.{few_of_file}
+use Rattle.mathset.proofs.NoteLemmas.{few_of_file, notes_found}
 use Rattle.mathset.proofs.StepLemmas.{step_err}
 use Rattle.mathset.proofs.typesetting.typeset.Goals as goal
 
@@ -30,3 +31,10 @@ pub returns-in_err-fonts-clause-noted : goal.returns-in_err-fonts-clause-noted
 returns-in_err-fonts-clause-noted g c =
     let p = err_from_is_err_and c.from_residual.result c.from_residual.ensures.1 in
     rw (p.1, p.2, c.in_err-fonts.ensures.of_file) (λ never. absurd (cc))
+
+pub returns-clause-overfull : goal.returns-clause-overfull
+returns-clause-overfull g c =
+    rw (← c.words.view_is)
+    (λ files told.
+    notes_found _ _ (font_set_step c.words.inside.fonts.now) c.in_ok-fonts.fonts (λ (fonts : SetValue). file_overfull c.words.inside.source.now c.words.inside.line fonts files) _ files c.in_ok-fonts.ensures.is told
+    (rw (← c.words.view_is) at c.set_source.ensures.overfull files (c.in_ok-fonts.ensures.is.kept ∙ told)))
