@@ -1,6 +1,6 @@
 -- Small sources, in fonts whose characters are all alike.
-use Rattle.std.proofs.Common.{◌≡◌, ℕ, List, [], ◌∷◌, ◌++◌, map, refl, pos, codes, replicate, Some, None, Result, Ok, Err}
-use Rattle.mt_pages.proofs.Common.{SetValue, Text, Place, Glyph, run, plain_codes, plain_table, equations_line, rows_line, pages_from, TooManyTokens, TooManyPages, display_lines, stacked_lines, document_refusal, formula_lines, document_pages, source_pages, Status, BadSource, BadFormula, Budget, TooDeep, TooMuch}
+use Rattle.std.proofs.Common.{◌≡◌, ℕ, List, [], ◌∷◌, ◌++◌, map, refl, pos, codes, replicate, Option, Some, None, Result, Ok, Err}
+use Rattle.mt_pages.proofs.Common.{SetValue, Text, Place, Glyph, run, plain_codes, plain_table, equations_line, rows_line, pages_from, TooManyTokens, TooManyPages, display_lines, stacked_lines, document_of, document_lines, document_refusal, formula_lines, document_pages, source_pages, found_in, pages_overfull, Status, BadSource, BadFormula, Budget, TooDeep, TooMuch}
 use Rattle.std.specs.Prelude.{⊤}
 use Rattle.mt_tfm.specs.Font.{Metrics}
 use Rattle.mt_tfm.specs.declared.chars.CharWord.{CharWord}
@@ -122,6 +122,26 @@ cases =
 cases_agree : map (λ (c : Answered × Answered). c.0) cases ≡ map (λ (c : Answered × Answered). c.1) cases
 unfolding computed
 cases_agree = refl
+
+-- the formula that has the first place too many, where there is room for so many places
+abbrev overfull : ℕ → List ℕ → Option ℕ
+overfull room source =
+    found_in (document_of (fonts 20) source) (λ document. found_in (document_lines (fonts 20) (pos 100) document) (λ pages. pages_overfull room pages))
+
+abbrev overfull_cases : List (Option ℕ × Option ℕ)
+overfull_cases =
+    (overfull 3 (codes "$ab$ $c$"), None)
+    ∷ (overfull 2 (codes "$ab$ $c$"), Some 2)
+    ∷ (overfull 1 (codes "$ab$ $c$"), Some 1)
+    -- a page has as much room as the pages before it leave
+    ∷ (overfull 3 (codes "$a$ $b$\\eject$c$ $de$\\eject$f$"), Some 4)
+    -- a place out of range comes before
+    ∷ (overfull 1 (codes "$\\kern1073741823sp\\kern1sp a\\kern-99sp$ $b$"), None)
+    ∷ []
+
+overfull_agree : map (λ (c : Option ℕ × Option ℕ). c.0) overfull_cases ≡ map (λ (c : Option ℕ × Option ℕ). c.1) overfull_cases
+unfolding computed
+overfull_agree = refl
 
 -- too many tokens and pages
 many_tokens : document_refusal (TooManyTokens 3 1000001) ≡ Budget 3

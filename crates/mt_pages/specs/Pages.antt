@@ -98,7 +98,7 @@ abbrev pub found_in : {T : Type 0} → Result T Status → (T → Option ℕ) �
 found_in (Ok x) find = find x
 found_in (Err status) find = None
 
--- what is found behind the places of a page; where it has a fault, that is the formula of the page
+-- what is found after the places of a page; where the page has a fault, the formula that is found on it
 abbrev pub unless_placed : Result (List Place) Status → Option ℕ → (List Place → Option ℕ) → Option ℕ
 unless_placed (Ok places) formula find = find places
 unless_placed (Err status) formula find = formula
