@@ -12,7 +12,7 @@ use mt_status::Status;
 /// is too long for its tokens, a brace of a formula without partner, and lack of memory of the
 /// layers below.
 #[tactic(auto, using(crate::proofs::NoMemory::answer_avoids))]
-pub fn answer_is_never_want_of_memory()
+pub fn answer_is_never_out_of_memory()
     ensures { (words : List (List ℕ)) → (files : List Held)
         → answer words files ≡ Err Status.OutOfMemory → ⊥ }
 {}
