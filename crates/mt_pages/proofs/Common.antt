@@ -58,5 +58,5 @@ pub use Rattle.mt_pages.specs.FormulaLines.{each_set, equations_lines, equations
 unfoldable pub use Rattle.mt_pages.specs.FormulaLines.{formula_lines}
 pub use Rattle.mt_pages.specs.Listing.{is_glyph_place, is_rule_place, number_line, page_text, pages_text, place_line}
 unfoldable pub use Rattle.mt_pages.specs.Listing.{listing, summary}
-pub use Rattle.mt_pages.specs.Pages.{PageLinesValue, with_formula_lines, no_lines, page_lines, document_lines, page_places, pages_places, placed_by, page_overfull, pages_overfull, found_in, unless_placed, NotesOnly}
+pub use Rattle.mt_pages.specs.Pages.{PageLinesValue, with_formula_lines, no_lines, page_lines, document_lines, page_places, pages_places, placed_by, pages_overfull, found_in, NotesOnly}
 unfoldable pub use Rattle.mt_pages.specs.Pages.{source_pages, document_pages, source_overfull, document_overfull}

@@ -1,10 +1,9 @@
 -- The formula that has the first place too many, over pages that are set and placed one after another.
-use Rattle.std.proofs.Common.{◌≡◌, ℕ, ◌-◌, List, [], ◌∷◌, ◌++◌, length, refl, sym, ◌∙◌, ap, ℤ, Option, Some, None, Result, Ok, Err}
-use Rattle.mt_pages.proofs.Common.{◌>>=◌, SetValue, Place, max_places, Formula, PageLinesValue, no_lines, page_lines, document_lines, document_of, document_overfull, found_in, page_overfull, page_places, pages_overfull, source_overfull, unless_placed, NotesOnly, Status}
+use Rattle.std.proofs.Common.{◌≡◌, ℕ, List, [], ◌∷◌, refl, ◌∙◌, ap, ℤ, Option, Some, None, Result, Ok, Err}
+use Rattle.mt_pages.proofs.Common.{◌>>=◌, SetValue, max_places, Formula, PageLinesValue, no_lines, page_lines, document_lines, document_of, document_overfull, found_in, pages_overfull, source_overfull, NotesOnly, Status}
 use Rattle.mt_pages.specs.inner.SetPages.{noted_at_end, overfull_after}
 use Rattle.mt_pages.specs.declared.pages.FirstFault.{FirstFault}
 use Rattle.mt_pages.specs.declared.pages.FirstFault.TheVariants.{Nothing, Place as HeldPlace, Setting as HeldSetting}
-use Rattle.mt_pages.specs.declared.pages.PlaceFault.{PlaceFault}
 
 -- what is noted is this formula
 pub notes_only : (overfull formula : Option ℕ) → overfull ≡ formula → NotesOnly overfull formula
@@ -33,42 +32,7 @@ unfolding source_overfull
 overfull_all set width source document room held all is =
     ap (λ (d : Result (List (List Formula)) Status). found_in d (λ document. document_overfull set width document)) all ∙ (is ∙ overfull_end set width room held)
 
--- ---- one page more, whose lines are set
-
-module _ (set : SetValue) (width : ℤ) (formulas : List Formula) (page : PageLinesValue) (set_to : page_lines set width no_lines formulas ≡ Ok page) (rest : List (List Formula)) where
-  behind : (find : List PageLinesValue → Option ℕ) (lines : Result (List PageLinesValue) Status)
-      → found_in (lines >>= (λ pages. Ok (page ∷ pages))) find ≡ found_in lines (λ pages. find (page ∷ pages))
-  behind find (Ok pages) = refl
-  behind find (Err status) = refl
-
-  with_page : (find : List PageLinesValue → Option ℕ) → found_in (document_lines set width (formulas ∷ rest)) find ≡ found_in (document_lines set width rest) (λ pages. find (page ∷ pages))
-  with_page find =
-      ap (λ (r : Result PageLinesValue Status). found_in (r >>= (λ lines. document_lines set width rest >>= (λ pages. Ok (lines ∷ pages)))) find) set_to
-      ∙ behind find (document_lines set width rest)
-
-  -- a fault is held back
-  pub overfull_held : (room : ℕ) (fault : PlaceFault) → overfull_after set width room (HeldPlace fault) (formulas ∷ rest) ≡ overfull_after set width room (HeldPlace fault) rest
-  overfull_held room fault = with_page (λ pages. fault.formula)
-
-  by_places : (room : ℕ) (answer : Result (List Place) Status) → page_places room page ≡ answer
-      → overfull_after set width room Nothing (formulas ∷ rest)
-      ≡ found_in (document_lines set width rest) (λ pages. unless_placed answer (page_overfull room page) (λ places. pages_overfull (room - length places) pages))
-  by_places room answer same =
-      with_page (pages_overfull room)
-      ∙ ap (λ (a : Result (List Place) Status). found_in (document_lines set width rest) (λ pages. unless_placed a (page_overfull room page) (λ places. pages_overfull (room - length places) pages))) same
-
-  -- its places are found
-  pub overfull_placed : (room : ℕ) (places : List Place) → page_places room page ≡ Ok places
-      → overfull_after set width room Nothing (formulas ∷ rest) ≡ overfull_after set width (room - length places) Nothing rest
-  overfull_placed room places same = by_places room (Ok places) same
-
-  -- or its fault is held back
-  pub overfull_fault : (room : ℕ) (fault : PlaceFault) → page_places room page ≡ Err fault.status → page_overfull room page ≡ fault.formula
-      → overfull_after set width room Nothing (formulas ∷ rest) ≡ overfull_after set width room (HeldPlace fault) rest
-  overfull_fault room fault same formula =
-      by_places room (Err fault.status) same ∙ ap (λ (o : Option ℕ). found_in (document_lines set width rest) (λ pages. o)) formula
-
--- ---- one page more, whose lines are refused
+-- ---- a page whose lines are refused
 
 pub overfull_refused : (set : SetValue) (width : ℤ) (page : List Formula) (room : ℕ) (held : FirstFault) (status : Status) → page_lines set width no_lines page ≡ Err status → (rest : List (List Formula))
     → overfull_after set width room held (page ∷ rest) ≡ None
