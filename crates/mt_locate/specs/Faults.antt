@@ -12,11 +12,12 @@ use Rattle.mt_reader.specs.Stops.{AtFormula, AtFault, FormulaTokens, IsReason, S
 use Rattle.mt_reader.specs.declared.document_error.DocError.{DocError}
 use Rattle.mt_reader.specs.declared.stop.StopCause.TheVariants.{Fault}
 use Rattle.mt_locate.specs.FaultTokens.{fault_token, has_numbers}
-use Rattle.mt_locate.specs.Places.{offset_within}
+use Rattle.mt_locate.specs.Places.{IsAt, offset_within}
 use Rattle.mt_locate.specs.Unmatched.{unmatched_token}
 use Rattle.mt_locate.specs.declared.fault_token.FaultToken.{FaultToken}
 use Rattle.mt_locate.specs.declared.fault_token.FaultToken.TheVariants.{OfSource, Unmatched, Expanded as OfExpansion, Macro, First, Nowhere}
 use Rattle.mt_status.specs.declared.subject.Numbers.{Numbers}
+use Rattle.mt_locate.specs.declared.places.Located.{Located}
 use Rattle.mt_locate.specs.declared.traces.TracedFormula.{TracedFormula}
 use Rattle.mt_locate.specs.declared.traces.Wanted.{Wanted}
 use Rattle.mt_locate.specs.declared.traces.Wanted.TheVariants.{Expanded as Whole, ToMacro}
@@ -68,6 +69,7 @@ abbrev pub token_offset : List ℕ → Option Token → Option ℕ
 token_offset source None = None
 token_offset source (Some t) = offset_within source t.start
 
+-- the offset of a fault, by that of its token
 abbrev pub fault_offset : List ℕ → List Token → StopPlace → DocError → Option ℕ
 fault_offset source tokens place fault = token_offset source (token_at tokens place (fault_token fault))
 
@@ -76,15 +78,15 @@ abbrev pub offset_where : Bool → Option ℕ → Option ℕ
 offset_where true offset = offset
 offset_where false offset = None
 
--- an offset is that of the fault at which reading stops, where it has these numbers
-abbrev pub IsFaultAt : Option ℕ → Numbers → List ℕ → List Token → StopPlace → StopReason → Type 0
+-- what is found is the fault at which reading stops, where it has these numbers; only one fault has this reason
+abbrev pub IsFaultAt : Option Located → Numbers → List ℕ → List Token → StopPlace → StopReason → Type 0
 IsFaultAt found numbers source tokens place AtFormula = found ≡ None
 IsFaultAt found numbers source tokens place (AtFault refusal) =
     (fault : DocError) × IsReason (Fault fault) (AtFault refusal)
-    × (found ≡ offset_where (has_numbers numbers fault) (fault_offset source tokens place fault))
+    × IsAt found (Some fault) (offset_where (has_numbers numbers fault) (fault_offset source tokens place fault))
 
 -- there is none where reading does not stop
-abbrev pub IsFaultFound : Option ℕ → Numbers → List ℕ → List Token → Option StopPlace → Type 0
+abbrev pub IsFaultFound : Option Located → Numbers → List ℕ → List Token → Option StopPlace → Type 0
 IsFaultFound found numbers source tokens None = found ≡ None
 IsFaultFound found numbers source tokens (Some place) = IsFaultAt found numbers source tokens place place.reason
 
@@ -103,3 +105,7 @@ pub record IsRead (units : Option Units) (source : List ℕ) (own : Units) (toke
   pub em : Within (2 ^ 31) own.em
   pub ex : Within (2 ^ 31) own.ex
   pub lexed : source_tokens source ≡ Ok (map spanned tokens)
+
+-- a source that a run has not read: its units are not noted or not within bounds, or it has no tokens
+abbrev pub IsUnread : Option Units → List ℕ → Type 0
+IsUnread units source = (own : Units) → (tokens : List Token) → IsRead units source own tokens → ⊥

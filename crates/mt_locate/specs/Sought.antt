@@ -1,5 +1,5 @@
 -- What of a source is sought for a status (`sought_of`).
-use Rattle.std.specs.Prelude.{ℕ, ◌==◌, ◌&&◌, Bool, false, Option, Some, None}
+use Rattle.std.specs.Prelude.{ℕ, ◌==◌, ◌&&◌, Bool, true, false, Option, Some, None}
 use Rattle.mt_status.specs.Statuses.{subject_of}
 use Rattle.mt_status.specs.declared.notes.Notes.{Notes}
 use Rattle.mt_status.specs.declared.status.Status.{Status}
@@ -29,6 +29,12 @@ sought_of status notes = sought_in (subject_of status) notes
 abbrev pub sought_formula : Sought → Option ℕ
 sought_formula (Formula n) = Some n
 sought_formula sought = None
+
+-- whether it is found by reading the source
+abbrev pub needs_reading : Sought → Bool
+needs_reading (Fault numbers) = true
+needs_reading (Formula n) = true
+needs_reading sought = false
 
 -- whether the numbers of a status are those of a fault
 abbrev pub is_same : Numbers → Numbers → Bool

@@ -7,10 +7,10 @@ use std::alloc::{AllocError, Global};
 // Whether the tokens from a `\def` on define this name.
 fn defines(definition: &[Token], name: &Name) -> bool {
     match definition {
-        [_, named, ..] => match named.kind.name() {
-            Some(other) => other.as_slice() == name.as_slice(),
-            None => false,
-        },
+        [_, named, ..] => named
+            .kind
+            .name()
+            .is_some_and(|other| other.as_slice() == name.as_slice()),
         _ => false,
     }
 }

@@ -1,5 +1,5 @@
 //! Where in a source a refusal is.
-ghost use Rattle.std.specs.Prelude.{◌≡◌, ◌≤◌, ◌^◌, ◌↔◌, ℕ, List, IfOk, IfSome, IsTrue, None, Ok, Some, length};
+ghost use Rattle.std.specs.Prelude.{◌≡◌, ◌^◌, ◌↔◌, ℕ, List, IfOk, IfSome, IsTrue, None, Ok, Some, true};
 ghost use Rattle.std.specs.Option.{option_copied};
 ghost use Rattle.mt_scaled.specs.Number.{Within};
 ghost use Rattle.mt_scaled.specs.declared.unit.Units.{Units as UnitFields};
@@ -7,10 +7,10 @@ ghost use Rattle.mt_token.specs.declared.token.Token.{Token as TokenFields};
 ghost use Rattle.mt_plain.specs.CodeTables.{plain_codes};
 ghost use Rattle.mt_plain.specs.PlainMacros.{plain_table};
 ghost use Rattle.mt_reader.specs.Stops.{IsReason, StopReason, formula_from, stop, stop_view};
-ghost use Rattle.mt_locate.specs.Places.{byte_found, located_offset};
-ghost use Rattle.mt_locate.specs.Faults.{IsFaultAt, IsFaultFound, IsRead, expanded_token, fault_offset};
-ghost use Rattle.mt_locate.specs.Faults.{formula_found, formula_offset, token_offset};
-ghost use Rattle.mt_locate.specs.Sought.{sought_of};
+ghost use Rattle.mt_locate.specs.Places.{IsAt, IsPlaceIn, byte_fault, byte_found};
+ghost use Rattle.mt_locate.specs.Faults.{IsFaultAt, IsFaultFound, IsRead, IsUnread, expanded_token, fault_offset};
+ghost use Rattle.mt_locate.specs.Faults.{formula_found, formula_offset, token_offset, traced_token};
+ghost use Rattle.mt_locate.specs.Sought.{needs_reading, sought_of};
 ghost use Rattle.mt_status.specs.declared.subject.Numbers.{Numbers as NumbersFields};
 ghost use Rattle.mt_locate.specs.declared.sought.Sought.TheVariants.{Byte, Fault, Formula, Nothing};
 
@@ -32,8 +32,8 @@ const MAX_UNIT: i64 = 2_147_483_648;
 // The place of a byte that is not allowed where it is, by its offset and its cause; none where the tokens of the source do
 // not end at it for this cause.
 fn locate_byte(source: &[u8], offset: u64, cause: u8) -> Option<Located>
-    ensures is { IfSome result (λ located. located.offset ≤ length source.now) }
-    ensures byte { located_offset result ≡ byte_found source.now offset cause }
+    ensures is { IfSome result (IsPlaceIn source.now) }
+    ensures byte { IsAt result (byte_fault source.now) (byte_found source.now offset cause) }
 {
     let fault = first_fault(source)?;
     let at = fault.place()?;
@@ -45,8 +45,8 @@ fn locate_byte(source: &[u8], offset: u64, cause: u8) -> Option<Located>
 
 // A fault at a token of the source, if there is one.
 fn located_token(source: &[u8], token: Option<&Token>, fault: Option<DocError>) -> Option<Located>
-    ensures is { IfSome result (λ located. located.offset ≤ length source.now) }
-    ensures at { located_offset result ≡ token_offset source.now (option_copied token.entry) }
+    ensures is { IfSome result (IsPlaceIn source.now) }
+    ensures at { IsAt result fault (token_offset source.now (option_copied token.entry)) }
 {
     located_at(source, token?.start as usize, fault)
 }
@@ -58,14 +58,31 @@ fn located_with_token(
     token: Option<&Token>,
     fault: DocError,
 ) -> Result<Option<Located>, AllocError>
-    ensures is { IfOk result (λ found. IfSome found (λ located. located.offset ≤ length source.now)) }
-    ensures at { IfOk result (λ found. located_offset found ≡ token_offset source.now (option_copied token.entry)) }
+    ensures is { IfOk result (λ found. IfSome found (IsPlaceIn source.now)) }
+    ensures at { IfOk result (λ found. IsAt found (Some fault) (token_offset source.now (option_copied token.entry))) }
 {
     let (Some(found), Some(mut located)) = (token, located_token(source, token, Some(fault))) else {
         return Ok(None);
     };
     located.token = Some(found.copied(alloc)?);
     Ok(Some(located))
+}
+
+// A fault at a token of a traced formula, or at its closing `$`.
+fn located_traced(
+    alloc: Global,
+    source: &[u8],
+    traced: &TracedFormula<'_>,
+    index: usize,
+    fault: DocError,
+) -> Result<Option<Located>, AllocError>
+    ensures is { IfOk result (λ found. IfSome found (IsPlaceIn source.now)) }
+    ensures at { IfOk result (λ found. IsAt found (Some fault) (token_offset source.now (traced_token (Some traced.now) index))) }
+{
+    match traced.tokens.as_slice().get(index) {
+        Some(found) => located_with_token(alloc, source, Some(&found.token), fault),
+        None => Ok(located_token(source, traced.formula.closing.first(), Some(fault))),
+    }
 }
 
 // The name of the macro in whose body the token of an index is, or which lacks an argument there.
@@ -91,21 +108,18 @@ fn locate_in_formula(
     wanted: Wanted,
     index: usize,
 ) -> Result<Option<Located>, AllocError>
-    ensures is { IfOk result (λ found. IfSome found (λ located. located.offset ≤ length source.now)) }
-    ensures at { IfOk result (λ found. located_offset found ≡ token_offset source.now
-        (expanded_token stop.entry.tables.macros wanted (formula_from stop.entry.from.now) index)) }
+    ensures is { IfOk result (λ found. IfSome found (IsPlaceIn source.now)) }
+    ensures at { IfOk result (λ found. IsAt found (Some fault) (token_offset source.now
+        (expanded_token stop.entry.tables.macros wanted (formula_from stop.entry.from.now) index))) }
 {
     let Some(traced) = traced_formula(alloc, &stop, wanted)? else {
         return Ok(None);
     };
-    let Some(mut located) = located_token(source, traced.token_at(index), Some(fault)) else {
+    let Some(mut located) = located_traced(alloc, source, &traced, index, fault)? else {
         return Ok(None);
     };
     let name = macro_name(&stop, &traced, wanted, index);
     located.definition = definition_of(alloc, stop.definitions.as_slice(), name)?;
-    if let Some(found) = traced.tokens.as_slice().get(index) {
-        located.token = Some(found.token.copied(alloc)?);
-    }
     located.formula = Some(FaultyFormula {
         tokens: traced.tokens,
         index,
@@ -123,9 +137,9 @@ fn locate_fault(
     fault: DocError,
     stop: Stop<'_>,
 ) -> Result<Option<Located>, AllocError>
-    ensures is { IfOk result (λ found. IfSome found (λ located. located.offset ≤ length source.now)) }
-    ensures at { (reason : StopReason) → IfOk result (λ found. located_offset found
-        ≡ fault_offset source.now tokens.now (stop_view reason stop.entry) fault) }
+    ensures is { IfOk result (λ found. IfSome found (IsPlaceIn source.now)) }
+    ensures at { (reason : StopReason) → IfOk result (λ found. IsAt found (Some fault)
+        (fault_offset source.now tokens.now (stop_view reason stop.entry) fault)) }
 {
     match fault_token(fault) {
         FaultToken::OfSource(index) => {
@@ -154,13 +168,13 @@ fn locate_stop(
     sought: Sought,
     stop: Stop<'_>,
 ) -> Result<Option<Located>, AllocError>
-    ensures is { IfOk result (λ found. IfSome found (λ located. located.offset ≤ length source.now)) }
+    ensures is { IfOk result (λ found. IfSome found (IsPlaceIn source.now)) }
     ensures fault { (numbers : NumbersFields) → (reason : StopReason) → sought ≡ Fault numbers
-        → IsReason stop.entry.cause reason → IfOk result (λ found. IsFaultAt (located_offset found) numbers source.now
+        → IsReason stop.entry.cause reason → IfOk result (λ found. IsFaultAt found numbers source.now
         tokens.now (stop_view reason stop.entry) reason) }
     ensures formula { (n : ℕ) → (reason : StopReason) → sought ≡ Formula n → IsReason stop.entry.cause reason
-        → IfOk result (λ found. located_offset found
-        ≡ formula_offset source.now (stop_view reason stop.entry) reason) }
+        → IfOk result (λ found. IsAt found None
+        (formula_offset source.now (stop_view reason stop.entry) reason)) }
 {
     match (stop.cause, sought) {
         (StopCause::Fault(fault), Sought::Fault(numbers)) if has_numbers(numbers, fault) => {
@@ -183,6 +197,7 @@ fn is_within(unit: i64) -> bool
 fn usable(units: Option<Units>) -> Option<Units>
     ensures is { (own : UnitFields) → units ≡ Some own → Within (2 ^ 31) own.em → Within (2 ^ 31) own.ex
         → result ≡ Some own }
+    ensures same { IfSome result (λ own. units ≡ Some own) }
     ensures em { IfSome result (λ own. Within (2 ^ 31) own.em) }
     ensures ex { IfSome result (λ own. Within (2 ^ 31) own.ex) }
 {
@@ -199,14 +214,15 @@ fn locate_read(
     sought: Sought,
     units: Option<Units>,
 ) -> Result<Option<Located>, AllocError>
-    ensures is { IfOk result (λ found. IfSome found (λ located. located.offset ≤ length source.now)) }
+    ensures is { IfOk result (λ found. IfSome found (IsPlaceIn source.now)) }
     ensures fault { (own : UnitFields) → (tokens : List TokenFields) → IsRead units source.now own tokens
         → (numbers : NumbersFields) → sought ≡ Fault numbers
-        → IfOk result (λ found. IsFaultFound (located_offset found) numbers source.now tokens
+        → IfOk result (λ found. IsFaultFound found numbers source.now tokens
         (stop own None plain_codes plain_table tokens)) }
     ensures formula { (n : ℕ) → (own : UnitFields) → (tokens : List TokenFields) → IsRead units source.now own tokens
-        → sought ≡ Formula n → IfOk result (λ found. located_offset found
-        ≡ formula_found source.now (stop own (Some n) plain_codes plain_table tokens)) }
+        → sought ≡ Formula n → IfOk result (λ found. IsAt found None
+        (formula_found source.now (stop own (Some n) plain_codes plain_table tokens))) }
+    ensures unread { IsUnread units source.now → IfOk result (λ found. found ≡ None) }
 {
     let Some(units) = usable(units) else {
         return Ok(None);
@@ -223,12 +239,13 @@ fn locate_read(
     }
 }
 
-/// Where in a source the refusal is of which this status and these notes are. A byte or a token outside of formulas is
-/// where it is, and a formula without its end at the brace that has no partner. A token of a formula after expansion is
-/// where it is written, and one of a macro's body where the formula calls the macro; past the last one it is the closing
-/// `$`. A macro that lacks an argument is where the formula calls it, or the macro in whose body it is. What is wrong with
-/// a formula as a whole, a page too many and a place too many are at the first `$` of the formula. `None` where the status
-/// has no place in a source, or the source does not have that fault.
+/// Where in a source the fault is for which a run ended with this status and these notes. A byte or a token outside of
+/// formulas is where it is, and a formula without its end at the brace that nothing matches. A token of a formula after
+/// expansion is where it is written, and one of a macro's body where the formula calls the macro; past the last one it is
+/// the closing `$`. A macro that lacks an argument is where the formula calls it, or the macro in whose body it is. What is
+/// wrong with a formula as a whole, a page too many and a place too many are at the first `$` of the formula. `None` where
+/// the status has no place in a source, where the source does not have that fault, and where the noted units, which all
+/// but a byte needs, are missing or more than 2^31 scaled points in size.
 ///
 /// # Errors
 ///
@@ -239,16 +256,18 @@ pub fn locate(
     status: &Status,
     notes: Notes,
 ) -> Result<Option<Located>, AllocError>
-    ensures is { IfOk result (λ found. IfSome found (λ located. located.offset ≤ length source.now)) }
+    ensures is { IfOk result (λ found. IfSome found (IsPlaceIn source.now)) }
     ensures byte { (offset cause : ℕ) → sought_of status.now notes ≡ Byte offset cause
-        → IfOk result (λ found. located_offset found ≡ byte_found source.now offset cause) }
+        → IfOk result (λ found. IsAt found (byte_fault source.now) (byte_found source.now offset cause)) }
     ensures fault { (own : UnitFields) → (tokens : List TokenFields) → IsRead notes.units source.now own tokens
         → (numbers : NumbersFields) → sought_of status.now notes ≡ Fault numbers
-        → IfOk result (λ found. IsFaultFound (located_offset found) numbers source.now tokens
+        → IfOk result (λ found. IsFaultFound found numbers source.now tokens
         (stop own None plain_codes plain_table tokens)) }
     ensures formula { (n : ℕ) → (own : UnitFields) → (tokens : List TokenFields) → IsRead notes.units source.now own tokens
-        → sought_of status.now notes ≡ Formula n → IfOk result (λ found. located_offset found
-        ≡ formula_found source.now (stop own (Some n) plain_codes plain_table tokens)) }
+        → sought_of status.now notes ≡ Formula n → IfOk result (λ found. IsAt found None
+        (formula_found source.now (stop own (Some n) plain_codes plain_table tokens))) }
+    ensures unread { needs_reading (sought_of status.now notes) ≡ true → IsUnread notes.units source.now
+        → IfOk result (λ found. found ≡ None) }
     ensures nothing { sought_of status.now notes ≡ Nothing → result ≡ Ok None }
 {
     let sought = sought_of(status, notes);

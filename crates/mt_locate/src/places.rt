@@ -1,6 +1,6 @@
 //! Places in a source.
-ghost use Rattle.std.specs.Prelude.{◌≡◌, ◌≤◌, IfSome, length};
-ghost use Rattle.mt_locate.specs.Places.{located_offset, offset_within};
+ghost use Rattle.std.specs.Prelude.{IfSome};
+ghost use Rattle.mt_locate.specs.Places.{IsAt, IsPlaceIn, offset_within};
 
 use mt_macro::Traced;
 use mt_reader::{DocError, TokenTables};
@@ -46,8 +46,8 @@ pub struct Located {
 
 /// A fault at an offset, where no single token is at fault; `None` past the end.
 pub fn located_at(source: &[u8], offset: usize, fault: Option<DocError>) -> Option<Located>
-    ensures is { IfSome result (λ located. located.offset ≤ length source.now) }
-    ensures at { located_offset result ≡ offset_within source.now offset }
+    ensures is { IfSome result (IsPlaceIn source.now) }
+    ensures at { IsAt result fault (offset_within source.now offset) }
 {
     if offset > source.len() {
         return None;

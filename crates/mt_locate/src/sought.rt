@@ -37,10 +37,9 @@ pub fn sought_of(status: &Status, notes: Notes) -> Sought
         Subject::Byte(offset, cause) => Sought::Byte(offset, cause),
         Subject::Fault(numbers) => Sought::Fault(numbers),
         Subject::Formula(n, _) => Sought::Formula(n),
-        Subject::Places => match notes.formula {
-            Some(n) => Sought::Formula(n),
-            None => Sought::Nothing,
-        },
+        Subject::Places => notes
+            .formula
+            .map_or(Sought::Nothing, |n| Sought::Formula(n)),
         Subject::Nothing
         | Subject::Unread
         | Subject::ListLine(_)

@@ -1,6 +1,5 @@
 //! The token of a formula at which a fault is, after its macros are expanded.
 ghost use Rattle.std.specs.Prelude.{◌≡◌, ℕ, IfOk};
-ghost use Rattle.std.specs.Option.{option_copied};
 ghost use Rattle.mt_reader.specs.Stops.{formula_from};
 ghost use Rattle.mt_locate.specs.Faults.{expanded_token, traced_token};
 
@@ -53,19 +52,5 @@ pub fn traced_formula<'a>(
             Ok(Some(traced))
         }
         _ => Ok(None),
-    }
-}
-
-impl<'a> TracedFormula<'a> {
-    ghost use Rattle.std.specs.Prelude.{Some};
-
-    /// The token of an index with its span, or the closing `$` at the end.
-    pub fn token_at(&self, index: usize) -> Option<&Token>
-        ensures { option_copied result ≡ traced_token (Some self.now) index }
-    {
-        match self.tokens.as_slice().get(index) {
-            Some(traced) => Some(&traced.token),
-            None => self.formula.closing.first(),
-        }
     }
 }

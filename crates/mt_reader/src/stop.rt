@@ -72,11 +72,7 @@ fn inside_of<'a>(rest: &'a [Token]) -> &'a [Token]
 fn behind<'a>(tokens: &'a [Token], count: usize) -> &'a [Token]
     ensures { result.now ≡ drop count tokens.now }
 {
-    if count <= tokens.len() {
-        &tokens[count..]
-    } else {
-        &[]
-    }
+    tokens.get(count..).unwrap_or(&[])
 }
 
 impl<'a> Stop<'a> {
@@ -167,7 +163,8 @@ fn note_definition<'a>(
 
 /// Where the reading of a source by its tokens stops, with plain TeX's codes and macros and with those that it sets and
 /// defines: at its first fault, or before that where the formula of this number begins, counted from 1, if one is looked
-/// for. `None` where it is read to its end. `units` are what `em` and `ex` are, in scaled points.
+/// for. `None` where it is read to its end. `units` are what `em` and `ex` are, in scaled points, at most 2^31 in size; the
+/// source has at most 4,194,304 tokens.
 ///
 /// # Errors
 ///

@@ -6,9 +6,9 @@ use Rattle.mt_plain.specs.CodeTables.{plain_codes}
 use Rattle.mt_plain.specs.PlainMacros.{plain_table}
 use Rattle.mt_reader.specs.Stops.{StopPlace, stop, stop_view}
 use Rattle.mt_locate.specs.Faults.{IsFaultAt, IsFaultFound, formula_found, formula_offset}
-use Rattle.mt_locate.specs.Places.{located_offset}
+use Rattle.mt_locate.specs.Places.{IsAt}
 use Rattle.mt_locate.proofs.Shortness.{tokens_few}
-use Rattle.mt_locate.proofs.Telling.{read_same}
+use Rattle.mt_locate.proofs.Stopped.{read_same}
 use Rattle.mt_locate.proofs.finding.locate_read.Goals as goal
 
 pub read_to_stop-requires-clause-source : goal.read_to_stop-requires-clause-source
@@ -23,9 +23,9 @@ returns-in-Some-2-clause-fault c own tokens read numbers is =
     let none : c.formula.result ≡ None = rw is at c.formula.ensures in
     let listed : tokens ≡ c.as_slice-tokens.result.now = cc (c.in-Ok.ensures.unique tokens read.lexed, c.as_slice-tokens.ensures) in
     IfOk-weaker c.locate_stop.result
-    (λ found. IsFaultAt (located_offset found) numbers source c.as_slice-tokens.result.now (stop_view stopped.0 c.in-Some-2.stop) stopped.0)
-    (λ found. IsFaultFound (located_offset found) numbers source tokens (stop own None plain_codes plain_table tokens))
-    (λ found at. read_same (IsFaultFound (located_offset found) numbers source) c.in-Some.units own c.formula.result None tokens c.as_slice-tokens.result.now (Some (stop_view stopped.0 c.in-Some-2.stop))
+    (λ found. IsFaultAt found numbers source c.as_slice-tokens.result.now (stop_view stopped.0 c.in-Some-2.stop) stopped.0)
+    (λ found. IsFaultFound found numbers source tokens (stop own None plain_codes plain_table tokens))
+    (λ found at. read_same (IsFaultFound found numbers source) c.in-Some.units own c.formula.result None tokens c.as_slice-tokens.result.now (Some (stop_view stopped.0 c.in-Some-2.stop))
     (cc (c.in-Some.is, c.usable.ensures.is own read.noted read.em read.ex)) none listed stopped.2 at)
     (c.locate_stop.ensures.fault numbers stopped.0 is stopped.1)
 
@@ -36,8 +36,17 @@ returns-in-Some-2-clause-formula c n own tokens read is =
     let one : c.formula.result ≡ Some n = rw is at c.formula.ensures in
     let listed : tokens ≡ c.as_slice-tokens.result.now = cc (c.in-Ok.ensures.unique tokens read.lexed, c.as_slice-tokens.ensures) in
     IfOk-weaker c.locate_stop.result
-    (λ found. located_offset found ≡ formula_offset source (stop_view stopped.0 c.in-Some-2.stop) stopped.0)
-    (λ found. located_offset found ≡ formula_found source (stop own (Some n) plain_codes plain_table tokens))
-    (λ found at. read_same (λ (l : List Token) (place : Option StopPlace). located_offset found ≡ formula_found source place) c.in-Some.units own c.formula.result (Some n) tokens c.as_slice-tokens.result.now
+    (λ found. IsAt found None (formula_offset source (stop_view stopped.0 c.in-Some-2.stop) stopped.0))
+    (λ found. IsAt found None (formula_found source (stop own (Some n) plain_codes plain_table tokens)))
+    (λ found at. read_same (λ (l : List Token) (place : Option StopPlace). IsAt found None (formula_found source place)) c.in-Some.units own c.formula.result (Some n) tokens c.as_slice-tokens.result.now
     (Some (stop_view stopped.0 c.in-Some-2.stop)) (cc (c.in-Some.is, c.usable.ensures.is own read.noted read.em read.ex)) one listed stopped.2 at)
     (c.locate_stop.ensures.formula n stopped.0 is stopped.1)
+
+pub returns-in-Some-2-clause-unread : goal.returns-in-Some-2-clause-unread
+returns-in-Some-2-clause-unread c unread =
+    absurd (unread c.in-Some.units c.in-Ok.list (record {
+      noted = c.in-Some.ensures.same;
+      em = c.in-Some.ensures.em;
+      ex = c.in-Some.ensures.ex;
+      lexed = c.in-Ok.ensures.is;
+    }))

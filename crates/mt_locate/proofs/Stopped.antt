@@ -10,6 +10,8 @@ use Rattle.mt_reader.specs.declared.stop.StopCause.TheVariants.{Fault}
 use Rattle.mt_reader.specs.Stops.{IsFaultReason, IsReason, StopPlace, StopReason, stop}
 use Rattle.mt_locate.specs.FaultTokens.{has_numbers}
 use Rattle.mt_locate.specs.Faults.{IsFaultAt, fault_offset, offset_where}
+use Rattle.mt_locate.specs.Places.{IsAt}
+use Rattle.mt_locate.specs.declared.places.Located.{Located}
 use Rattle.mt_status.specs.declared.subject.Numbers.{Numbers}
 
 reason_of : (fault : DocError) (reason : StopReason) → IsReason (Fault fault) reason → IsFaultReason fault reason
@@ -22,15 +24,15 @@ reason_of (Pages page) reason is = is
 reason_of OutOfMemory reason is = absurd is
 
 -- a fault that has these numbers is where its token is
-pub found_fault : (numbers : Numbers) (source : List ℕ) (tokens : List Token) (place : StopPlace) (reason : StopReason) (fault : DocError) (found : Option ℕ)
-    → IsReason (Fault fault) reason → has_numbers numbers fault ≡ true → found ≡ fault_offset source tokens place fault
+pub found_fault : (numbers : Numbers) (source : List ℕ) (tokens : List Token) (place : StopPlace) (reason : StopReason) (fault : DocError) (found : Option Located)
+    → IsReason (Fault fault) reason → has_numbers numbers fault ≡ true → IsAt found (Some fault) (fault_offset source tokens place fault)
     → IsFaultAt found numbers source tokens place reason
 found_fault numbers source tokens place reason fault found because has at =
     let why = reason_of fault reason because in
     subst (IsFaultAt found numbers source tokens place) (sym why.1) (
       fault,
       subst (IsReason (Fault fault)) why.1 because,
-      subst (λ (b : Bool). found ≡ offset_where b (fault_offset source tokens place fault)) (sym has) at,
+      subst (λ (b : Bool). IsAt found (Some fault) (offset_where b (fault_offset source tokens place fault))) (sym has) at,
     )
 
 -- what holds where the reading of a list stops, by units and for a formula, holds of the same tokens, units and formula
