@@ -2,7 +2,7 @@
 ghost use Rattle.std.specs.Prelude.{◌≡◌};
 
 use crate::files::{ListForms, ReadList, fetched_list};
-use crate::fonts::push_family;
+use crate::fonts::{DESIGN_SIZE, POINT, push_family};
 use crate::refusal::Refusal;
 use crate::text::{Text, Unsaid};
 use mt_family::{FontLine, FontList, MAX_FONTS};
@@ -14,8 +14,8 @@ use std::alloc::Global;
 /// A font of Computer Modern, and its design size in points.
 type DesignedFont = (&'static [u8], u32);
 
-/// The fonts of plain TeX's families at the sizes text, script and scriptscript; a size that plain TeX does not have is
-/// served by a smaller font of the same kind.
+/// The fonts of plain TeX's families at the sizes text, script and scriptscript. For a size that plain TeX does not
+/// have it is a smaller font of the same kind.
 #[rattlefmt::skip]
 static FAMILY_FONTS: [[DesignedFont; 3]; 8] = [
     [(b"cmr10", 10), (b"cmr7", 7), (b"cmr5", 5)],
@@ -28,17 +28,11 @@ static FAMILY_FONTS: [[DesignedFont; 3]; 8] = [
     [(b"cmtt10", 10), (b"cmtt8", 8), (b"cmtt8", 8)],
 ];
 
-/// The scaled points of 1pt.
-const POINT: u32 = 65_536;
-
-/// Thousandths of the design size that a font of its design size has.
-const DESIGN_SIZE: u32 = 1_000;
-
-// The size at which a list of these forms wants a font of so many points.
+// The size of a font of so many points, as a list of these forms gives it.
 fn wanted_size(forms: ListForms, points: u32) -> Wanted {
     match forms {
-        ListForms::First => Wanted::At(i64::from(points.saturating_mul(POINT))),
-        ListForms::Second => Wanted::Scaled(DESIGN_SIZE),
+        ListForms::First => Wanted::At(i64::from(points).saturating_mul(POINT)),
+        ListForms::Second => DESIGN_SIZE,
     }
 }
 
@@ -48,19 +42,23 @@ fn listed_number(lines: &[FontLine], name: &[u8], wanted: Wanted) -> Option<usiz
 }
 
 // Adds the line of a font.
-fn push_font_line(out: &mut Text, forms: ListForms, name: &[u8], points: u32) {
+fn push_font_line(out: &mut Text, name: &[u8], wanted: Wanted) {
     out.push_all(&[b"font ", name]);
-    match forms {
-        ListForms::First => {
+    match wanted {
+        Wanted::At(size) => {
             out.push(b" ");
-            out.push_number(points.saturating_mul(POINT));
+            out.push_number(size);
             out.push(b" -\n")
         }
-        ListForms::Second => out.push(b" scaled 1000\n"),
+        Wanted::Scaled(factor) => {
+            out.push(b" scaled ");
+            out.push_number(factor);
+            out.push(b"\n")
+        }
     }
 }
 
-// The number of a font, whose line is added where neither the list nor the lines before have it.
+// The number of a font. Its line is added where neither the list nor the lines that were added before have it.
 fn push_font_once(
     out: &mut Text,
     list: &ReadList,
@@ -68,8 +66,9 @@ fn push_font_once(
     font: DesignedFont,
 ) -> Result<usize, Unsaid> {
     let (name, points) = font;
+    let wanted = wanted_size(list.forms, points);
     let lines = list.list.lines.as_slice();
-    if let Some(number) = listed_number(lines, name, wanted_size(list.forms, points)) {
+    if let Some(number) = listed_number(lines, name, wanted) {
         return Ok(number);
     }
     let first = lines.len();
@@ -77,7 +76,7 @@ fn push_font_once(
         return Ok(first.saturating_add(place));
     }
     let number = first.saturating_add(added.len());
-    push_font_line(out, list.forms, name, points);
+    push_font_line(out, name, wanted);
     added.push(name)?;
     Ok(number)
 }
@@ -133,8 +132,8 @@ pub fn push_family_lines(
     }
 }
 
-/// Adds the lines for a family that the fonts do not serve: the list's name, the family's font, and the lines to be
-/// added.
+/// Adds the lines for a family that has no font, or an unsuitable one: the list's name, the family's font, and the
+/// lines to be added.
 pub fn explain_family<C: Cabinet>(
     out: &mut Text,
     run: Refusal<'_>,

@@ -2,7 +2,7 @@
 ghost use Rattle.std.specs.Prelude.{◌≡◌};
 
 use crate::files::{fetched, fetched_list};
-use crate::fonts::push_character;
+use crate::fonts::{DESIGN_SIZE, push_character};
 use crate::list_lines::{ListLine, line_of, push_list_line};
 use crate::refusal::Refusal;
 use crate::text::{Text, Unsaid};
@@ -10,24 +10,52 @@ use mt_family::MAX_LIST_BYTES;
 use mt_outside::Cabinet;
 use mt_scaled::Name;
 use mt_status::Status;
-use mt_tfm::{MAX_TFM, TfmError, Wanted, read_tfm_wanted};
+use mt_tfm::{MAX_TFM, TfmError, read_tfm_wanted};
 use std::alloc::Global;
 
-/// Thousandths of the design size at which a font is read, to find the character at fault.
-const DESIGN_SIZE: Wanted = Wanted::Scaled(1_000);
+/// What the name of a TFM file ends with.
+const TFM_ENDING: &[u8] = b".tfm";
 
 // The name of a font's file.
 fn tfm_name(alloc: Global, name: &Name) -> Result<String, Unsaid> {
     let mut bytes = Vec::from_slice(alloc, name.as_slice())?;
-    bytes.extend_from_slice(b".tfm")?;
+    bytes.extend_from_slice(TFM_ENDING)?;
     Ok(String::from_utf8_lossy(alloc, &bytes)?)
 }
 
-// The character of a font that is at fault, where one is.
-fn character_at_fault(alloc: Global, font: &[u8]) -> Option<u8> {
+// The character that a font is refused for, where it is refused for one.
+fn character_of(error: TfmError) -> Option<u8> {
+    match error {
+        TfmError::BadIndex(code) | TfmError::ChainCycle(code) => Some(code),
+        TfmError::Truncated
+        | TfmError::BadCounts
+        | TfmError::BadHeader
+        | TfmError::BadFix { .. }
+        | TfmError::BadZero(_)
+        | TfmError::BadProgram(_)
+        | TfmError::BadRecipe(_)
+        | TfmError::OutOfMemory
+        | TfmError::BadSize(_) => None,
+    }
+}
+
+// The character at fault in a font's file with these bytes, which was refused for this cause. There is none where the
+// bytes are refused for another cause: the file has changed since the run, or the run tests the size of the font first.
+fn character_at_fault(alloc: Global, font: &[u8], cause: u8) -> Option<u8> {
     match read_tfm_wanted(alloc, font, DESIGN_SIZE, None) {
-        Err(TfmError::BadIndex(code) | TfmError::ChainCycle(code)) => Some(code),
-        _ => None,
+        Err(error) if error.number() == cause => character_of(error),
+        Err(_) | Ok(_) => None,
+    }
+}
+
+// Adds the character at fault in a font's file with these bytes, where one is.
+fn push_character_at_fault(out: &mut Text, run: Refusal<'_>, font: &[u8]) {
+    let Status::BadTfm { cause, .. } = run.status else {
+        return;
+    };
+    if let Some(code) = character_at_fault(run.alloc, font, *cause) {
+        out.push(b": character ");
+        push_character(out, code);
     }
 }
 
@@ -49,10 +77,7 @@ fn file_of_font<C: Cabinet>(
 fn push_font_file(out: &mut Text, run: Refusal<'_>, file: &str, font: &[u8]) {
     out.push_all(&[file.as_bytes(), b": "]);
     out.push_explanation(run.alloc, run.status);
-    if let Some(code) = character_at_fault(run.alloc, font) {
-        out.push(b": character ");
-        push_character(out, code);
-    }
+    push_character_at_fault(out, run, font);
     out.push(b"\n");
 }
 
@@ -100,7 +125,7 @@ pub fn explain_unread<C: Cabinet>(
     let Status::ReadFault { name } = run.status else {
         return Err(Unsaid);
     };
-    let font = name.as_slice().strip_suffix(b".tfm").ok_or(Unsaid)?;
+    let font = name.as_slice().strip_suffix(TFM_ENDING).ok_or(Unsaid)?;
     let bytes = fetched(run.alloc, cabinet, list, MAX_LIST_BYTES)?;
     let line = line_of_font(bytes.as_slice(), font).ok_or(Unsaid)?;
     let fetches = b"; examples/fetch-fonts ";

@@ -5,12 +5,15 @@ use mt_status::{Characters, NamedFamily};
 use mt_tfm::Wanted;
 
 /// The scaled points of 1pt.
-const POINT: i64 = 65_536;
+pub const POINT: i64 = 65_536;
+
+/// The size of a font that is wanted at its design size.
+pub const DESIGN_SIZE: Wanted = Wanted::Scaled(1_000);
 
 /// The most digits behind the point of a length in points (tex.web, section 103).
 const MOST_DIGITS: u32 = 5;
 
-// The size of a font in words.
+// The size of a family in words.
 fn size_text(size: Size) -> &'static [u8] {
     match size {
         Size::Text => b"text size",
@@ -19,7 +22,7 @@ fn size_text(size: Size) -> &'static [u8] {
     }
 }
 
-// The digits behind the point of a length: as few as give it again (tex.web, section 103).
+// The digits behind the point of a length: as few as are read as the same length again (tex.web, section 103).
 fn push_fraction(out: &mut Text, part: i64) {
     let mut rest = part.saturating_mul(10).saturating_add(5);
     let mut unit: i64 = 10;
@@ -46,7 +49,7 @@ pub fn push_points(out: &mut Text, length: i64) {
     out.push(b"pt")
 }
 
-// A font by its name and its size.
+// Adds a font by its name and its size.
 fn push_font(out: &mut Text, line: &FontLine) {
     out.push_all(&[b", ", line.name.as_slice()]);
     match line.wanted {
