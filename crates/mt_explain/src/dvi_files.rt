@@ -9,7 +9,7 @@ use mt_dviread::{DviError, MAX_DVI};
 use mt_outside::Cabinet;
 use mt_status::DviFault;
 
-// The offset of the opcode at fault, where it is at fault for its font.
+// The offset of the opcode at fault, where its font is the cause.
 fn font_offset(fault: DviFault) -> Option<u64> {
     match fault {
         DviFault::Byte(offset, cause) | DviFault::ByteOfFile(_, offset, cause) => {
@@ -45,7 +45,7 @@ fn push_font(out: &mut Text, fault: DviFault, font: FontFault<'_>) {
     push_font_fault(out, font);
 }
 
-/// Adds the line for a fault of one of the DVI files of the words.
+/// Adds the line for a fault in one of the DVI files that the command line names.
 pub fn explain_dvi<C: Cabinet>(
     out: &mut Text,
     run: Refusal<'_>,

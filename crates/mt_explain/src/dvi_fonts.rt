@@ -89,7 +89,7 @@ fn definition_before(bytes: &[u8], offset: u64, number: u32) -> Option<DefinedFo
     None
 }
 
-/// What is the matter with a font at a byte of a DVI file.
+/// What is wrong with a font at a byte of a DVI file.
 #[derive(Clone, Copy)]
 pub enum FontFault<'a> {
     /// It is selected, and the file defines it, but the font list does not have it.
@@ -102,8 +102,8 @@ pub enum FontFault<'a> {
     NoFont,
 }
 
-/// What is the matter with the font of the opcode at an offset, where that is refused for its font; `None` where there is
-/// no opcode.
+/// What is wrong with the font of the opcode at an offset, where the opcode is refused for its font; `None` where there
+/// is no opcode.
 pub fn font_fault_at(bytes: &[u8], offset: u64) -> Option<FontFault<'_>> {
     let from = behind(bytes, offset as usize);
     let opcode = opcode_at(from, 0)?;
@@ -120,7 +120,14 @@ pub fn font_fault_at(bytes: &[u8], offset: u64) -> Option<FontFault<'_>> {
     }
 }
 
-/// Adds what is the matter with a font.
+// Adds what is wrong with the font of a number.
+fn push_numbered(out: &mut Text, number: u32, fault: &[u8]) {
+    out.push(b"font number ");
+    out.push_number(number);
+    out.push(fault)
+}
+
+/// Adds what is wrong with a font.
 pub fn push_font_fault(out: &mut Text, fault: FontFault<'_>) {
     match fault {
         FontFault::Unlisted(font) => {
@@ -128,15 +135,9 @@ pub fn push_font_fault(out: &mut Text, fault: FontFault<'_>) {
             push_points(out, i64::from(font.size));
             out.push(b" is not in the list");
         }
-        FontFault::Undefined(number) => {
-            out.push(b"font number ");
-            out.push_number(number);
-            out.push(b" is not defined");
-        }
+        FontFault::Undefined(number) => push_numbered(out, number, b" is not defined"),
         FontFault::DefinedAgain(number) => {
-            out.push(b"font number ");
-            out.push_number(number);
-            out.push(b" is defined again with another name or size");
+            push_numbered(out, number, b" is defined again with another name or size")
         }
         FontFault::NoFont => out.push(b"no font is selected"),
     }

@@ -10,6 +10,9 @@ use itoa::Buffer;
 /// The columns in which the number of a line is, to the right.
 const NUMBER_COLUMNS: usize = 5;
 
+/// What is between these columns and the line.
+const BAR: &[u8] = b" | ";
+
 // A byte as it is shown: a tab as a blank, and one that is not printable ASCII as `?`.
 fn shown(byte: u8) -> u8 {
     if byte.is_ascii_graphic() {
@@ -39,7 +42,7 @@ fn push_line_number(out: &mut Text, line: usize) {
     let mut buffer = Buffer::new();
     let digits = buffer.format(line).as_bytes();
     out.push_repeated(b' ', NUMBER_COLUMNS.saturating_sub(digits.len()));
-    out.push_all(&[digits, b" | "]);
+    out.push_all(&[digits, BAR]);
 }
 
 /// Adds a line of a file with its number.
@@ -59,7 +62,7 @@ pub fn push_excerpt(out: &mut Text, source: &[u8], place: Place)
     let end = columns.before + columns.count;
     push_line(out, place.position.line, &line[columns.before..end]);
     out.push_repeated(b' ', NUMBER_COLUMNS);
-    out.push(b" | ");
+    out.push(BAR);
     out.push_repeated(b' ', place.position.column - 1 - columns.before);
     out.push(b"^\n");
 }

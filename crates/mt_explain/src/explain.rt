@@ -98,12 +98,12 @@ fn push_explained<C: Cabinet>(
 }
 
 /// Writes what a refusal means and where it is, for a person, and nothing for `Done`; docs/FORMATS.md has the lines
-/// ("Explanations" and "Places"). The font list, the source or the font that the status is of is fetched once more, and
-/// of a DVI file the name is written. Where a file cannot be had, or does not have what the status says, these are the
-/// lines of `write_explanation`. A fault of the stream changes nothing else.
+/// ("Explanations" and "Places"). The font list, the source or the font that the status is about is fetched once more,
+/// and of a DVI file the name is written. Where a file cannot be fetched, or does not have what the status names, the
+/// lines are those of `write_explanation`. A fault of the stream changes nothing else.
 ///
-/// `notes` are those of the run. Without its units nothing of a formula is read again, and without the number of a
-/// formula no place is written for a place too many.
+/// `notes` are those of the run. Without units in them no formula is read again, and without the number of a formula
+/// no place is written where there are too many places.
 pub fn write_located<C: Cabinet, L: Sink>(
     alloc: Global,
     words: &[String],

@@ -39,14 +39,13 @@ pub struct ReadList {
     pub forms: ListForms,
 }
 
-/// What a font list of version 2 begins with.
-const SECOND_HEAD: &[u8] = b"mathset fonts 2";
+/// What the first line of a font list begins with; its version follows.
+pub const LIST_HEAD: &[u8] = b"mathset fonts ";
 
 fn forms_of(bytes: &[u8]) -> ListForms {
-    if bytes.starts_with(SECOND_HEAD) {
-        ListForms::Second
-    } else {
-        ListForms::First
+    match bytes.strip_prefix(LIST_HEAD) {
+        Some([b'2', ..]) => ListForms::Second,
+        _ => ListForms::First,
     }
 }
 

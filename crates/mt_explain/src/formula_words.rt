@@ -2,6 +2,7 @@
 use crate::group_words::group_words;
 use crate::missing_words::{missing_delimiter_words, missing_group_words};
 use crate::names::{is_unknown, push_unknown_name};
+use crate::names_data::EMPTY_LINE;
 use crate::text::{Text, text_of};
 use crate::tokens::is_written;
 use mt_locate::{FaultyFormula, Located};
@@ -9,17 +10,18 @@ use mt_macro::Traced;
 use mt_reader::ReadError;
 use std::alloc::Global;
 
-// Of a script where that script is there already.
-fn script_words(alloc: Global, traced: Option<&Traced>) -> Option<Text> {
-    match traced {
-        Some(script) if is_written(&script.token, b"_") => text_of(alloc, b"double subscript"),
-        Some(script) if is_written(&script.token, b"^") => text_of(alloc, b"double superscript"),
-        Some(_) => text_of(alloc, b"double superscript: a prime is a superscript"),
-        None => None,
+// What is said of a script where that script is there already.
+fn script_text(script: &Traced) -> &'static [u8] {
+    if is_written(&script.token, b"_") {
+        b"double subscript"
+    } else if is_written(&script.token, b"^") {
+        b"double superscript"
+    } else {
+        b"double superscript: a prime is a superscript"
     }
 }
 
-/// What is said of the cause of a fault in a formula, where the tokens tell more than the cause.
+/// What is said of the cause of a fault in a formula, where the tokens show more than the cause.
 pub fn cause_words(
     alloc: Global,
     source: &[u8],
@@ -28,7 +30,10 @@ pub fn cause_words(
 ) -> Option<Text> {
     let formula = formula?;
     match cause {
-        ReadError::DoubleScript(_) => script_words(alloc, formula.tokens.get(formula.index)),
+        ReadError::DoubleScript(_) => {
+            let script = formula.tokens.get(formula.index)?;
+            Some(text_of(alloc, script_text(script)))
+        }
         ReadError::BadDelimiter(_) => missing_delimiter_words(alloc, formula),
         ReadError::Unbalanced(_) => group_words(alloc, source, formula),
         ReadError::MissingField(_) => missing_group_words(alloc, formula),
@@ -47,8 +52,7 @@ pub fn name_words(alloc: Global, source: &[u8], located: &Located) -> Option<Tex
     let formula = located.formula.as_ref()?;
     let name = located.token.as_ref()?.kind.name()?.as_slice();
     if is_empty_line(source, located, name) {
-        let text = b"a formula cannot have an empty line; is the closing $ missing?";
-        return text_of(alloc, text);
+        return Some(text_of(alloc, EMPTY_LINE));
     }
     if !is_unknown(&formula.tables.codes, name) {
         return None;

@@ -7,34 +7,46 @@ use mt_macro::Traced;
 use mt_token::{Token, TokenKind};
 use std::alloc::Global;
 
-/// What opens a group, and what ends it.
-type Ends = (&'static [u8], &'static [u8]);
+/// The two tokens of a group, as they are written.
+#[derive(Clone, Copy)]
+struct Partners {
+    /// The one that opens the group.
+    opening: &'static [u8],
+    /// The one that ends it.
+    end: &'static [u8],
+}
 
-/// Groups with their ends.
-static GROUPS: [Ends; 4] = [
-    (b"{", b"}"),
-    (b"$", b"$"),
-    (b"\\left", b"\\right"),
-    (b"\\root", b"\\of"),
+/// The groups of formulas.
+#[rattlefmt::skip]
+static GROUPS: [Partners; 4] = [
+    Partners { opening: b"{", end: b"}" },
+    Partners { opening: b"$", end: b"$" },
+    Partners { opening: b"\\left", end: b"\\right" },
+    Partners { opening: b"\\root", end: b"\\of" },
 ];
 
-/// What a group is opened by that one of these ends or goes on with.
-static OPENINGS: [Ends; 4] = [
-    (b"}", b"{"),
-    (b"\\right", b"\\left"),
-    (b"\\middle", b"\\left"),
-    (b"\\of", b"\\root"),
-];
+// What ends the group that a token opens, where it opens one.
+fn end_of(token: &Token) -> Option<&'static [u8]> {
+    let group = GROUPS
+        .iter()
+        .find(|group| is_written(token, group.opening))?;
+    Some(group.end)
+}
 
-// The other text of the row for a token.
-fn other_of(rows: &[Ends; 4], token: &Token) -> Option<&'static [u8]> {
-    let row = rows.iter().find(|row| is_written(token, row.0))?;
-    Some(row.1)
+// What opens the group in which alone a token is allowed, at its end or within it. There is none for a `$`, which also
+// opens a group.
+fn opening_of(token: &Token) -> Option<&'static [u8]> {
+    if is_written(token, b"\\middle") {
+        return Some(b"\\left");
+    }
+    let mut groups = GROUPS.iter().filter(|group| group.opening != group.end);
+    let group = groups.find(|group| is_written(token, group.end))?;
+    Some(group.opening)
 }
 
 // Whether a token ends the innermost of these groups.
 fn ends_innermost(open: &[&Token], token: &Token) -> bool {
-    match open.last().and_then(|last| other_of(&GROUPS, last)) {
+    match open.last().and_then(|last| end_of(last)) {
         Some(end) => is_written(token, end),
         None => false,
     }
@@ -46,14 +58,14 @@ fn open_groups<'a>(alloc: Global, tokens: &'a [Traced]) -> Option<Vec<&'a Token>
     for traced in tokens {
         if ends_innermost(open.as_slice(), &traced.token) {
             open.pop();
-        } else if other_of(&GROUPS, &traced.token).is_some() {
+        } else if end_of(&traced.token).is_some() {
             open.push(&traced.token).ok()?;
         }
     }
     Some(open)
 }
 
-// Adds where a token is, or the macro is called that it comes from.
+// Adds where a token is, or where the macro is called in whose body it is.
 fn push_where(out: &mut Text, source: &[u8], token: &Token) {
     let Some(place) = place_at(source, token.start as usize) else {
         return;
@@ -66,7 +78,7 @@ fn push_where(out: &mut Text, source: &[u8], token: &Token) {
 
 // Adds that a group is still open at a token, or at the end where there is none.
 fn push_still_open(out: &mut Text, source: &[u8], opening: &Token, token: Option<&Token>) {
-    out.push_all(&[b"missing ", other_of(&GROUPS, opening).unwrap_or(b"end")]);
+    out.push_all(&[b"missing ", end_of(opening).unwrap_or(b"end")]);
     if let Some(token) = token {
         out.push(b" before ");
         push_token(out, token);
@@ -79,7 +91,7 @@ fn push_still_open(out: &mut Text, source: &[u8], opening: &Token, token: Option
 
 // Adds what is said of a token that ends no group.
 fn push_no_group(out: &mut Text, token: &Token, is_display: bool) {
-    match (&token.kind, other_of(&OPENINGS, token)) {
+    match (&token.kind, opening_of(token)) {
         (_, Some(opening)) => {
             push_token(out, token);
             out.push_all(&[b" without ", opening])
@@ -99,7 +111,7 @@ fn push_no_group(out: &mut Text, token: &Token, is_display: bool) {
 
 // Whether the innermost of these groups ought to end before a token.
 fn must_end(open: &[&Token], token: &Token) -> bool {
-    match (other_of(&OPENINGS, token), &token.kind, open) {
+    match (opening_of(token), &token.kind, open) {
         (Some(opening), _, _) => open.iter().any(|group| is_written(group, opening)),
         (None, TokenKind::Char(b'#' | b'$'), _) | (None, _, []) => false,
         (None, _, [.., last]) => !is_written(last, b"{"),

@@ -2,16 +2,13 @@
 ghost use Rattle.std.specs.Prelude.{◌≡◌};
 
 use crate::excerpt::push_line;
-use crate::files::fetched;
+use crate::files::{LIST_HEAD, fetched};
 use crate::refusal::Refusal;
 use crate::text::{Text, Unsaid};
 use crate::window::shown_columns;
 use mt_family::MAX_LIST_BYTES;
 use mt_outside::Cabinet;
 use std::alloc::Global;
-
-/// What the first line of a font list begins with.
-const LIST_HEAD: &[u8] = b"mathset fonts ";
 
 /// A line of a font list.
 #[derive(Clone, Copy)]

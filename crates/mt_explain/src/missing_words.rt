@@ -67,7 +67,7 @@ fn is_of_plain(macros: &Macros, traced: &Traced) -> bool {
     }
 }
 
-// Adds a command, one of plain TeX's macros by what it is.
+// Adds a command as the source has it: one in the body of a macro of plain TeX's by what the macro is for.
 fn push_command(out: &mut Text, macros: &Macros, traced: &Traced) {
     if is_of_plain(macros, traced) && is_written(&traced.token, b"\\radical") {
         out.push(b"\\sqrt")
@@ -78,7 +78,7 @@ fn push_command(out: &mut Text, macros: &Macros, traced: &Traced) {
     }
 }
 
-// What is missing behind a token and the one before it, where these tell it.
+// What is missing behind a token and the one before it, where these two show it.
 fn missing_text(before: Option<&Traced>, last: &Traced) -> Option<&'static [u8]> {
     let is_behind = |text| before.is_some_and(|word| is_written(&word.token, text));
     if is_written(&last.token, b"^") {

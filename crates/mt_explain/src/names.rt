@@ -1,12 +1,14 @@
 //! What is said of a name that means nothing where it is.
-use crate::names_data::{IN_FORMULAS, OTHER_NAMES, OUTSIDE_ALONE, OUTSIDE_FORMULAS, Replacement};
+use crate::names_data::{
+    Advice, ELSEWHERE, IN_FORMULAS, NOT_HERE, OTHER_NAMES, OUTSIDE_FORMULAS, Replacement,
+};
 use crate::nearest::{Candidate, Nearest};
 use crate::text::Text;
 use mt_macro::Macros;
 use mt_plain::{Codes, meaning_name};
 use std::alloc::Global;
 
-/// More than the names that have a meaning of mt_plain's.
+/// More than the number of names to which mt_plain gives a meaning.
 const NAME_BOUND: usize = 512;
 
 // Adds what to write in place of a name, and a definition of it.
@@ -35,12 +37,18 @@ fn formula_name(index: usize) -> Option<Candidate<'static>> {
     })
 }
 
-// The nearest name to another one: a macro's, or one that means something in a formula.
-fn nearest_name<'a>(alloc: Global, macros: &'a Macros, wanted: &'a [u8]) -> Option<&'a [u8]> {
+// The name of a macro that is nearest to another name.
+fn nearest_macro<'a>(alloc: Global, macros: &'a Macros, wanted: &'a [u8]) -> Nearest<'a> {
     let mut nearest = Nearest::to(wanted);
     for index in 0..macros.len() {
         nearest = nearest.or(alloc, macro_name(macros, index));
     }
+    nearest
+}
+
+// The nearest name to another one: a macro's, or one that means something in a formula.
+fn nearest_name<'a>(alloc: Global, macros: &'a Macros, wanted: &'a [u8]) -> Option<&'a [u8]> {
+    let mut nearest = nearest_macro(alloc, macros, wanted);
     for index in 0..NAME_BOUND {
         nearest = nearest.or(alloc, formula_name(index));
     }
@@ -59,8 +67,10 @@ fn replacement_of(name: &[u8]) -> Option<&'static Replacement> {
     IN_FORMULAS.iter().find(|known| known.0 == name)
 }
 
-fn is_outside_alone(name: &[u8]) -> bool {
-    OUTSIDE_ALONE.contains(&name)
+// What is said of a name that is in this list.
+fn advice_on(list: &[Advice], name: &[u8]) -> Option<&'static [u8]> {
+    let advice = list.iter().find(|advice| advice.0 == name)?;
+    Some(advice.1)
 }
 
 fn is_other_name(name: &[u8]) -> bool {
@@ -71,14 +81,9 @@ fn is_other_name(name: &[u8]) -> bool {
 
 // What is said of a name that is allowed elsewhere, or that plain TeX has.
 fn elsewhere(name: &[u8]) -> Option<&'static [u8]> {
-    if name == b"hbox".as_slice() {
-        Some(b" is allowed only in \\vcenter")
-    } else if is_outside_alone(name) {
-        Some(b" is allowed only outside formulas")
-    } else if is_other_name(name) {
-        Some(b" is a name of plain TeX that mathset does not have")
-    } else {
-        None
+    match advice_on(&ELSEWHERE, name) {
+        None if is_other_name(name) => Some(NOT_HERE),
+        advice => advice,
     }
 }
 
@@ -104,12 +109,12 @@ pub fn push_unknown_name(alloc: Global, out: &mut Text, macros: &Macros, name: &
 
 /// Whether a name means nothing in formulas, or nothing outside of `\vcenter`.
 pub fn is_unknown(codes: &Codes, name: &[u8]) -> bool {
-    name == b"hbox".as_slice() || codes.control(name).is_none()
+    advice_on(&ELSEWHERE, name).is_some() || codes.control(name).is_none()
 }
 
 /// Adds what to write in place of a name that is not allowed outside of formulas, where it is one of LaTeX's.
 pub fn push_name_outside(out: &mut Text, name: &[u8]) {
-    if let Some(known) = OUTSIDE_FORMULAS.iter().find(|known| known.0 == name) {
-        out.push(known.1);
+    if let Some(advice) = advice_on(&OUTSIDE_FORMULAS, name) {
+        out.push(advice);
     }
 }

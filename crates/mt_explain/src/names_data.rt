@@ -1,10 +1,10 @@
-//! Names that mean nothing where authors type them, and what is said of each.
+//! What is said of names that mean nothing where authors type them, and of spaces and empty lines in formulas.
 
 /// A name of LaTeX's that authors often type, what to write in plain TeX in its place, and a definition of it, which is
 /// empty where there is none.
 pub type Replacement = (&'static [u8], &'static [u8], &'static [u8]);
 
-/// Those of formulas.
+/// In formulas: names for which something else can be written.
 #[rattlefmt::skip]
 pub static IN_FORMULAS: [Replacement; 39] = [
     (b"\\", b"\\cr", b""),
@@ -48,12 +48,26 @@ pub static IN_FORMULAS: [Replacement; 39] = [
     (b")", b"$", b""),
 ];
 
-/// Names that mean something outside of formulas alone.
-pub static OUTSIDE_ALONE: [&[u8]; 6] = [b"par", b"def", b"mathcode", b"delcode", b"eject", b"bye"];
+/// A name, and what is said of it behind it or behind its explanation.
+pub type Advice = (&'static [u8], &'static [u8]);
 
-/// Outside of formulas: a name and what to say of it.
+/// What is said of a name that means something outside of formulas alone.
+const OUTSIDE_ALONE: &[u8] = b" is allowed only outside formulas";
+
+/// In formulas: names that are allowed elsewhere alone.
+pub static ELSEWHERE: [Advice; 7] = [
+    (b"hbox", b" is allowed only in \\vcenter"),
+    (b"par", OUTSIDE_ALONE),
+    (b"def", OUTSIDE_ALONE),
+    (b"mathcode", OUTSIDE_ALONE),
+    (b"delcode", OUTSIDE_ALONE),
+    (b"eject", OUTSIDE_ALONE),
+    (b"bye", OUTSIDE_ALONE),
+];
+
+/// Outside of formulas: names that are not allowed there.
 #[rattlefmt::skip]
-pub static OUTSIDE_FORMULAS: [(&[u8], &[u8]); 12] = [
+pub static OUTSIDE_FORMULAS: [Advice; 12] = [
     (b"documentclass", b": only formulas, definitions and ends of pages are allowed here"),
     (b"usepackage", b": only formulas, definitions and ends of pages are allowed here"),
     (b"begin", b": environments are LaTeX's; a display is $$..$$"),
@@ -72,16 +86,25 @@ pub static OUTSIDE_FORMULAS: [(&[u8], &[u8]); 12] = [
 /// each two.
 pub static OTHER_NAMES: &[u8] =
     b"Longleftarrow Longleftrightarrow Longrightarrow Relbar active allowbreak angle arrowvert begingroup \
-    bgroup bigbreak bordermatrix bowtie box braceld bracelu bracerd braceru bracevert buildrel centerline \
-    char cong copy ddots displ displaywidth doteq dots egroup endgroup endinsert enskip enspace fi footnote \
-    global goodbreak halign hang hbar hfil hfill hfilneg hidewidth hookleftarrow hookrightarrow hrule \
-    hrulefill hss ialign if iff ifmmode ifx item itemitem joinrel jot lbrack leftarrowfill leftline let \
-    lgroup lhook liminf limsup line llap lmoustache long longleftarrow longleftrightarrow longmapsto \
-    longrightarrow loop lower magnification magstep mathpalette mathsurround medmuskip medskip midinsert \
-    models moveleft moveright multispan muskip narrower negthinspace noalign nobreak noindent \
-    nointerlineskip normalbaselines notin null nulldelimiterspace number oalign offinterlineskip oldstyle \
-    omit ooalign openup overbrace overleftarrow overrightarrow pageno parindent penalty raise rbrack relbar \
-    repeat rgroup rhook rightarrowfill rightleftharpoons rightline rlap rmoustache sb scriptfont \
-    scriptscriptfont scriptspace setbox skew slash smallskip sp space span special strut surd tabskip \
-    textfont textindent the thickmuskip thinmuskip thinspace topinsert underbar underbrace unhbox unskip \
-    upbracefill vadjust valign vbox vdots vfil vfill vfootnote vglue vrule vskip vss vtop";
+    bgroup bigbreak bordermatrix bowtie box braceld bracelu bracerd braceru bracevert buildrel centerline char \
+    cong copy ddots displaywidth doteq egroup endgroup endinsert enskip enspace fi footnote global goodbreak \
+    halign hang hbar hfil hfill hfilneg hidewidth hookleftarrow hookrightarrow hrule hrulefill hss ialign if \
+    iff ifmmode ifx item itemitem joinrel jot lbrack leftarrowfill leftline let lgroup lhook liminf limsup \
+    line llap lmoustache long longleftarrow longleftrightarrow longmapsto longrightarrow loop lower \
+    magnification magstep mathpalette mathsurround medmuskip medskip midinsert models moveleft moveright \
+    multispan muskip narrower negthinspace noalign nobreak noindent nointerlineskip normalbaselines notin null \
+    nulldelimiterspace number oalign offinterlineskip oldstyle omit ooalign openup overbrace overleftarrow \
+    overrightarrow pageno parindent penalty raise rbrack relbar repeat rgroup rhook rightarrowfill \
+    rightleftharpoons rightline rlap rmoustache sb scriptfont scriptscriptfont scriptspace setbox skew slash \
+    smallskip sp space span special strut surd tabskip textfont textindent the thickmuskip thinmuskip \
+    thinspace topinsert underbar underbrace unhbox unskip upbracefill vadjust valign vbox vdots vfil vfill \
+    vfootnote vglue vrule vskip vss vtop";
+
+/// What is said of a name of [`OTHER_NAMES`], behind it.
+pub static NOT_HERE: &[u8] = b" is a name of plain TeX that mathset does not have";
+
+/// What is said of a space that is written as `~`, or as a backslash before a space, behind its explanation.
+pub static SPACE: &[u8] = b": write \\; for a space";
+
+/// What is said of an empty line in a formula.
+pub static EMPTY_LINE: &[u8] = b"a formula cannot have an empty line; is the closing $ missing?";

@@ -68,7 +68,7 @@ fn push_source(
 }
 
 /// Adds the lines for a fault in the source of this name. `named` is the family of the list that the status names; where
-/// the list cannot be had, it is left out.
+/// the list cannot be fetched, it is left out.
 pub fn explain_source<C: Cabinet>(
     out: &mut Text,
     run: Refusal<'_>,

@@ -1,12 +1,13 @@
 //! What is said of a fault at its place in a source.
 use crate::formula_words::{cause_words, name_words};
 use crate::names::push_name_outside;
+use crate::names_data::SPACE;
 use crate::refusal::Refusal;
 use crate::text::{Text, text_of};
 use mt_locate::Located;
 use mt_reader::{DocError, OutsideCause, ReadError};
 
-// Adds these words of a formula, or else the explanation.
+// Adds these words about a formula, or the explanation where there are none.
 fn push_formula(out: &mut Text, run: Refusal<'_>, n: u32, words: Option<Text>) {
     let Some(words) = words else {
         return out.push_explanation(run.alloc, run.status);
@@ -20,14 +21,12 @@ fn push_formula(out: &mut Text, run: Refusal<'_>, n: u32, words: Option<Text>) {
 // Adds what to write for a space, where one is written in a way that is not allowed.
 fn push_space(out: &mut Text, rest: &[u8]) {
     match rest {
-        [b'~', ..] | [b'\\', b' ' | b'\t' | b'\n' | b'\r', ..] => {
-            out.push(b": write \\; for a space")
-        }
+        [b'~', ..] | [b'\\', b' ' | b'\t' | b'\n' | b'\r', ..] => out.push(SPACE),
         _ => {}
     }
 }
 
-// What is said of a formula without its end, by the text from the brace or the dollar that has no partner.
+// What is said of a formula without its end, by the text from the brace or the dollar that has no counterpart.
 fn unmatched_text(rest: &[u8]) -> &'static [u8] {
     match rest {
         [b'}', ..] => b"this } has no matching {",
@@ -48,7 +47,8 @@ fn push_outside(
 ) {
     match cause {
         OutsideCause::OpenFormula => {
-            push_formula(out, run, n, text_of(run.alloc, unmatched_text(rest)))
+            let text = text_of(run.alloc, unmatched_text(rest));
+            push_formula(out, run, n, Some(text))
         }
         OutsideCause::Misplaced => {
             out.push_explanation(run.alloc, run.status);
@@ -81,7 +81,7 @@ fn push_read(
     }
 }
 
-/// Adds what is said of a fault at its place in a source: what the status means, or what the token there says.
+/// Adds what is said of a fault at its place in a source: what the status means, or more, as the token there shows it.
 pub fn push_words(out: &mut Text, run: Refusal<'_>, source: &[u8], located: &Located) {
     let rest = source.get(located.offset..).unwrap_or(&[]);
     match located.fault {

@@ -7,8 +7,8 @@ use std::alloc::{AllocError, AllocFailed, Global};
 /// Room for the explanation of a refusal that names no file.
 const ROOM: usize = 1_000;
 
-/// No more is said than the explanation of the status: a file cannot be read, or does not have what the status says, or
-/// memory ran out.
+/// No more is said than the explanation of the status: a file cannot be read, or does not have what the status names,
+/// or memory ran out.
 #[derive(Clone, Copy, Debug)]
 pub struct Unsaid;
 
@@ -89,8 +89,8 @@ impl Text {
 }
 
 /// The text of these bytes.
-pub fn text_of(alloc: Global, bytes: &[u8]) -> Option<Text> {
+pub fn text_of(alloc: Global, bytes: &[u8]) -> Text {
     let mut text = Text::new(alloc);
     text.push(bytes);
-    Some(text)
+    text
 }
