@@ -1,5 +1,8 @@
 //! What is said of a font whose TFM file has a fault or cannot be read.
-ghost use Rattle.std.specs.Prelude.{◌≡◌};
+ghost use Rattle.std.specs.Prelude.{◌≡◌, ◌⊎◌, IfSome};
+ghost use Rattle.mt_tfm.specs.Tfm.{TfmFault};
+ghost use Rattle.mt_tfm.specs.declared.error.TfmError.TheVariants.{BadIndex, ChainCycle};
+ghost use Rattle.mt_tfm.specs.declared.wanted.Wanted.TheVariants.{Scaled};
 
 use crate::files::{fetched, fetched_list};
 use crate::fonts::{DESIGN_SIZE, push_character};
@@ -24,7 +27,9 @@ fn tfm_name(alloc: Global, name: &Name) -> Result<String, Unsaid> {
 }
 
 // The character that a font is refused for, where it is refused for one.
-fn character_of(error: TfmError) -> Option<u8> {
+fn character_of(error: TfmError) -> Option<u8>
+    ensures { IfSome result (λ code. (error ≡ BadIndex code) ⊎ (error ≡ ChainCycle code)) }
+{
     match error {
         TfmError::BadIndex(code) | TfmError::ChainCycle(code) => Some(code),
         TfmError::Truncated
@@ -41,7 +46,10 @@ fn character_of(error: TfmError) -> Option<u8> {
 
 // The character at fault in a font's file with these bytes, which was refused for this cause. There is none where the
 // bytes are refused for another cause: the file has changed since the run, or the run tests the size of the font first.
-fn character_at_fault(alloc: Global, font: &[u8], cause: u8) -> Option<u8> {
+fn character_at_fault(alloc: Global, font: &[u8], cause: u8) -> Option<u8>
+    ensures { IfSome result (λ code. ((cause ≡ 4) × TfmFault font.now (Scaled 1000) (BadIndex code))
+        ⊎ ((cause ≡ 5) × TfmFault font.now (Scaled 1000) (ChainCycle code))) }
+{
     match read_tfm_wanted(alloc, font, DESIGN_SIZE, None) {
         Err(error) if error.number() == cause => character_of(error),
         Err(_) | Ok(_) => None,
