@@ -1,4 +1,4 @@
-//! What the cause of a font and that of a token mean: those that crates below have, and one more of each.
+//! What the causes of fonts and of tokens mean: those of the crates below, and one more of each.
 ghost use Rattle.std.specs.Prelude.{◌≡◌};
 ghost use Rattle.mt_scaled.specs.Meanings.{IsLine};
 ghost use Rattle.mt_status.specs.Meanings.{font_cause, token_cause};

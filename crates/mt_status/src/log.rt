@@ -105,7 +105,7 @@ fn write_family<L: Sink>(log: &mut L, fam: u8, size: Size, cause: u8)
     );
 }
 
-// A formula, by its number, and what is the matter with it as a whole.
+// A formula, by its number, and what is wrong with it as a whole.
 fn write_formula<L: Sink>(log: &mut L, n: u32, tail: &[u8])
     ensures { Gets L.written L.faults log.old log.new
         (concat (codes "mathset: formula " ∷ decimal n ∷ tail.now ∷ [])) }
@@ -314,7 +314,7 @@ fn write_file_byte<L: Sink>(log: &mut L, file: u32, offset: u64, cause: u8)
 /// Writes the line of a refusal, and nothing for `Done`. A fault of the log changes nothing else.
 ///
 /// The name of a file is in the line unchanged: one that has a line feed makes two lines. It takes no memory, so
-/// that lack of memory can be told too.
+/// that lack of memory can be reported too.
 pub fn write_line<L: Sink>(log: &mut L, status: &Status)
     ensures { Gets L.written L.faults log.old log.new (log_line status.now) }
 {

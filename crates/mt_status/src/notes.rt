@@ -3,8 +3,8 @@ ghost use Rattle.std.specs.Prelude.{◌≡◌, None};
 
 use mt_scaled::Units;
 
-/// What a run notes beside its status, for the words about a fault: what was read and set for that status, so that it
-/// need not be read or set once more.
+/// What a run notes beside its status, for the lines that explain a fault: what was read and set for that status, so
+/// that it need not be read or set once more.
 #[derive(Clone, Copy, Debug)]
 pub struct Notes {
     /// What em and ex are in the fonts of the run, once they are read.

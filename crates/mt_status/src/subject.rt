@@ -1,4 +1,4 @@
-//! Of what a status tells.
+//! What a status is about.
 ghost use Rattle.std.specs.Prelude.{◌≡◌};
 ghost use Rattle.mt_status.specs.Statuses.{subject_of};
 
@@ -52,7 +52,7 @@ pub enum Numbers {
     Page(u64),
 }
 
-/// Of what a status tells.
+/// What a status is about.
 #[derive(Clone, Copy, Debug)]
 pub enum Subject {
     /// Nothing that can be shown.
@@ -88,7 +88,7 @@ fn named(family: u8, size: Size, characters: Characters) -> NamedFamily
 }
 
 impl Status {
-    /// Of what it tells.
+    /// What it is about.
     pub fn subject(&self) -> Subject
         ensures { result ≡ subject_of self.now }
     {
