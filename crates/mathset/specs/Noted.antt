@@ -22,7 +22,7 @@ sets_source (Some (Set words)) = true
 sets_source (Some (Places words)) = true
 sets_source request = false
 
--- whether a status tells of a source: of a byte, a formula or a page
+-- whether a status is about a source: a byte of it, the fault of its reading, a formula or its places
 abbrev pub is_of_source : Subject → Bool
 is_of_source (subjects.Byte offset cause) = true
 is_of_source (subjects.Fault numbers) = true

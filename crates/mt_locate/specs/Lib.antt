@@ -4,7 +4,7 @@ pub mod Places
 pub mod Sought
 -- at which token a fault is
 pub mod FaultTokens
--- the brace without partner
+-- the brace that nothing matches
 pub mod Unmatched
 -- where a fault is
 pub mod Faults

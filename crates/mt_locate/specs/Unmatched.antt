@@ -1,4 +1,4 @@
--- The brace or the dollar of a formula without end that has no partner (`unmatched_token`).
+-- The brace or the dollar that nothing matches, of a formula without end (`unmatched_token`).
 use Rattle.std.specs.Prelude.{ℕ, zero, suc, ◌+◌, ◌-◌, ◌==◌, List, [], ◌∷◌, drop, slice_get, Option, Some, None, if◌then◌else◌}
 use Rattle.mt_token.specs.declared.token.Token.{Token}
 use Rattle.mt_macro.specs.Braces.{is_close, is_open}
@@ -22,6 +22,6 @@ brace_or brace None = None
 brace_or None (Some dollar) = Some dollar
 brace_or (Some brace) (Some dollar) = Some brace
 
--- the token without partner of the formula that begins at this index: a brace, or its dollar
+-- the token that nothing matches, of the formula that begins at this index: a brace, or its dollar
 abbrev pub unmatched_token : List Token → ℕ → Option Token
 unmatched_token tokens index = brace_or (unmatched_brace 0 None (drop index tokens)) (slice_get tokens index)

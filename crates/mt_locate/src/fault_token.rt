@@ -12,7 +12,7 @@ use mt_status::{MISSING_ARGUMENT, Numbers};
 pub enum FaultToken {
     /// The token of this index in the source.
     OfSource(u32),
-    /// The one without partner of the formula that begins at this index.
+    /// The one that nothing matches, of the formula that begins at this index.
     Unmatched(u32),
     /// The token of this index in the formula after expansion, or its closing `$`.
     Expanded(u32),

@@ -1,4 +1,4 @@
-//! The brace or the dollar of a formula without end that has no partner.
+//! The brace or the dollar that nothing matches, of a formula without end.
 ghost use Rattle.std.specs.Prelude.{◌≡◌, None};
 ghost use Rattle.std.specs.Option.{option_copied};
 ghost use Rattle.mt_locate.specs.Unmatched.{unmatched_brace, unmatched_token};
@@ -30,7 +30,7 @@ fn unmatched_brace(tokens: &[Token]) -> Option<&Token>
     if level > 0 { outermost } else { None }
 }
 
-/// The token without its partner of a formula without end, of which the first `$` has this index: a brace, or else the
+/// The token that nothing matches, of a formula without end whose first `$` has this index: a brace, or else the
 /// `$`.
 pub fn unmatched_token(tokens: &[Token], index: usize) -> Option<&Token>
     ensures { option_copied result ≡ unmatched_token tokens.now index }

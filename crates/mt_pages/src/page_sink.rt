@@ -57,7 +57,7 @@ fn add_all<S: PageSink>(
 }
 
 /// Adds the pages of a source, set in these fonts on lines of `width` scaled points. A page is added as soon as it is set.
-/// The number of the formula that has place 2,000,001 is noted; where there is none, that is noted too.
+/// Where the refusal is place 2,000,001, the number of its formula is noted; else no formula is.
 ///
 /// # Errors
 ///

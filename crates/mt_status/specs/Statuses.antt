@@ -1,5 +1,5 @@
 -- The table of statuses: the number of each (`code_of`), its line of the log (`log_line`), its line for a person
--- (`explained`), what it means (`meaning`), of what it tells (`subject_of`), and from what it comes (`refusal_origin`).
+-- (`explained`), what it means (`meaning`), what it is about (`subject_of`), and from what it comes (`refusal_origin`).
 use Rattle.std.specs.Prelude.{ℕ, List, [], ◌∷◌, Some, None, codes, decimal}
 use Rattle.std.specs.List.{concat}
 use Rattle.std.specs.Fmt.{signed_decimal}
@@ -142,7 +142,7 @@ much_subject Pages count = subjects.Fault (numbers.Page count)
 much_subject Places count = subjects.Places
 much_subject Bytes count = subjects.Nothing
 
--- of what it tells
+-- what it is about
 abbrev pub subject_of : Status → Subject
 subject_of Done = subjects.Nothing
 subject_of BadWords = subjects.Nothing

@@ -103,7 +103,7 @@ fn write_whole<L: Sink>(log: &mut L, text: &str)
     write_parts(log, &[LogPart::Text(text.as_bytes()), LogPart::Text(b"\n")]);
 }
 
-// The place that the refusal tells, and the text.
+// The place that the refusal names, and the text.
 fn write_explained<L: Sink>(log: &mut L, status: &Status, text: &str)
     ensures { Gets L.written L.faults log.old log.new (explained status.now text.now) }
 {
