@@ -3,11 +3,11 @@ use Rattle.std.specs.Prelude.{ℕ, ◌+◌, ◌-◌, ◌==◌, List, [], ◌∷�
 use Rattle.std.specs.List.{fold, count_by}
 use Rattle.mt_explain.specs.declared.position.Position.{Position}
 
--- lines count from 1: a line begins behind each line feed
+-- lines count from 1: a line begins after each line feed
 abbrev pub line_number : List ℕ → ℕ → ℕ
 line_number text offset = 1 + count_by (nat_eq 10) (take offset text)
 
--- the column behind a byte: the first one behind a line feed, and else the next one
+-- the column after a byte: the first one after a line feed, and else the next one
 abbrev pub column_after : ℕ → ℕ → ℕ
 column_after column byte = if byte == 10 then 1 else column + 1
 

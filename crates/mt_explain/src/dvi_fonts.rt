@@ -22,14 +22,14 @@ fn front(bytes: &[u8], count: usize) -> &[u8] {
     bytes.get(..count).unwrap_or(bytes)
 }
 
-// The bytes behind so many.
+// The bytes after the first so many.
 fn behind(bytes: &[u8], count: usize) -> &[u8]
     ensures falls { length result.now ≤ length bytes.now }
 {
     bytes.get(count..).unwrap_or(&[])
 }
 
-// The number that these bytes have, the highest one first.
+// The number that these bytes have, the most significant byte first.
 fn unsigned(bytes: &[u8]) -> u32 {
     let mut number: u32 = 0;
     for byte in bytes {

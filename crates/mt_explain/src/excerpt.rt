@@ -52,8 +52,8 @@ pub fn push_line(out: &mut Text, number: usize, line: &[u8]) {
     out.push(b"\n");
 }
 
-/// Adds the line of a place with its number, and under it a mark below the place. A line longer than 120 columns is cut
-/// on both sides of the column.
+/// Adds the line of a place with its number, and under it a mark below the place. Of a line longer than 120 columns
+/// the part is shown that `shown_columns` gives.
 pub fn push_excerpt(out: &mut Text, source: &[u8], place: Place)
     requires { IsPlaceIn source.now place }
 {

@@ -98,9 +98,10 @@ fn push_explained<C: Cabinet>(
 }
 
 /// Writes what a refusal means and where it is, for a person, and nothing for `Done`; docs/FORMATS.md has the lines
-/// ("Explanations" and "Places"). The font list, the source or the font that the status is about is fetched once more,
-/// and of a DVI file the name is written. Where a file cannot be fetched, or does not have what the status names, the
-/// lines are those of `write_explanation`. A fault of the stream changes nothing else.
+/// ("Explanations" and "Places"). The font list, the source or the TFM file that the status is about is fetched once
+/// more; where it cannot be fetched, or does not have what the status names, the lines are those of
+/// `write_explanation`. Of a DVI file the name is written, and where its font is the cause, it is fetched too. A fault of
+/// the stream changes nothing else.
 ///
 /// `notes` are those of the run. Without units in them no formula is read again, and without the number of a formula
 /// no place is written where there are too many places.

@@ -10,7 +10,7 @@ pub const POINT: i64 = 65_536;
 /// The size of a font that is wanted at its design size.
 pub const DESIGN_SIZE: Wanted = Wanted::Scaled(1_000);
 
-/// The most digits behind the point of a length in points (tex.web, section 103).
+/// The most digits after the decimal point of a length in points (tex.web, section 103).
 const MOST_DIGITS: u32 = 5;
 
 // The size of a family in words.
@@ -22,7 +22,8 @@ fn size_text(size: Size) -> &'static [u8] {
     }
 }
 
-// The digits behind the point of a length: as few as are read as the same length again (tex.web, section 103).
+// Adds the digits after the decimal point of a length: the fewest that are read as the same length (tex.web,
+// section 103).
 fn push_fraction(out: &mut Text, part: i64) {
     let mut rest = part.saturating_mul(10).saturating_add(5);
     let mut unit: i64 = 10;

@@ -10,7 +10,7 @@ use mt_macro::Traced;
 use mt_reader::ReadError;
 use std::alloc::Global;
 
-// What is said of a script where that script is there already.
+// What is said of a second superscript or a second subscript.
 fn script_text(script: &Traced) -> &'static [u8] {
     if is_written(&script.token, b"_") {
         b"double subscript"

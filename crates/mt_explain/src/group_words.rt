@@ -52,7 +52,7 @@ fn ends_innermost(open: &[&Token], token: &Token) -> bool {
     }
 }
 
-// The tokens of the groups that are open behind these tokens, the outermost first.
+// The tokens of the groups that are open after these tokens, the outermost first.
 fn open_groups<'a>(alloc: Global, tokens: &'a [Traced]) -> Option<Vec<&'a Token>> {
     let mut open = Vec::new(alloc);
     for traced in tokens {

@@ -26,7 +26,7 @@ pub fn line_of(list: &[u8], number: usize) -> Option<ListLine<'_>> {
     Some(ListLine { number, text })
 }
 
-/// Adds the lines for a line of a font list: what the status means, with a hint behind it, and the first 120 columns of
+/// Adds the lines for a line of a font list: what the status means, with a hint after it, and the first 120 columns of
 /// the line.
 pub fn push_list_line(
     out: &mut Text,

@@ -1,4 +1,4 @@
-//! What is missing in a formula, and behind which command.
+//! What is missing in a formula, and after which command.
 use crate::text::Text;
 use crate::tokens::{is_written, push_token};
 use Wants::{Delimiter, Field, Group};
@@ -50,7 +50,7 @@ fn tokens_before(formula: &FaultyFormula) -> &[Traced] {
     }
 }
 
-// Whether a token may be one of a number in hexadecimal.
+// Whether a token may be part of a hexadecimal number, or is a space.
 fn is_digit(traced: &Traced) -> bool {
     match &traced.token.kind {
         TokenKind::Char(code) => code.is_ascii_hexdigit() || *code == b'"',
@@ -78,7 +78,7 @@ fn push_command(out: &mut Text, macros: &Macros, traced: &Traced) {
     }
 }
 
-// What is missing behind a token and the one before it, where these two show it.
+// What is missing after a token and the one before it, where these two show it.
 fn missing_text(before: Option<&Traced>, last: &Traced) -> Option<&'static [u8]> {
     let is_behind = |text| before.is_some_and(|word| is_written(&word.token, text));
     if is_written(&last.token, b"^") {
@@ -98,7 +98,7 @@ fn missing_text(before: Option<&Traced>, last: &Traced) -> Option<&'static [u8]>
     }
 }
 
-// Adds that a character or a group is missing behind a command; whether there is one.
+// Adds that a character or a group is missing after a command; whether there is one.
 fn push_missing_field(out: &mut Text, macros: &Macros, before: &[Traced]) -> bool {
     let Some(command) = before.iter().rfind(|traced| !is_digit(traced)) else {
         return false;

@@ -112,7 +112,7 @@ pub fn is_unknown(codes: &Codes, name: &[u8]) -> bool {
     advice_on(&ELSEWHERE, name).is_some() || codes.control(name).is_none()
 }
 
-/// Adds what to write in place of a name that is not allowed outside of formulas, where it is one of LaTeX's.
+/// Adds what is said of a name that is not allowed outside of formulas, where the list of such names has it.
 pub fn push_name_outside(out: &mut Text, name: &[u8]) {
     if let Some(advice) = advice_on(&OUTSIDE_FORMULAS, name) {
         out.push(advice);

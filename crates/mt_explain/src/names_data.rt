@@ -63,7 +63,7 @@ pub static IN_FORMULAS: [Replacement; 39] = [
     (b")", b"$", b""),
 ];
 
-/// A name, and what is said of it behind it or behind its explanation.
+/// A name, and the text that follows it, or that follows its explanation.
 pub type Advice = (&'static [u8], &'static [u8]);
 
 /// What is said of the head of a document.
@@ -121,10 +121,10 @@ pub static OTHER_NAMES: &[u8] =
     thinspace topinsert underbar underbrace unhbox unskip upbracefill vadjust valign vbox vdots vfil vfill \
     vfootnote vglue vrule vskip vss vtop";
 
-/// What is said of a name of [`OTHER_NAMES`], behind it.
+/// The text that follows a name of [`OTHER_NAMES`].
 pub static NOT_HERE: &[u8] = b" is a name of plain TeX that mathset does not have";
 
-/// What is said of a space that is written as `~`, or as a backslash before a space, behind its explanation.
+/// What is said of a space that is written as `~`, or as a backslash before a space, after its explanation.
 pub static SPACE: &[u8] = b": write \\; for a space";
 
 /// What is said of an empty line in a formula.

@@ -12,7 +12,7 @@ pub struct Position {
     pub column: usize,
 }
 
-// The line of the byte behind these.
+// The line of the byte after these.
 fn line_behind(before: &[u8]) -> usize
     ensures { result ≡ 1 + count_by (nat_eq 10) before.now }
 {
@@ -25,7 +25,7 @@ fn line_behind(before: &[u8]) -> usize
     line
 }
 
-// The column of the byte behind these.
+// The column of the byte after these.
 fn column_behind(before: &[u8]) -> usize
     ensures is { result ≡ fold column_after 1 before.now }
     ensures within { result ≤ length before.now + 1 }

@@ -45,7 +45,7 @@ impl Text {
         self.is_whole &= self.bytes.extend_from_slice(bytes).is_ok();
     }
 
-    /// Adds pieces, one behind another.
+    /// Adds pieces, one after another.
     pub fn push_all(&mut self, pieces: &[&[u8]]) {
         for piece in pieces {
             self.push(piece);

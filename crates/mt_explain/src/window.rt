@@ -18,7 +18,7 @@ pub struct Window {
 }
 
 /// Which columns of a line of so many bytes are shown, where one of them is meant, counted from 1: all, or 120 with the
-/// one that is meant, 80 of them before it where the line is cut on both sides. The column behind the last byte may be
+/// one that is meant, 80 of them before it where the line is cut on both sides. The column after the last byte may be
 /// meant.
 pub fn shown_columns(length: usize, column: usize) -> Window
     requires { 1 ≤ column }

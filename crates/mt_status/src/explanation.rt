@@ -80,7 +80,7 @@ fn explanation(status: &Status) -> &'static str
     }
 }
 
-// A place, and what is the matter there.
+// A place, and what is wrong there.
 fn write_at<'a, L: Sink>(log: &mut L, head: &'a [u8], place: LogPart<'a>, text: &'a str)
     ensures { Gets L.written L.faults log.old log.new
         (concat (head.now ∷ part_bytes place.entry ∷ codes ": " ∷ text.now ∷ codes "\n" ∷ [])) }

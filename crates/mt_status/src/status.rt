@@ -53,7 +53,7 @@ pub enum Status {
         font: u32,
         cause: u8,
     },
-    /// A family that the fonts do not serve at a size.
+    /// A family that has no font at a size, or an unsuitable one.
     BadFamily {
         fam: u8,
         size: Size,
