@@ -14,18 +14,27 @@ use std::alloc::Global;
 /// A font of Computer Modern, and its design size in points.
 type DesignedFont = (&'static [u8], u32);
 
-/// The fonts of plain TeX's families at the sizes text, script and scriptscript. For a size that plain TeX does not
-/// have it is a smaller font of the same kind.
+/// A family of plain TeX.
+#[derive(Clone, Copy)]
+struct PlainFamily {
+    /// Its fonts at the sizes text, script and scriptscript. For a size that plain TeX does not have it is a smaller
+    /// font of the same kind.
+    fonts: [DesignedFont; 3],
+    /// The skew character of these fonts, as a line of a font list gives it.
+    skew: &'static [u8],
+}
+
+/// The families of plain TeX, and their skew characters (The TeXbook, appendix B).
 #[rattlefmt::skip]
-static FAMILY_FONTS: [[DesignedFont; 3]; 8] = [
-    [(b"cmr10", 10), (b"cmr7", 7), (b"cmr5", 5)],
-    [(b"cmmi10", 10), (b"cmmi7", 7), (b"cmmi5", 5)],
-    [(b"cmsy10", 10), (b"cmsy7", 7), (b"cmsy5", 5)],
-    [(b"cmex10", 10), (b"cmex10", 10), (b"cmex10", 10)],
-    [(b"cmti10", 10), (b"cmti7", 7), (b"cmti7", 7)],
-    [(b"cmsl10", 10), (b"cmsl8", 8), (b"cmsl8", 8)],
-    [(b"cmbx10", 10), (b"cmbx7", 7), (b"cmbx5", 5)],
-    [(b"cmtt10", 10), (b"cmtt8", 8), (b"cmtt8", 8)],
+static PLAIN_FAMILIES: [PlainFamily; 8] = [
+    PlainFamily { fonts: [(b"cmr10", 10), (b"cmr7", 7), (b"cmr5", 5)], skew: b"-" },
+    PlainFamily { fonts: [(b"cmmi10", 10), (b"cmmi7", 7), (b"cmmi5", 5)], skew: b"127" },
+    PlainFamily { fonts: [(b"cmsy10", 10), (b"cmsy7", 7), (b"cmsy5", 5)], skew: b"48" },
+    PlainFamily { fonts: [(b"cmex10", 10), (b"cmex10", 10), (b"cmex10", 10)], skew: b"-" },
+    PlainFamily { fonts: [(b"cmti10", 10), (b"cmti7", 7), (b"cmti7", 7)], skew: b"-" },
+    PlainFamily { fonts: [(b"cmsl10", 10), (b"cmsl8", 8), (b"cmsl8", 8)], skew: b"-" },
+    PlainFamily { fonts: [(b"cmbx10", 10), (b"cmbx7", 7), (b"cmbx5", 5)], skew: b"-" },
+    PlainFamily { fonts: [(b"cmtt10", 10), (b"cmtt8", 8), (b"cmtt8", 8)], skew: b"-" },
 ];
 
 // The size of a font of so many points, as a list of these forms gives it.
@@ -36,26 +45,31 @@ fn wanted_size(forms: ListForms, points: u32) -> Wanted {
     }
 }
 
-// The number of a font in the list.
-fn listed_number(lines: &[FontLine], name: &[u8], wanted: Wanted) -> Option<usize> {
-    lines.iter().position(|line| line.name.as_slice() == name && line.wanted == wanted)
+// Whether a line of a list wants a font of so many points at its design size.
+fn is_design_size(wanted: Wanted, points: u32) -> bool {
+    wanted == DESIGN_SIZE || wanted == wanted_size(ListForms::First, points)
+}
+
+// The number of a font at its design size in the list.
+fn listed_number(lines: &[FontLine], name: &[u8], points: u32) -> Option<usize> {
+    lines.iter().position(|line| line.name.as_slice() == name
+        && is_design_size(line.wanted, points))
 }
 
 // Adds the line of a font.
-fn push_font_line(out: &mut Text, name: &[u8], wanted: Wanted) {
+fn push_font_line(out: &mut Text, name: &[u8], wanted: Wanted, skew: &[u8]) {
     out.push_all(&[b"font ", name]);
     match wanted {
         Wanted::At(size) => {
             out.push(b" ");
-            out.push_number(size);
-            out.push(b" -\n")
+            out.push_number(size)
         }
         Wanted::Scaled(factor) => {
             out.push(b" scaled ");
-            out.push_number(factor);
-            out.push(b"\n")
+            out.push_number(factor)
         }
     }
+    out.push_all(&[b" ", skew, b"\n"]);
 }
 
 // The number of a font. Its line is added where neither the list nor the lines that were added before have it.
@@ -64,11 +78,11 @@ fn push_font_once(
     list: &ReadList,
     added: &mut Vec<&'static [u8]>,
     font: DesignedFont,
+    skew: &[u8],
 ) -> Result<usize, Unsaid> {
     let (name, points) = font;
-    let wanted = wanted_size(list.forms, points);
     let lines = list.list.lines.as_slice();
-    if let Some(number) = listed_number(lines, name, wanted) {
+    if let Some(number) = listed_number(lines, name, points) {
         return Ok(number);
     }
     let first = lines.len();
@@ -76,7 +90,7 @@ fn push_font_once(
         return Ok(first.saturating_add(place));
     }
     let number = first.saturating_add(added.len());
-    push_font_line(out, name, wanted);
+    push_font_line(out, name, wanted_size(list.forms, points), skew);
     added.push(name)?;
     Ok(number)
 }
@@ -87,13 +101,13 @@ fn push_lines(
     out: &mut Text,
     list: &ReadList,
     family: u8,
-    fonts: &[DesignedFont; 3],
+    plain: &PlainFamily,
 ) -> Result<(), Unsaid> {
-    let [text, script, scriptscript] = *fonts;
+    let [text, script, scriptscript] = plain.fonts;
     let mut added = Vec::new(alloc);
-    let text = push_font_once(out, list, &mut added, text)?;
-    let script = push_font_once(out, list, &mut added, script)?;
-    let scriptscript = push_font_once(out, list, &mut added, scriptscript)?;
+    let text = push_font_once(out, list, &mut added, text, plain.skew)?;
+    let script = push_font_once(out, list, &mut added, script, plain.skew)?;
+    let scriptscript = push_font_once(out, list, &mut added, scriptscript, plain.skew)?;
     out.push(b"family ");
     out.push_number(family);
     for number in [text, script, scriptscript] {
@@ -105,7 +119,7 @@ fn push_lines(
 }
 
 // Whether the list has a line for a family, or no room for three fonts more.
-fn is_full(list: &FontList, family: u8) -> bool {
+fn cannot_take(list: &FontList, family: u8) -> bool {
     list.lines.len().saturating_add(3) > MAX_FONTS
         || list
             .families
@@ -123,10 +137,10 @@ pub fn push_family_lines(
     list: &ReadList,
     family: u8,
 ) -> Result<(), Unsaid> {
-    match FAMILY_FONTS.get(usize::from(family)) {
-        Some(fonts) if !is_full(&list.list, family) => {
+    match PLAIN_FAMILIES.get(usize::from(family)) {
+        Some(plain) if !cannot_take(&list.list, family) => {
             out.push_all(&[b"add these lines to ", name.as_bytes(), b":\n"]);
-            push_lines(alloc, out, list, family, fonts)
+            push_lines(alloc, out, list, family, plain)
         }
         _ => Ok(()),
     }
