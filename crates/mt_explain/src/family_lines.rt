@@ -14,12 +14,15 @@ use std::alloc::Global;
 /// A font of Computer Modern, and its design size in points.
 type DesignedFont = (&'static [u8], u32);
 
-/// A family of plain TeX.
+/// The fonts of a family of plain TeX. For a size that plain TeX does not have it is a smaller font of the same kind.
 #[derive(Clone, Copy)]
 struct PlainFamily {
-    /// Its fonts at the sizes text, script and scriptscript. For a size that plain TeX does not have it is a smaller
-    /// font of the same kind.
-    fonts: [DesignedFont; 3],
+    /// That of text size.
+    text: DesignedFont,
+    /// That of script size.
+    script: DesignedFont,
+    /// That of scriptscript size.
+    scriptscript: DesignedFont,
     /// The skew character of these fonts, as a line of a font list gives it.
     skew: &'static [u8],
 }
@@ -27,14 +30,14 @@ struct PlainFamily {
 /// The families of plain TeX, and their skew characters (The TeXbook, appendix B).
 #[rattlefmt::skip]
 static PLAIN_FAMILIES: [PlainFamily; 8] = [
-    PlainFamily { fonts: [(b"cmr10", 10), (b"cmr7", 7), (b"cmr5", 5)], skew: b"-" },
-    PlainFamily { fonts: [(b"cmmi10", 10), (b"cmmi7", 7), (b"cmmi5", 5)], skew: b"127" },
-    PlainFamily { fonts: [(b"cmsy10", 10), (b"cmsy7", 7), (b"cmsy5", 5)], skew: b"48" },
-    PlainFamily { fonts: [(b"cmex10", 10), (b"cmex10", 10), (b"cmex10", 10)], skew: b"-" },
-    PlainFamily { fonts: [(b"cmti10", 10), (b"cmti7", 7), (b"cmti7", 7)], skew: b"-" },
-    PlainFamily { fonts: [(b"cmsl10", 10), (b"cmsl8", 8), (b"cmsl8", 8)], skew: b"-" },
-    PlainFamily { fonts: [(b"cmbx10", 10), (b"cmbx7", 7), (b"cmbx5", 5)], skew: b"-" },
-    PlainFamily { fonts: [(b"cmtt10", 10), (b"cmtt8", 8), (b"cmtt8", 8)], skew: b"-" },
+    PlainFamily { text: (b"cmr10", 10), script: (b"cmr7", 7), scriptscript: (b"cmr5", 5), skew: b"-" },
+    PlainFamily { text: (b"cmmi10", 10), script: (b"cmmi7", 7), scriptscript: (b"cmmi5", 5), skew: b"127" },
+    PlainFamily { text: (b"cmsy10", 10), script: (b"cmsy7", 7), scriptscript: (b"cmsy5", 5), skew: b"48" },
+    PlainFamily { text: (b"cmex10", 10), script: (b"cmex10", 10), scriptscript: (b"cmex10", 10), skew: b"-" },
+    PlainFamily { text: (b"cmti10", 10), script: (b"cmti7", 7), scriptscript: (b"cmti7", 7), skew: b"-" },
+    PlainFamily { text: (b"cmsl10", 10), script: (b"cmsl8", 8), scriptscript: (b"cmsl8", 8), skew: b"-" },
+    PlainFamily { text: (b"cmbx10", 10), script: (b"cmbx7", 7), scriptscript: (b"cmbx5", 5), skew: b"-" },
+    PlainFamily { text: (b"cmtt10", 10), script: (b"cmtt8", 8), scriptscript: (b"cmtt8", 8), skew: b"-" },
 ];
 
 // The size of a font of so many points, as a list of these forms gives it.
@@ -103,11 +106,10 @@ fn push_lines(
     family: u8,
     plain: &PlainFamily,
 ) -> Result<(), Unsaid> {
-    let [text, script, scriptscript] = plain.fonts;
     let mut added = Vec::new(alloc);
-    let text = push_font_once(out, list, &mut added, text, plain.skew)?;
-    let script = push_font_once(out, list, &mut added, script, plain.skew)?;
-    let scriptscript = push_font_once(out, list, &mut added, scriptscript, plain.skew)?;
+    let text = push_font_once(out, list, &mut added, plain.text, plain.skew)?;
+    let script = push_font_once(out, list, &mut added, plain.script, plain.skew)?;
+    let scriptscript = push_font_once(out, list, &mut added, plain.scriptscript, plain.skew)?;
     out.push(b"family ");
     out.push_number(family);
     for number in [text, script, scriptscript] {
