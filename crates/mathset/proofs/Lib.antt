@@ -16,3 +16,5 @@ mod MadeLemmas
 mod CopyLemmas
 -- what a run notes beside its status
 pub mod NoteLemmas
+-- a source that is cut, set part by part and joined
+mod CutLemmas

@@ -26,6 +26,7 @@ pub mod HeldPages
 pub mod CopiedAnswer
 pub mod PagesRead
 pub mod Joined
+pub mod PartPages
 pub mod Copying
 pub mod InPageDeeds
 pub mod CopyTurns

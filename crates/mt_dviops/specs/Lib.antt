@@ -3,6 +3,8 @@
 pub mod Copied
 -- that the machine reads such a file as the chosen pages
 pub mod PagesRead
+-- a file of joined parts, against that of the whole
+pub mod Parts
 -- which error says why there is none
 pub mod Refused
 -- the bytes of such a file

@@ -6,6 +6,7 @@ mod copies;
 mod copy;
 mod edges;
 mod error;
+mod laws;
 mod open;
 mod page;
 mod select;
@@ -16,5 +17,6 @@ mod write;
 
 pub use append::append_files;
 pub use error::OpError;
+pub use laws::cut_and_joined;
 pub use select::select_pages;
 pub use source::FileBytes;

@@ -10,6 +10,12 @@ pub mod DisplayLemmas
 pub mod DocumentLemmas
 -- pages that are set and placed one after another
 pub mod SetLemmas
+-- the places of a document that is cut
+mod CutPlaces
+-- the pages of a source that is cut
+pub mod CutSet
+-- a source that is cut, worked
+mod CutWorked
 -- the formula that has the first place too many
 pub mod OverfullLemmas
 -- small sources

@@ -14,3 +14,5 @@ pub mod LineWidth
 pub mod Listing
 -- of lines and places: only inner contracts cite it
 pub mod inner
+-- a source that is cut
+pub mod Cuts

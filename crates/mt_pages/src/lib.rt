@@ -13,7 +13,7 @@ mod source;
 mod summaries;
 mod text_line;
 
-pub use laws::refused_formula_has_a_cause;
+pub use laws::{cut_and_set, cut_pages_are_those_of_the_parts, refused_formula_has_a_cause};
 pub use listings::listing;
 pub use source::{source_file, source_listing, source_pages, source_summary};
 pub use summaries::summary;

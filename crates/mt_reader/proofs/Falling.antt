@@ -128,7 +128,7 @@ between_fits rest =
 -- ---- turns
 
 -- a turn that goes on with at most so many tokens, and does not end for lack of turns
-abbrev TurnSettles : ℕ → DocumentTurn → Type 0
+abbrev pub TurnSettles : ℕ → DocumentTurn → Type 0
 TurnSettles n (Goes s rest) = length rest ≤ n
 TurnSettles n (Ends s) = ⊤
 TurnSettles n (Stops refusal) = ⊤
@@ -172,7 +172,7 @@ module _ (units : Units) where
   formula_settles s rest true = tt
   formula_settles s rest false = formula_in_settles s (begins_display rest) (length rest + 1) (length rest) (between_dollars rest) (between_fits rest)
 
-  turn_settles : (s : DocumentState) (rest : List Token) (role : OutsideRole) → TurnSettles (length rest) (turn_by units s rest role)
+  pub turn_settles : (s : DocumentState) (rest : List Token) (role : OutsideRole) → TurnSettles (length rest) (turn_by units s rest role)
   turn_settles s rest Passed = omega arith
   turn_settles s rest Defines = after_definition_settles s (length rest + 1) (length rest) (macro_definition rest) (definition_answered rest) (definition_settles rest)
   turn_settles s rest SetsMathCode = after_assignment_settles s (length rest + 1) (length rest) (math_code_assignment s.tables rest) (math_code_answered s.tables rest) (assignment_settles (number_to max_math_code) _ (number_to_settles max_math_code) rest)

@@ -43,6 +43,18 @@ mod DocumentWriting
 -- worked documents, and documents at fault
 mod DocumentCases
 mod DocumentFaults
+-- what is read again with other tokens behind it
+mod Fronts
+-- a turn of a document that is cut
+mod CutTurns
+-- a document that is cut
+mod CutPages
+-- a part without the page's end behind it
+mod CutBack
+-- the definitions and assignments of a part of a document
+mod CutTables
+-- a source that is cut
+pub mod CutSources
 -- tokens are a document or it is refused
 mod Deciding
 -- the turns of a document are always enough

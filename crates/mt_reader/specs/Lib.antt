@@ -34,6 +34,8 @@ pub mod PageReading
 -- where the reading of a source stops
 pub mod Stops
 pub mod StopReading
+-- a document that is cut at the end of a page
+pub mod Cuts
 -- a turn, whatever tokens are behind those that it is taken from
 pub mod AheadTurns
 -- how many items it leaves

@@ -28,7 +28,9 @@ pub use document_error::DocError;
 pub use document_tables::DocumentTables;
 pub use documents::read_document;
 pub use laws::{
-    reading_stops_at_the_fault, tokens_are_a_document_or_refused, turns_of_a_document_are_enough,
+    cut_document_is_its_parts, cut_source_is_its_parts, definitions_of_a_part_are_enough,
+    reading_goes_on_after_a_page, reading_stops_at_the_fault, tokens_are_a_document_or_refused,
+    turns_of_a_document_are_enough,
 };
 pub use mt_formula::{ReadError, read_formula};
 pub use outside_cause::{OutsideCause, outside_cause_text};
