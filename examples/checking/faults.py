@@ -16,25 +16,28 @@ MOST_OF_WHOLE = 100
 
 
 class Check:
-    """The units of a source, and the faults of each."""
+    """The units of a source, and the faults of each. The source is cut into units where these are not given."""
 
-    def __init__(self, document, program):
+    def __init__(self, document, program, units=None):
         self.document = document
         self.program = program
-        self.units = Cutter(document.text).units_of_source()
+        self.units = Cutter(document.text).units_of_source() if units is None else units
         self.definitions = [unit for unit in self.units if unit.kind in ("definition", "assignment")]
         self.rejected_names = set()
         self.bytes_of_strays = []
 
     def faults(self):
         """All faults, in the order of the source."""
+        return sorted(self.faults_of_units() + self.check_whole())
+
+    def faults_of_units(self):
+        """The faults of each unit by itself."""
         self.check_bytes()
         self.check_strays()
         self.check_definitions()
         self.find_names()
         self.check_formulas()
-        found = [unit.fault for unit in self.units if unit.fault and unit.fault.text]
-        return sorted(found + self.bytes_of_strays + self.check_whole())
+        return [unit.fault for unit in self.units if unit.fault and unit.fault.text] + self.bytes_of_strays
 
     def check_bytes(self):
         """Units with a byte that cannot stand in a source: the first of each. A stray unit has another fault too."""
@@ -109,21 +112,26 @@ class Check:
         return tuple(sorted(found))
 
     def check_formulas(self):
-        """Runs each formula once; to be read, once for all formulas that differ only in letters and digits."""
+        """Runs each formula once."""
         same = collections.defaultdict(list)
         for unit in self.units:
             if unit.kind == "formula" and not unit.fault:
                 same[unit.text, self.needed(unit), unit.is_whole].append(unit)
+        for key, place in self.places(same).items():
+            for unit in same[key]:
+                unit.fault = self.unless_rejected(self.in_document(unit, place))
+
+    def places(self, keys):
+        """The place of the first fault within each formula that has one. A key is its text, the definitions that it needs
+        and whether it is whole. To be read, it is run once for all formulas that differ only in letters and digits."""
         alike = collections.defaultdict(list)
-        for key in same:
+        for key in keys:
             alike[self.with_letters_alike(key)].append(key)
         chunks = Chunks(self.program, self.definitions)
         read = chunks.faults_of_reading(list(alike))
-        places = {key: read[form] for form in read for key in alike[form] if not self.is_at_letter(form, read[form])}
-        places.update(chunks.faults_of_setting([key for key in same if key not in places]))
-        for key, place in places.items():
-            for unit in same[key]:
-                unit.fault = self.unless_rejected(self.in_document(unit, place))
+        found = {key: read[form] for form in read for key in alike[form] if not self.is_at_letter(form, read[form])}
+        found.update(chunks.faults_of_setting([key for key in keys if key not in found]))
+        return found
 
     def in_document(self, unit, place):
         """The place within a formula as one of the document."""

@@ -13,7 +13,7 @@ HERE = pathlib.Path(os.path.realpath(__file__)).parent.parent
 
 
 def fail(text):
-    sys.stderr.write("check: %s\n" % text)
+    sys.stderr.write("%s: %s\n" % (os.path.basename(sys.argv[0]), text))
     sys.exit(2)
 
 
@@ -53,10 +53,10 @@ class Answer:
 class Program:
     """The program with a font list. It runs on files in a folder of its own, in the present folder."""
 
-    def __init__(self, fonts, room):
+    def __init__(self, fonts, room, path=None):
         self.fonts = fonts
         self.room = room
-        self.path = self.find()
+        self.path = path or self.find()
         self.most = 4 * (os.cpu_count() or 1)
 
     @staticmethod

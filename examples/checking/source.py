@@ -13,6 +13,11 @@ TOKEN = re.compile(
 BAD = re.compile(r"\^\^|\\|~|[\x00-\x08\x0b-\x1f\x7f]|[\x80-\xff]+")
 NUMBER = r"(?:`(?:\\[A-Za-z]|\\.|[^\s\\])|\"[0-9A-F]+|'[0-7]+|[0-9]+)"
 ASSIGNMENT = re.compile(r"\\(?:math|del)code(?![A-Za-z])[\s+-]*" + NUMBER + r"\s*=?[\s+-]*" + NUMBER)
+# The words that are outside of formulas.
+OUTSIDE = ("\\def", "\\mathcode", "\\delcode", "\\eject", "\\bye", "\\end")
+PUNCTUATION = (".", ",", ";", ":", "!", "?", ")", "]")
+# Whole formulas, and nothing else.
+FORMULAS = re.compile(r"(?:\s|\$\$[^$]+\$\$|\$[^$]+\$)*(?:%.*)?")
 # Where the text of a fault says that a group begins.
 OPENING = re.compile(r"(?<=the )(\S+) at line (\d+), column (\d+)(?= is still open)")
 
@@ -56,17 +61,17 @@ class Unit:
 
 
 class Document:
-    """Files one after another, read as one source."""
+    """Files one after another, taken as one source. Their texts are read where they are not given."""
 
-    def __init__(self, files):
+    def __init__(self, files, texts=None):
         self.text = ""
         self.first_lines = []
         self.files = [os.fsencode(name).decode("latin-1") for name in files]
-        for name in files:
+        for text in texts or map(read, files):
             if self.text and not self.text.endswith("\n"):
                 self.text += "\n"
             self.first_lines.append(self.text.count("\n") + 1)
-            self.text += read(name).decode("latin-1")
+            self.text += text.decode("latin-1")
         self.line_starts = [0] + [found.end() for found in re.finditer("\n", self.text)]
 
     def line_column(self, offset):
@@ -116,7 +121,11 @@ def blanks(text):
 
 
 class Cutter:
-    """Cuts a source where mathset does. A formula without an end, which mathset does not cut, ends at an empty line."""
+    """Cuts a source where mathset does.
+
+    A formula without its closing $ is cut where mathset does not cut: before an empty line, or before the next line that
+    begins with a formula, or with a definition or another word that is outside of formulas.
+    """
 
     def __init__(self, text):
         self.text = text
@@ -186,9 +195,11 @@ class Cutter:
         return self.token(at) == "$" and (closer == "$" or self.token(at + 1) == "$")
 
     def end_of_formula(self, at, closer):
-        """The token after the closing dollars, or None where there are none before an empty line."""
+        """The token after the closing dollars, or None where there are none before the formula is cut."""
         depth = 0
         while at < len(self.tokens) and depth >= 0 and not self.is_empty_line(at):
+            if depth == 0 and self.begins_formula(at, closer):
+                return None
             if depth == 0 and self.closes(at, closer):
                 return at + len(closer)
             depth += (self.token(at) == "{") - (self.token(at) == "}")
@@ -196,12 +207,46 @@ class Cutter:
         return None
 
     def end_of_broken(self, at, closer):
-        """The token after the first dollars that could close it, in groups too, or the empty line before them."""
+        """The token after the first dollars that could close it, in groups too, or the token before which it is cut."""
         while at < len(self.tokens) and not self.is_empty_line(at):
+            if self.begins_formula(at, closer) or self.begins_line(at) and self.token(at) in OUTSIDE:
+                return at
             if self.closes(at, closer):
                 return at + len(closer)
             at += 1
         return at
+
+    def begins_line(self, at):
+        """Nothing but blanks is before this token on its line."""
+        before = at - 1
+        while before > 0 and self.token(before).strip(" \t") == "":
+            before -= 1
+        return "\n" in self.token(before)
+
+    def begins_formula(self, at, closer):
+        """These dollars at the beginning of a line begin a formula, and do not close the one that is open."""
+        if self.token(at) != "$" or not self.begins_line(at):
+            return False
+        if not self.closes(at, closer):
+            return True
+        following, line = at + len(closer), self.line_from(at)
+        if self.token(following) == "$":
+            return line.count("$$") > 1 and not FORMULAS.fullmatch(line, len(closer))
+        is_apart = self.is_blank(following) or self.token(following) in PUNCTUATION
+        return self.is_text(self.past_blanks_of_line(following)) and (not is_apart or line.count("$") % 2 == 0)
+
+    def line_from(self, at):
+        end = self.text.find("\n", self.offset(at))
+        return self.text[self.offset(at) : end if end >= 0 else len(self.text)]
+
+    def past_blanks_of_line(self, at):
+        while self.is_blank(at) and "\n" not in self.token(at):
+            at += 1
+        return at
+
+    def is_text(self, at):
+        """What cannot be outside of formulas begins here, on the line of the token before it."""
+        return self.token(at) != "" and not self.is_blank(at) and self.token(at) not in ("$", *OUTSIDE)
 
     def definition(self):
         at = self.past_blanks(self.at + 1)

@@ -5,15 +5,23 @@ from checking.source import Place
 
 FONTS = {
     "\\rm": "rm", "\\it": "it", "\\sl": "it", "\\bf": "bf", "\\tt": "rm", "\\cal": "cal", "\\mit": "it",
-    "\\mathrm": "rm", "\\text": "rm", "\\textrm": "rm", "\\mbox": "rm", "\\operatorname": "rm", "\\mathsf": "rm",
+    "\\mathrm": "rm", "\\text": "text", "\\textrm": "text", "\\mbox": "text", "\\operatorname": "rm", "\\mathsf": "rm",
     "\\operatornamewithlimits": "rm", "\\tag": "rm", "\\textsl": "it",
-    "\\textnormal": "rm", "\\textup": "rm", "\\textit": "it", "\\textbf": "bf", "\\textsf": "rm", "\\texttt": "rm",
+    "\\textnormal": "text", "\\textup": "text", "\\textit": "it", "\\textbf": "bf", "\\textsf": "text", "\\texttt": "text",
     "\\mathit": "it", "\\mathtt": "rm", "\\mathbf": "bf", "\\boldsymbol": "bf", "\\bm": "bf",
     "\\mathcal": "cal", "\\mathbb": "cal", "\\Bbb": "cal", "\\mathscr": "cal", "\\mathfrak": "fraktur",
     "\\frak": "fraktur",
 }
+# Commands whose argument is text, in which authors expect blanks and hyphens.
+TEXTS = (
+    "\\text", "\\mbox", "\\textrm", "\\textnormal", "\\textup", "\\textit", "\\textsl", "\\textbf", "\\textsf",
+    "\\texttt",
+)
+NAMED_OPERATORS = ("\\operatorname", "\\operatornamewithlimits")
 # What to write in place of a command of LaTeX's with a star.
 STARRED = {"\\operatorname": "\\operatornamewithlimits{..}", "\\tag": "\\eqno"}
+DROPPED_BLANKS = "blanks are dropped: write \\; for each"
+MINUS_SIGN = '- is set as a minus sign: write {\\mathchar"2D} for a hyphen'
 SWITCHES = ("\\rm", "\\it", "\\sl", "\\bf", "\\tt", "\\cal", "\\mit")
 FUNCTIONS = (
     "sin cos tan cot sec csc sinh cosh tanh coth arcsin arccos arctan log ln exp lim max min sup inf det dim ker deg "
@@ -85,7 +93,9 @@ class Warnings:
         return [Place(*self.document.line_column(offset), "warning: " + text) for offset, text in self.found]
 
     def warn(self, at, text):
-        self.found.append((self.tokens[at][1], text))
+        warning = self.tokens[at][1], text
+        if warning not in self.found:
+            self.found.append(warning)
 
     def text(self, at):
         return self.tokens[at][0] if 0 <= at < len(self.tokens) else ""
@@ -210,6 +220,7 @@ class Warnings:
                     # What follows is meant to be the argument, and the star has its own warning.
                     start = self.next_visible(start + 1)
                 stop = self.group(start)
+                self.check_text(text, start + 1, stop - 1)
                 self.walk(start, stop, FONTS[text])
                 at = stop
                 continue
@@ -219,6 +230,21 @@ class Warnings:
                 at = stop
                 continue
             at = self.past_number(at) if text in NUMBERED else self.check_letter(at, end, font)
+
+    def check_text(self, name, start, end):
+        """The first blank and the first hyphen of a text. Blanks beside a command are not part of it."""
+        if name in TEXTS:
+            found = [at for at in range(start, end) if self.text(at).isspace() and self.is_beside_letters(at)]
+            for at in found[:1]:
+                self.warn(at, DROPPED_BLANKS)
+        if name in TEXTS + NAMED_OPERATORS:
+            found = [at for at in range(start, end) if self.text(at) == "-"]
+            for at in found[:1]:
+                self.warn(at, MINUS_SIGN)
+
+    def is_beside_letters(self, at):
+        """Neither side of this blank is a command, as it is in {\\rm if} and with \\; for a blank."""
+        return self.text(at - 1)[:1] != "\\" and self.text(at + 1)[:1] != "\\"
 
     def next_visible(self, at):
         while at < len(self.tokens) and self.text(at).isspace():
@@ -255,7 +281,7 @@ class Warnings:
             self.warn(at, "%s is set in italics: write %s" % (word, known))
         following = self.text(stop + 1)
         if font == "rm" and stop + 1 < end and self.text(stop).isspace() and re.fullmatch("[A-Za-z]", following):
-            self.warn(stop, "blanks are dropped: write \\; for each")
+            self.warn(stop, DROPPED_BLANKS)
             while stop < end and re.fullmatch("[A-Za-z]|\\s+", self.text(stop)):
                 stop += 1
         return stop
