@@ -231,7 +231,8 @@ class Chunks:
         if answer.formula is None and len(chunk) > 1:
             half = len(chunk) // 2
             return [(keys, self.source(keys)) for keys in (chunk[:half], chunk[half:])]
-        number = (answer.formula or 1) - 1
+        # A text that is not whole may be several formulas for mathset.
+        number = min(answer.formula or 1, len(chunk)) - 1
         before, after = chunk[:number], chunk[number + 1 :]
         again = [after]
         if answer.status == 42 and before:

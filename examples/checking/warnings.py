@@ -36,6 +36,8 @@ PAIRS = {
     "<=": "\\le", ">=": "\\ge", "->": "\\to", "=>": "\\Rightarrow", "<<": "\\ll", ">>": "\\gg",
     "!=": "\\ne", "...": "\\ldots or \\cdots",
 }
+# These by their first characters.
+SIGNS = {sign[0]: [other for other in PAIRS if other[0] == sign[0]] for sign in PAIRS}
 # Commands with a number or a dimension, and what these look like.
 NUMBERED = (
     "\\mskip", "\\mkern", "\\hskip", "\\kern", "\\mathchar", "\\delimiter", "\\radical", "\\mathaccent", "\\fam",
@@ -142,7 +144,7 @@ class Warnings:
         """Signs of several characters, and quotation marks."""
         at = 0
         while at < len(self.tokens):
-            found = [sign for sign in PAIRS if [self.text(at + n) for n in range(len(sign))] == list(sign)]
+            found = [sign for sign in SIGNS.get(self.text(at), ()) if self.is_sign(at, sign)]
             if found == ["!="] and not self.text(at - 1).isspace():
                 # A factorial.
                 found = []
@@ -154,6 +156,9 @@ class Warnings:
             elif self.text(at) == '"':
                 self.warn(at, '" is set as a quotation mark: write \'\' for two primes')
             at += 1
+
+    def is_sign(self, at, sign):
+        return all(self.text(at + number) == character for number, character in enumerate(sign))
 
     def check_operators(self):
         """Names of operators in italic letters."""
