@@ -1,0 +1,121 @@
+"""Requests that wait, set together by one worker; those that are slow, or have definitions, by another one."""
+
+import collections
+import concurrent.futures
+import threading
+
+# Seconds for requests that are set together. What is not set by then is set by itself, and the others go on.
+TOGETHER = 0.5
+
+
+class Busy(Exception):
+    """As many requests wait as may."""
+
+
+class Job:
+    """A request that waits, and the promise of its results."""
+
+    def __init__(self, batch, command=None):
+        self.batch, self.command = batch, command
+        self.promise = concurrent.futures.Future()
+
+    def finish(self):
+        """Keeps the promise."""
+        self.promise.set_result([sheet.result for sheet in self.batch.sheets])
+
+    def fail(self, error):
+        """Breaks the promise."""
+        if not self.promise.done():
+            self.promise.set_exception(error)
+
+
+class Lane(threading.Thread):
+    """A thread that takes the jobs that wait, up to a number at a time."""
+
+    def __init__(self, work, most_at_once, most_waiting):
+        super().__init__(daemon=True)
+        self.work = work
+        self.most_at_once, self.most_waiting = most_at_once, most_waiting
+        self.jobs = collections.deque()
+        self.wake = threading.Condition()
+        self.is_closed = False
+        self.start()
+
+    def put(self, job):
+        """Lets a job wait."""
+        with self.wake:
+            if len(self.jobs) >= self.most_waiting:
+                raise Busy
+            self.jobs.append(job)
+            self.wake.notify()
+
+    def take(self):
+        """The jobs that wait; none at the end."""
+        with self.wake:
+            while not self.jobs and not self.is_closed:
+                self.wake.wait()
+            count = 0 if self.is_closed else min(self.most_at_once, len(self.jobs))
+            return [self.jobs.popleft() for _ in range(count)]
+
+    def run(self):
+        while jobs := self.take():
+            try:
+                self.work(jobs)
+            except Exception as error:  # pylint: disable=broad-except
+                # The server goes on, and these requests are answered with it.
+                for job in jobs:
+                    job.fail(error)
+
+    def close(self):
+        """Ends the thread; jobs that wait are dropped."""
+        with self.wake:
+            self.is_closed = True
+            self.wake.notify()
+        self.join()
+
+
+class Queue:
+    """Two lanes before a setter."""
+
+    def __init__(self, setter):
+        self.setter = setter
+        self.together = Lane(self.set_together, 256, setter.limits.waiting)
+        self.alone = Lane(self.set_alone, 1, setter.limits.waiting)
+
+    def put(self, formulas, definitions, latex):
+        """Lets formulas wait to be set, and gives the promise of their results."""
+        job = Job(self.setter.batch(formulas, definitions, latex))
+        (self.alone if job.batch.definitions else self.together).put(job)
+        return job.promise
+
+    def set_together(self, jobs):
+        """Sets jobs in the same runs. Those that are late go to the other lane."""
+        self.setter.set_together([job.batch for job in jobs], TOGETHER)
+        for job in jobs:
+            if not job.batch.left():
+                job.finish()
+                continue
+            try:
+                self.alone.put(job)
+            except Busy as error:
+                job.fail(error)
+
+    def set_alone(self, jobs):
+        """Sets a job by itself."""
+        for job in jobs:
+            if job.command:
+                job.promise.set_result(self.setter.file(job.batch, job.command))
+            else:
+                self.setter.set_batch(job.batch)
+                job.finish()
+
+    def file(self, command, formulas, definitions, latex):
+        """The promise of what a command of the program writes of formulas."""
+        job = Job(self.setter.batch(formulas, definitions, latex), command)
+        self.alone.put(job)
+        return job.promise
+
+    def close(self):
+        """Ends both lanes."""
+        self.together.close()
+        self.alone.close()

@@ -1,0 +1,159 @@
+"""The server: what is asked by HTTP, and the page, by aiohttp."""
+
+import asyncio
+import pathlib
+import signal
+
+from aiohttp import web
+
+from . import api
+from .connections import Guard
+from .formula import Fault
+from .kept import Kept
+from .latex import NoLatex
+from .picture import Picture
+from .waiting import Busy, Queue
+
+STATIC = pathlib.Path(__file__).resolve().parent.parent / "static"
+HEADERS = {
+    "Content-Security-Policy": "default-src 'none'; script-src 'self'; style-src 'self'; img-src 'self' data: blob:; "
+    "connect-src 'self'; base-uri 'none'; form-action 'none'; frame-ancestors 'none'",
+    "X-Content-Type-Options": "nosniff",
+    "Referrer-Policy": "no-referrer",
+}
+IDLE_SECONDS = 30.0
+
+
+class Service:
+    """The answers of the server. `setter` sets what is asked."""
+
+    def __init__(self, setter):
+        self.setter, self.limits = setter, setter.limits
+        self.queue = Queue(setter)
+        self.kept = Kept(self.limits.kept_bytes)
+        self.guards = {}
+
+    def application(self):
+        """The application, with its addresses."""
+        application = web.Application(middlewares=[self.guarded], client_max_size=self.limits.body_bytes)
+        application.router.add_post("/svg", self.pictures)
+        application.router.add_post("/dvi", self.dvi)
+        application.router.add_post("/places", self.places)
+        application.router.add_get("/health", self.health)
+        if (STATIC / "index.html").exists():
+            application.router.add_get("/", self.page)
+            application.router.add_static("/static", STATIC)
+        return application
+
+    @web.middleware
+    async def guarded(self, request, handler):
+        """Answers each fault of a request in JSON, and counts the time of the connection's next request."""
+        guard = self.guards.get(request.transport)
+        if guard:
+            guard.begin()
+        try:
+            response = await handler(request)
+        except web.HTTPException as error:
+            response = refusal(error.status, error.reason)
+        except api.Refused as error:
+            response = refusal(error.status, error.text)
+        except Busy:
+            response = refusal(503, f"{self.limits.waiting} requests wait already; try again in a second")
+            response.headers["Retry-After"] = "1"
+        finally:
+            if guard:
+                guard.end()
+        response.headers.update(HEADERS)
+        return response
+
+    async def request(self, request):
+        """What a request asks for, once it is there."""
+        try:
+            body = await asyncio.wait_for(request.read(), self.limits.sending_seconds)
+        except asyncio.TimeoutError:
+            raise api.Refused(408, "the request came too slowly") from None
+        except web.HTTPRequestEntityTooLarge:
+            raise api.Refused(413, f"a request can have at most {self.limits.body_bytes} bytes") from None
+        return api.request_of(body, self.limits)
+
+    async def results(self, asked):
+        """The results of the formulas of a request: those that are kept, and the others when they are set."""
+        if asked.definitions:
+            return await self.set(asked.formulas, asked)
+        keys = [(formula, asked.latex) for formula in asked.formulas]
+        found = [self.kept.get(key) for key in keys]
+        missing = [at for at, result in enumerate(found) if result is None]
+        if missing:
+            results = await self.set([asked.formulas[at] for at in missing], asked)
+            for at, result in zip(missing, results):
+                found[at] = result
+                if isinstance(result, Picture):
+                    self.kept.put(keys[at], result)
+        return found
+
+    async def set(self, formulas, asked):
+        """The results of formulas, when they are set."""
+        try:
+            promise = self.queue.put(formulas, asked.definitions, asked.latex)
+        except NoLatex as error:
+            raise api.Refused(501, str(error)) from None
+        return await asyncio.wrap_future(promise)
+
+    async def pictures(self, request):
+        """POST /svg"""
+        asked = await self.request(request)
+        results = await self.results(asked)
+        answers = [api.answer_of(result, asked.form) for result in results]
+        return web.Response(body=api.text_of({"formulas": answers}), content_type="application/json")
+
+    async def dvi(self, request):
+        """POST /dvi"""
+        return web.Response(body=await self.file("set", request), content_type="application/x-dvi")
+
+    async def places(self, request):
+        """POST /places"""
+        return web.Response(body=await self.file("places", request), content_type="text/plain")
+
+    async def file(self, command, request):
+        """What the program writes of the formulas, which all have to be without a fault."""
+        asked = await self.request(request)
+        results = await self.results(asked)
+        faults = [(at, result) for at, result in enumerate(results, 1) if isinstance(result, Fault)]
+        if faults:
+            at, fault = faults[0]
+            raise api.Refused(422, f"formula {at}: line {fault.line}, column {fault.column}: {fault.text}")
+        return await asyncio.wrap_future(self.queue.file(command, asked.formulas, asked.definitions, asked.latex))
+
+    async def health(self, _):
+        """GET /health"""
+        return web.json_response({"status": "ok"})
+
+    async def page(self, _):
+        """GET /"""
+        return web.FileResponse(STATIC / "index.html")
+
+
+def refusal(status, text):
+    """An answer that says why there is none."""
+    return web.Response(
+        status=status, body=api.text_of({"error": {"status": status, "text": text}}), content_type="application/json"
+    )
+
+
+async def serve(setter, host, port, ready):
+    """Serves until the process is told to end. `ready` is called with the port when the server answers."""
+    service = Service(setter)
+    runner = web.AppRunner(service.application(), access_log=None, keepalive_timeout=IDLE_SECONDS)
+    await runner.setup()
+    loop = asyncio.get_running_loop()
+    ended = asyncio.Event()
+    for number in (signal.SIGINT, signal.SIGTERM):
+        loop.add_signal_handler(number, ended.set)
+    listener = await loop.create_server(lambda: Guard(runner.server(), service.guards, service.limits), host, port)
+    ready(listener.sockets[0].getsockname()[1])
+    try:
+        await ended.wait()
+    finally:
+        listener.close()
+        await runner.cleanup()
+        service.queue.close()
