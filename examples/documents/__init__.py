@@ -1,0 +1,1 @@
+"""Formulas in documents, and the pictures that replace them."""
