@@ -7,8 +7,8 @@ POINT = 72 / 72.27
 EX = 430.555
 # Ink can go beyond the box of a formula. Pictures in a text show it by overflow, files have 1pt more on each side.
 MARGIN = 100
-# The height in ex of a picture that is on the baseline as a whole.
-FLAT = 0.01
+# The height in ex of a picture that is on the baseline as a whole. Chromium does not paint one of 0.01 at some sizes.
+FLAT = 1.0
 
 ESCAPES = {ord("&"): "&amp;", ord("<"): "&lt;", ord(">"): "&gt;", ord('"'): "&quot;", ord("'"): "&#39;"}
 # What XML 1.0 does not allow, not even as a reference.
@@ -73,7 +73,7 @@ def in_text(box, title, inside):
 def on_baseline(box, title, inside):
     """HTML for a line of text: a strut, and a picture which is on the baseline as a whole.
 
-    Browsers put a picture on a whole pixel. This one is so flat that its baseline is the same as that of its neighbours.
+    Browsers put a picture on a whole pixel. All these have one height, so they are moved by the same part of a pixel.
     """
     width, height, depth = (max(0, part) / UNIT for part in box)
     flat = FLAT * EX
@@ -82,7 +82,7 @@ def on_baseline(box, title, inside):
         f'vertical-align:{0 - depth / EX:.3f}ex"></span>'
     )
     picture = element(
-        f'width="{width / EX:.3f}ex" height="{FLAT}ex" viewBox="0 {-flat:.3f} {max(1, width):.1f} {flat:.3f}" '
+        f'width="{width / EX:.3f}ex" height="{FLAT:g}ex" viewBox="0 {-flat:.3f} {max(1, width):.1f} {flat:.3f}" '
         'overflow="visible" preserveAspectRatio="xMinYMax slice" style="vertical-align:baseline"',
         title,
         inside,
