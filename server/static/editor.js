@@ -2,6 +2,7 @@
 import { placeOf } from "./source.js";
 
 const source = document.getElementById("source");
+const definitions = document.getElementById("definitions");
 const underlines = document.getElementById("underlines");
 const list = document.getElementById("faults");
 
@@ -23,22 +24,24 @@ function underline(faults) {
 }
 
 function item(fault) {
-  const { line, column } = placeOf(source.value, fault.start);
+  const area = fault.isInDefinitions ? definitions : source;
+  const { line, column } = placeOf(area.value, fault.start);
   const button = document.createElement("button");
   button.type = "button";
-  button.textContent = `line ${line}, column ${column}: ${fault.text}`;
+  button.textContent = `${fault.isInDefinitions ? "definitions, " : ""}line ${line}, column ${column}: ${fault.text}`;
   button.addEventListener("click", () => {
-    source.focus();
-    source.setSelectionRange(fault.start, fault.end);
+    area.closest("details")?.setAttribute("open", "");
+    area.focus();
+    area.setSelectionRange(fault.start, fault.end);
   });
   const entry = document.createElement("li");
   entry.append(button);
   return entry;
 }
 
-// Shows faults, each with `start`, `end` and `text`, in the order of the text.
+// Shows faults, each with `start`, `end` and `text`, in the order of the text. Those in the definitions are listed.
 export function showFaults(faults) {
-  underline(faults);
+  underline(faults.filter((fault) => !fault.isInDefinitions));
   list.replaceChildren(...faults.map(item));
   source.setAttribute("aria-invalid", String(faults.length > 0));
 }

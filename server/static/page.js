@@ -52,7 +52,13 @@ function showPictures() {
   while (shown.children.length > results.length) shown.lastChild.remove();
 }
 
+// A fault in the definitions is the fault of each formula, and is listed once.
 function faultsOf(formulas) {
+  const first = results.find((result) => result.fault?.in === "definitions")?.fault;
+  if (first) {
+    const range = rangeOf({ start: 0, source: definitions.value }, first);
+    return [{ ...range, text: first.text, isInDefinitions: true }];
+  }
   return formulas.flatMap((formula, at) => {
     const fault = results[at].fault;
     return fault ? [{ ...rangeOf(formula, fault), text: fault.text }] : [];
