@@ -43,7 +43,7 @@ class Guard(asyncio.Protocol):
         """From here on the client has to take what was sent."""
         self.inner.pause_writing()
         if self.writing is None:
-            self.writing = asyncio.get_running_loop().call_later(self.limits.sending_seconds, self.transport.abort)
+            self.writing = asyncio.get_running_loop().call_later(self.limits.client_seconds, self.transport.abort)
 
     def resume_writing(self):
         """The client has taken what was sent."""
@@ -64,7 +64,7 @@ class Guard(asyncio.Protocol):
     def start_timer(self):
         """Counts the time of a request's head."""
         loop = asyncio.get_running_loop()
-        self.timer = loop.call_later(self.limits.sending_seconds, self.answer, 408, "the request came too slowly")
+        self.timer = loop.call_later(self.limits.client_seconds, self.answer, 408, "the request came too slowly")
 
     def stop_timer(self):
         """Ends the count."""

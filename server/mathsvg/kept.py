@@ -1,15 +1,13 @@
-"""Results that are kept for the next request of the same formula."""
+"""Pictures that are kept for the next request of the same formula."""
 
 import collections
 
-from .formula import Fault
-
-# What a result takes beside its text.
+# What a picture takes beside its text.
 OVERHEAD = 1000
 
 
 class Kept:
-    """Results by formula and syntax, of at most so many bytes; those that were not asked for longest are dropped."""
+    """Pictures by formula and syntax, of at most so many bytes; those that were not asked for longest are dropped."""
 
     def __init__(self, most):
         self.most = most
@@ -17,22 +15,22 @@ class Kept:
         self.found = collections.OrderedDict()
 
     def get(self, key):
-        """The result that is kept, or None."""
-        result = self.found.get(key)
-        if result is not None:
+        """The picture that is kept, or None."""
+        picture = self.found.get(key)
+        if picture is not None:
             self.found.move_to_end(key)
-        return result
+        return picture
 
-    def put(self, key, result):
-        """Keeps a result."""
+    def put(self, key, picture):
+        """Keeps a picture."""
         if key in self.found:
             return
-        self.found[key] = result
-        self.size += weight(result)
+        self.found[key] = picture
+        self.size += weight(picture)
         while self.size > self.most:
             self.size -= weight(self.found.popitem(last=False)[1])
 
 
-def weight(result):
-    """About how many bytes a result takes."""
-    return OVERHEAD + len(result.text if isinstance(result, Fault) else result.shapes)
+def weight(picture):
+    """About how many bytes a picture takes."""
+    return OVERHEAD + picture.size()

@@ -14,6 +14,7 @@ class Limits:
     formulas: int = 1000
     definitions_characters: int = 16_384
     request_seconds: float = 10.0
+    answer_bytes: int = 12 * MEGABYTE
     # A formula: its source, and the glyphs and rules of its picture.
     formula_characters: int = 4000
     places: int = 3000
@@ -24,8 +25,33 @@ class Limits:
     run_memory: int = 256 * MEGABYTE
     run_stack: int = 8 * MEGABYTE
     run_output: int = 16 * MEGABYTE
-    # The server: requests that wait, seconds that a client may take to send one, and bytes of answers that are kept.
+    # Requests that are set together: seconds and bytes of pictures. What is beyond is set by itself.
+    together_formulas: int = 1000
+    together_seconds: float = 0.5
+    together_bytes: int = 12 * MEGABYTE
+    # The server: connections, requests that wait, seconds in which a client sends one or takes an answer, bytes of
+    # answers that are kept, and bytes of all requests and answers on their way.
+    connections: int = 400
     waiting: int = 512
-    sending_seconds: float = 10.0
+    client_seconds: float = 10.0
+    idle_seconds: float = 30.0
     kept_bytes: int = 16 * MEGABYTE
-    connections: int = 1000
+    way_bytes: int = 24 * MEGABYTE
+
+
+class Room:
+    """Bytes that are left of some."""
+
+    def __init__(self, most):
+        self.left = most
+
+    def take(self, count):
+        """Takes bytes, if so many are left."""
+        if count > self.left:
+            return False
+        self.left -= count
+        return True
+
+    def give_back(self, count):
+        """Gives bytes back."""
+        self.left += count

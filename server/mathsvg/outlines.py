@@ -1,5 +1,7 @@
 """The outlines of a Type 1 font, as the text of SVG paths."""
 
+import threading
+
 import freetype
 
 FLAGS = freetype.FT_LOAD_NO_SCALE | freetype.FT_LOAD_NO_HINTING
@@ -74,12 +76,15 @@ class Outlines:
         if self.face.units_per_EM != UNITS:
             raise NoOutlines(f"{path} has {self.face.units_per_EM} units, and not {UNITS}")
         self.found = {}
+        # A face has one glyph at a time.
+        self.lock = threading.Lock()
 
     def __getitem__(self, code):
         """The text of the path, to be put after a move to the reference point of the glyph."""
         text = self.found.get(code)
         if text is None:
-            text = self.found[code] = self.read(code)
+            with self.lock:
+                text = self.found[code] = self.read(code)
         return text
 
     def read(self, code):

@@ -20,6 +20,10 @@ class Picture:
         """The picture for a line of text ("ex"), as a file ("pt"), or with a strut round it for HTML ("html")."""
         return FORMS[form]((self.width, self.height, self.depth), self.formula.source, self.shapes)
 
+    def size(self):
+        """About how many bytes the picture has."""
+        return len(self.shapes) + 2 * len(self.formula.source) + 300
+
     def measures(self):
         """The width, the height and the depth in points of CSS and in ex."""
         names = ("width", "height", "depth")
@@ -31,15 +35,16 @@ class Picture:
 
 def pages_of(listing):
     """The places of each page: glyphs as (font, code, h, v), rules as (None, h, v, height, width)."""
-    pages = []
+    pages, page = [], []
     for line in listing.decode("ascii").split("\n"):
-        kind, _, rest = line.partition(" ")
-        if kind == "g":
-            pages[-1].append(tuple(map(int, rest.split(" "))))
-        elif kind == "r":
-            pages[-1].append((None, *map(int, rest.split(" "))))
-        elif kind == "page":
-            pages.append([])
+        words = line.split(" ")
+        if words[0] == "g":
+            page.append((int(words[1]), int(words[2]), int(words[3]), int(words[4])))
+        elif words[0] == "r":
+            page.append((None, int(words[1]), int(words[2]), int(words[3]), int(words[4])))
+        elif words[0] == "page":
+            page = []
+            pages.append(page)
     return pages
 
 

@@ -1,9 +1,11 @@
 """The program mathset, run on sources under limits of time, memory, stack and output."""
 
+import contextlib
 import os
 import pathlib
 import re
 import resource
+import select
 import shutil
 import subprocess
 import tempfile
@@ -75,25 +77,20 @@ class Program:
         """Runs the program on a source. `line` is the width of a line in scaled points."""
         seconds = self.limits.run_seconds if seconds is None else min(seconds, self.limits.run_seconds)
         words = [self.path, *(["--line", str(line)] if line else []), command, "fonts", "-"]
-        output = os.memfd_create("output")
-        try:
-            process = self.start(words, output)
-            try:
-                _, said = process.communicate(source, timeout=max(0.001, seconds))
-            except subprocess.TimeoutExpired:
+        with file_in_memory(source) as given, file_in_memory() as output, file_in_memory() as said:
+            process = subprocess.Popen(words, cwd=self.room.name, stdin=given, stdout=output, stderr=said)
+            self.limit(process)
+            is_late = not has_ended(process, seconds)
+            if is_late:
                 process.kill()
-                process.communicate()
+            process.wait()
+            if is_late:
                 return Run(TOO_LATE, b"", "")
             status = TOO_LONG if process.returncode < 0 else process.returncode
-            return Run(status, b"" if status else read_all(output), said.decode("latin-1"))
-        finally:
-            os.close(output)
+            return Run(status, b"" if status else read_all(output), read_all(said).decode("latin-1"))
 
-    def start(self, words, output):
-        """Starts the program, which waits for its source under its limits."""
-        process = subprocess.Popen(
-            words, cwd=self.room.name, stdin=subprocess.PIPE, stdout=output, stderr=subprocess.PIPE
-        )
+    def limit(self, process):
+        """Sets the limits of a program that has just begun. They are of all that it has taken, also before."""
         limits = self.limits
         for kind, most in (
             (resource.RLIMIT_CPU, int(limits.run_seconds) + 1),
@@ -104,12 +101,34 @@ class Program:
         ):
             try:
                 resource.prlimit(process.pid, kind, (most, most))
-            except (ProcessLookupError, PermissionError):
-                # It has ended already, which its status will say.
+            except ProcessLookupError:
+                # It has ended already.
                 break
-        return process
+
+
+@contextlib.contextmanager
+def file_in_memory(data=b""):
+    """The number of an open file in memory, at its beginning."""
+    file = os.memfd_create("mathset")
+    try:
+        if data:
+            os.pwrite(file, data, 0)
+        yield file
+    finally:
+        os.close(file)
 
 
 def read_all(file):
     """All bytes of a file in memory."""
     return os.pread(file, os.fstat(file).st_size, 0)
+
+
+def has_ended(process, seconds):
+    """Waits for the end of a process, at most so many seconds, and says whether it has ended."""
+    watched = os.pidfd_open(process.pid)
+    try:
+        poll = select.poll()
+        poll.register(watched, select.POLLIN)
+        return bool(poll.poll(max(1, seconds * 1000)))
+    finally:
+        os.close(watched)

@@ -12,7 +12,7 @@ from . import latex as latex_syntax
 from .definitions import Definitions
 from .fonts import CannotFind, FontList
 from .formula import WHOLE, Formula, ends_in_comment, fault_at, unbalanced, whole_fault
-from .limits import Limits
+from .limits import Limits, Room
 from .outlines import NoOutlines
 from .picture import between_periods, by_extents, pages_of
 from .program import TOO_LATE, TOO_LONG, TOP, CannotRun, Program
@@ -41,7 +41,7 @@ NAMES = TOP / "examples/more-names.tex"
 
 
 class Late(Exception):
-    """The time of the request is over."""
+    """The time of the request is over, or the room of those that are set together."""
 
 
 class Sheet:
@@ -54,6 +54,8 @@ class Sheet:
         self.own_fault = own_fault
         self.is_bare = bool(WHOLE.search(text))
         self.result = None
+        # What is left for the pictures of the request.
+        self.room = None
 
     def page(self, is_bare):
         """A page with the formula alone, or so that it is measured."""
@@ -65,8 +67,9 @@ class Sheet:
 class Batch:
     """Sheets that are set with the same definitions, until a time."""
 
-    def __init__(self, sheets, definitions, deadline, own_fault=None):
+    def __init__(self, sheets, definitions, deadline, room, own_fault=None):
         self.sheets = sheets
+        self.room = room
         self.own = definitions
         self.definitions = MARK + definitions + b"\n\\eject\n" if definitions else b""
         self.is_redefined = bool(REDEFINED.search(definitions))
@@ -131,9 +134,11 @@ class Setter:
         else:
             sheets, own = [plain_sheet(formula) for formula in formulas], encoded(definitions)
             own_fault = fault_in(definitions, own, "definitions")
+        room = Room(self.limits.answer_bytes)
         for sheet in sheets:
+            sheet.room = room
             self.check(sheet)
-        return Batch(sheets, own, deadline, own_fault)
+        return Batch(sheets, own, deadline, Room(self.limits.answer_bytes), own_fault)
 
     def check(self, sheet):
         """Refuses a formula that is too long, or that would not end where it ends."""
@@ -162,9 +167,11 @@ class Setter:
             raise CannotRun(reason(run))
         return run.output
 
-    def set_together(self, batches, seconds):
+    def set_together(self, batches):
         """Sets batches without definitions of their own in the same runs. Sheets that are late have no result."""
-        shared = Batch([sheet for batch in batches for sheet in batch.left()], b"", time.monotonic() + seconds)
+        sheets = [sheet for batch in batches for sheet in batch.left()]
+        deadline = time.monotonic() + self.limits.together_seconds
+        shared = Batch(sheets, b"", deadline, Room(self.limits.together_bytes))
         try:
             for part in self.parts(shared.sheets):
                 self.settle(shared, part)
@@ -229,10 +236,10 @@ class Setter:
                 sheet.result = whole_fault(sheet.formula, "not set: there are more pages than formulas, or fewer")
             return True
         for sheet, places in zip(sheets, pages):
-            self.draw(sheet, places, is_bare)
+            self.draw(batch, sheet, places, is_bare)
         return all(sheet.result for sheet in sheets)
 
-    def draw(self, sheet, places, is_bare):
+    def draw(self, batch, sheet, places, is_bare):
         """Gives a sheet its picture, if the page is that of a measured formula or of one by itself."""
         if len(places) > self.limits.places:
             said = f"a formula can have at most {self.limits.places} glyphs and rules"
@@ -240,12 +247,24 @@ class Setter:
             return
         try:
             if is_bare:
-                sheet.result = by_extents(sheet.formula, self.fonts, places, LINE)
+                picture = by_extents(sheet.formula, self.fonts, places, LINE)
             else:
-                sheet.result = between_periods(sheet.formula, self.fonts, places)
+                picture = between_periods(sheet.formula, self.fonts, places)
         except NoOutlines as error:
             sheet.result = whole_fault(sheet.formula, str(error))
-        sheet.is_bare = is_bare or sheet.result is None
+            return
+        sheet.is_bare = is_bare or picture is None
+        if picture:
+            sheet.result = self.within_room(batch, sheet, picture)
+
+    def within_room(self, batch, sheet, picture):
+        """The picture, or a fault where the pictures of the request are too long with it."""
+        if not sheet.room.take(picture.size()):
+            said = f"the pictures of a request can have at most {self.limits.answer_bytes} bytes together"
+            return whole_fault(sheet.formula, said)
+        if not batch.room.take(picture.size()):
+            raise Late
+        return picture
 
     def run(self, batch, sheets, is_bare):
         """Runs the program on sheets. Gives the run, and the lines at which the definitions and the sheets begin."""

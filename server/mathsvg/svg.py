@@ -26,13 +26,14 @@ def shapes(fonts, places, origin):
     paths, rectangles = {}, []
     for place in places:
         if len(place) == 4:
-            font = fonts[place[0]]
+            number, code, h, v = place
+            font = fonts[number]
             unit = font.size / 1000
-            x, y = (place[2] - left) / unit, (place[3] - baseline) / unit
-            paths.setdefault(font.size, []).append(f"M{x:.1f} {y:.1f}{font.outline(place[1])}")
+            part = f"M{(h - left) / unit:.1f} {(v - baseline) / unit:.1f}{font.outline(code)}"
+            paths.setdefault(font.size, []).append(part)
         else:
             rectangles.append(rectangle(place, left, baseline))
-    return "".join(path(size, parts) for size, parts in paths.items()) + "".join(rectangles)
+    return "".join(map(path, paths, paths.values())) + "".join(rectangles)
 
 
 def path(size, parts):

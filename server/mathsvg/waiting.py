@@ -4,10 +4,6 @@ import collections
 import concurrent.futures
 import threading
 
-# Seconds for requests that are set together. What is not set by then is set by itself, and the others go on.
-TOGETHER = 0.5
-
-
 class Busy(Exception):
     """As many requests wait as may."""
 
@@ -17,6 +13,7 @@ class Job:
 
     def __init__(self, batch, command=None):
         self.batch, self.command = batch, command
+        self.count = len(batch.sheets)
         self.promise = concurrent.futures.Future()
 
     def finish(self):
@@ -30,12 +27,12 @@ class Job:
 
 
 class Lane(threading.Thread):
-    """A thread that takes the jobs that wait, up to a number at a time."""
+    """A thread that takes the jobs that wait, as many at a time as have at most a number of formulas, or one."""
 
-    def __init__(self, work, most_at_once, most_waiting):
+    def __init__(self, work, most_formulas, most_waiting):
         super().__init__(daemon=True)
         self.work = work
-        self.most_at_once, self.most_waiting = most_at_once, most_waiting
+        self.most_formulas, self.most_waiting = most_formulas, most_waiting
         self.jobs = collections.deque()
         self.wake = threading.Condition()
         self.is_closed = False
@@ -54,8 +51,11 @@ class Lane(threading.Thread):
         with self.wake:
             while not self.jobs and not self.is_closed:
                 self.wake.wait()
-            count = 0 if self.is_closed else min(self.most_at_once, len(self.jobs))
-            return [self.jobs.popleft() for _ in range(count)]
+            taken, count = [], 0
+            while self.jobs and not self.is_closed and (not taken or count + self.jobs[0].count <= self.most_formulas):
+                taken.append(self.jobs.popleft())
+                count += taken[-1].count
+            return taken
 
     def run(self):
         while jobs := self.take():
@@ -79,8 +79,9 @@ class Queue:
 
     def __init__(self, setter):
         self.setter = setter
-        self.together = Lane(self.set_together, 256, setter.limits.waiting)
-        self.alone = Lane(self.set_alone, 1, setter.limits.waiting)
+        limits = setter.limits
+        self.together = Lane(self.set_together, limits.together_formulas, limits.waiting)
+        self.alone = Lane(self.set_alone, 0, limits.waiting)
 
     def put(self, formulas, definitions, latex):
         """Lets formulas wait to be set, and gives the promise of their results."""
@@ -90,7 +91,7 @@ class Queue:
 
     def set_together(self, jobs):
         """Sets jobs in the same runs. Those that are late go to the other lane."""
-        self.setter.set_together([job.batch for job in jobs], TOGETHER)
+        self.setter.set_together([job.batch for job in jobs])
         for job in jobs:
             if not job.batch.left():
                 job.finish()

@@ -11,6 +11,7 @@ from .connections import Guard
 from .formula import Fault
 from .kept import Kept
 from .latex import NoLatex
+from .limits import Room
 from .picture import Picture
 from .waiting import Busy, Queue
 
@@ -21,7 +22,7 @@ HEADERS = {
     "X-Content-Type-Options": "nosniff",
     "Referrer-Policy": "no-referrer",
 }
-IDLE_SECONDS = 30.0
+TOO_MANY = "too many requests are on their way; try again in a second"
 
 
 class Service:
@@ -32,10 +33,11 @@ class Service:
         self.queue = Queue(setter)
         self.kept = Kept(self.limits.kept_bytes)
         self.guards = {}
+        self.way = Room(self.limits.way_bytes)
 
     def application(self):
         """The application, with its addresses."""
-        application = web.Application(middlewares=[self.guarded], client_max_size=self.limits.body_bytes)
+        application = web.Application(middlewares=[self.guarded])
         application.router.add_post("/svg", self.pictures)
         application.router.add_post("/dvi", self.dvi)
         application.router.add_post("/places", self.places)
@@ -52,28 +54,57 @@ class Service:
         if guard:
             guard.begin()
         try:
-            response = await handler(request)
-        except web.HTTPException as error:
-            response = refusal(error.status, error.reason)
-        except api.Refused as error:
-            response = refusal(error.status, error.text)
-        except Busy:
-            response = refusal(503, f"{self.limits.waiting} requests wait already; try again in a second")
-            response.headers["Retry-After"] = "1"
+            response = await self.response(request, handler)
+            await self.send(request, response)
         finally:
+            self.way.give_back(request.get("bytes", 0))
             if guard:
                 guard.end()
-        response.headers.update(HEADERS)
         return response
+
+    async def response(self, request, handler):
+        """The answer of a request, or why there is none."""
+        try:
+            return await handler(request)
+        except web.HTTPException as error:
+            return refusal(error.status, error.reason)
+        except api.Refused as error:
+            return refusal(error.status, error.text)
+        except Busy:
+            return refusal(503, f"{self.limits.waiting} requests wait already; try again in a second")
+
+    async def send(self, request, response):
+        """Sends an answer, if not too many bytes are on their way."""
+        size = len(response.body or b"") if isinstance(response, web.Response) else 0
+        if not self.way.take(size):
+            response, size = refusal(503, TOO_MANY), 0
+        response.headers.update(HEADERS)
+        if response.status in (408, 413, 503):
+            response.force_close()
+        try:
+            await response.prepare(request)
+            await response.write_eof()
+        finally:
+            self.way.give_back(size)
+
+    async def body(self, request):
+        """The bytes of a request, which are on their way until it is answered."""
+        data = bytearray()
+        async for chunk in request.content.iter_any():
+            if len(data) + len(chunk) > self.limits.body_bytes:
+                raise api.Refused(413, f"a request can have at most {self.limits.body_bytes} bytes")
+            if not self.way.take(len(chunk)):
+                raise api.Refused(503, TOO_MANY)
+            data += chunk
+            request["bytes"] = len(data)
+        return data
 
     async def request(self, request):
         """What a request asks for, once it is there."""
         try:
-            body = await asyncio.wait_for(request.read(), self.limits.sending_seconds)
+            body = await asyncio.wait_for(self.body(request), self.limits.client_seconds)
         except asyncio.TimeoutError:
             raise api.Refused(408, "the request came too slowly") from None
-        except web.HTTPRequestEntityTooLarge:
-            raise api.Refused(413, f"a request can have at most {self.limits.body_bytes} bytes") from None
         return api.request_of(body, self.limits)
 
     async def results(self, asked):
@@ -143,7 +174,7 @@ def refusal(status, text):
 async def serve(setter, host, port, ready):
     """Serves until the process is told to end. `ready` is called with the port when the server answers."""
     service = Service(setter)
-    runner = web.AppRunner(service.application(), access_log=None, keepalive_timeout=IDLE_SECONDS)
+    runner = web.AppRunner(service.application(), access_log=None, keepalive_timeout=setter.limits.idle_seconds)
     await runner.setup()
     loop = asyncio.get_running_loop()
     ended = asyncio.Event()
