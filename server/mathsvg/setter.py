@@ -27,7 +27,8 @@ LINE = 30785863
 SHARED = {42, 49, 60, TOO_LONG, TOO_LATE}
 # A byte that is not allowed is refused before the formulas ahead of it are read.
 BYTE = 40
-# Statuses whose place is the first $ of the formula.
+# Statuses of the setting. Their place is the first $ of the formula, as it is of limits.
+OF_SETTING = range(43, 48)
 OF_THE_WHOLE = range(42, 48)
 # A page before the caller's definitions: if they set something, this page or the count of pages is another one.
 MARK = b"$.$\n"
@@ -198,7 +199,7 @@ class Setter:
         if self.attempt(batch, sheets):
             return
         # What is refused only where it is measured, as a formula with 150 groups, is set by itself.
-        self.look_through(batch, [sheet for sheet in without_results(sheets) if not sheet.is_bare], is_bare=False)
+        self.look_through(batch, left_in_form(sheets, False), is_bare=False)
         if not self.attempt(batch, sheets):
             for sheet in without_results(sheets):
                 sheet.result = whole_fault(sheet.formula, "not set")
@@ -298,21 +299,28 @@ class Setter:
             found.result()
 
     def look_through_chunk(self, batch, sheets, is_bare):
-        """Finds all sheets that are refused: behind the first one, then behind the second one, and so on."""
-        left = sheets
+        """Finds all sheets that are refused. A run reads all formulas before it sets one."""
+        if self.refuse_all(batch, sheets, is_bare, is_reading=True):
+            self.refuse_all(batch, left_in_form(sheets, is_bare), is_bare, is_reading=False)
+
+    def refuse_all(self, batch, left, is_bare, is_reading):
+        """Refuses sheets: the first one, then the first one behind it, and so on. Says whether there may be others."""
         while left:
             run, starts = self.run(batch, left, is_bare)
             if run.status == 0 or self.is_of_definitions(batch, run, starts):
-                return
+                break
             if run.status in SHARED and len(left) > 1:
                 half = len(left) // 2
                 self.look_through_chunk(batch, left[:half], is_bare)
                 left = left[half:]
                 continue
+            if is_reading and run.status in OF_SETTING:
+                return True
             place = run.place()
             at = bisect.bisect_right(starts, place[0]) - 2 if place else 0
             self.refuse(left[at], run, starts[at + 1], is_bare)
             left = left[:at] * (run.status == BYTE) + left[at + 1 :]
+        return is_reading
 
     def refuse(self, sheet, run, first, is_bare):
         """Gives a sheet its fault, or has it set by itself where it is refused only as it is measured."""
@@ -340,6 +348,11 @@ class Setter:
 def without_results(sheets):
     """The sheets that are left."""
     return [sheet for sheet in sheets if sheet.result is None]
+
+
+def left_in_form(sheets, is_bare):
+    """The sheets that are left to be looked through: as they are, or as they are measured."""
+    return [sheet for sheet in without_results(sheets) if is_bare or not sheet.is_bare]
 
 
 def reason(run):

@@ -59,13 +59,23 @@ def element(attributes, title, inside):
     )
 
 
+def units(box):
+    """The width, height and depth of a box as a picture has them."""
+    return (max(0, part) / UNIT for part in box)
+
+
+def view(left, top, width, height):
+    """The part of the picture that is shown, which has to have a size."""
+    return f'viewBox="{left:.2f} {top + 0.0:.2f} {max(1, width):.2f} {max(1, height):.2f}"'
+
+
 def in_text(box, title, inside):
     """A picture for a line of text: its unit is the ex of the font there."""
-    width, height, depth = (max(0, part) / UNIT for part in box)
+    width, height, depth = units(box)
     tall = height + depth
     return element(
-        f'width="{width / EX:.3f}ex" height="{tall / EX:.3f}ex" viewBox="0 {0 - height:.1f} {max(1, width):.1f} '
-        f'{max(1, tall):.1f}" overflow="visible" style="vertical-align:{0 - depth / EX:.3f}ex"',
+        f'width="{width / EX:.4f}ex" height="{tall / EX:.4f}ex" {view(0, -height, width, tall)} overflow="visible" '
+        f'style="vertical-align:{0 - depth / EX:.4f}ex"',
         title,
         inside,
     )
@@ -76,15 +86,16 @@ def on_baseline(box, title, inside):
 
     Browsers put a picture on a whole pixel. All these have one height, so they are moved by the same part of a pixel.
     """
-    width, height, depth = (max(0, part) / UNIT for part in box)
+    width, height, depth = units(box)
     flat = FLAT * EX
     strut = (
-        f'<span style="display:inline-block;width:0;height:{(height + depth) / EX:.3f}ex;'
-        f'vertical-align:{0 - depth / EX:.3f}ex"></span>'
+        f'<span style="display:inline-block;width:0;height:{(height + depth) / EX:.4f}ex;'
+        f'vertical-align:{0 - depth / EX:.4f}ex"></span>'
     )
+    # The scale is that of the width.
     picture = element(
-        f'width="{width / EX:.3f}ex" height="{FLAT:g}ex" viewBox="0 {-flat:.3f} {max(1, width):.1f} {flat:.3f}" '
-        'overflow="visible" preserveAspectRatio="xMinYMax slice" style="vertical-align:baseline"',
+        f'width="{width / EX:.4f}ex" height="{FLAT:g}ex" {view(0, -flat, width, flat)} preserveAspectRatio="xMinYMax slice" '
+        'overflow="visible" style="vertical-align:baseline"',
         title,
         inside,
     )
@@ -93,11 +104,11 @@ def on_baseline(box, title, inside):
 
 def as_file(box, title, inside):
     """A picture as a file: its unit is the point, and it has a margin."""
-    width, height, depth = (max(0, part) / UNIT for part in box)
+    width, height, depth = units(box)
     across, down = width + 2 * MARGIN, height + depth + 2 * MARGIN
     return element(
-        f'width="{across / 100 * POINT:.3f}pt" height="{down / 100 * POINT:.3f}pt" '
-        f'viewBox="{-MARGIN} {0 - height - MARGIN:.1f} {across:.1f} {down:.1f}"',
+        f'width="{across / 100 * POINT:.4f}pt" height="{down / 100 * POINT:.4f}pt" '
+        f"{view(-MARGIN, -height - MARGIN, across, down)}",
         title,
         inside,
     )

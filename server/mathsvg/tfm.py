@@ -18,6 +18,11 @@ class Metrics:
         self.widths, self.heights = parts[:widths], parts[widths : widths + heights]
         self.depths = parts[widths + heights :]
 
+    def has(self, code):
+        """Whether the font has a character."""
+        at = 4 * (code - self.first)
+        return 0 <= at < len(self.characters) and self.characters[at] > 0
+
     def extents(self, code):
         """The width, the height and the depth of a character of the font."""
         at = 4 * (code - self.first)
