@@ -196,7 +196,7 @@ class Formula:
         """A formula in the text."""
         body = self.list(lambda token: token.kind == tokens.MATH)
         self.finish()
-        return [("$", opening.place), *body, ("$", opening.place)]
+        return [("$", opening.place), *(body or [("{}", opening.place)]), ("$", opening.place)]
 
     def display(self, opening, name=None):
         """A display; the name is that of its environment."""
