@@ -392,14 +392,21 @@ def cfrac(formula, token):
 
 
 def substack(formula, token):
-    """\\substack: lines in script style."""
+    """\\substack: lines in script style, in the middle of their height as \\vcenter puts them."""
     rows = environments.split_rows(formula.reader.argument(token))
     place = token.place
-    found = []
-    for row in reversed(rows):
-        line = [("{", place), ("\\scriptstyle", place), *formula.sub_list(row, place), ("}", place)]
-        found = [("{", place), *line, ("\\atop", place), *found, ("}", place)] if found else line
-    return [("{", place), ("\\scriptstyle", place), *found, ("}", place)] if len(rows) > 1 else found
+    lines = [[("\\scriptstyle", place), *formula.sub_list(row, place)] for row in rows]
+    return environments.stacked(lines, place)
+
+
+def integral(formula, token):
+    """\\iint and its like, whose limits are those of all signs."""
+    following = formula.reader.peek_past_spaces()
+    sign = [("\\" + token.text, token.place)]
+    if following is not None and following.is_name("limits"):
+        before, inside = "\\mkern-7mu \\mathchoice{\\mkern-2mu }{}{}{}\\mathop", "\\mkern7mu \\mathchoice{\\mkern2mu }{}{}{}"
+        return [(before, token.place), ("{", token.place), (inside, token.place), *sign, ("}", token.place)]
+    return sign
 
 
 def over_class(formula, token):
@@ -777,9 +784,10 @@ COMMANDS = {
     "abovewithdelims": lambda f, t: [
         ("\\abovewithdelims", t.place), *delimiter_pieces(f, t), *delimiter_pieces(f, t), (dimension(f, t) + " ", t.place),
     ],
-    "dfrac": None, "tfrac": None,
+    "iint": integral, "iiint": integral, "iiiint": integral, "idotsint": integral,
+    "thinspace": lambda f, t: [("\\,", t.place)], "negthinspace": lambda f, t: [("\\!", t.place)],
+    "medspace": lambda f, t: [("\\>", t.place)], "thickspace": lambda f, t: [("\\;", t.place)],
 }  # fmt: skip
-COMMANDS = {name: command for name, command in COMMANDS.items() if command}
 COMMANDS.update(dict.fromkeys(ARROWS, extensible))
 COMMANDS.update(dict.fromkeys([size + side for size in ("big", "Big", "bigg", "Bigg") for side in ("", "l", "m", "r")], big))
 for _name in ("mathrm", "mathit", "mathbf", "mathtt", "mathsf", "mathcal", "mathbb", "mathfrak", "mathscr", "mathnormal"):

@@ -19,7 +19,8 @@ GATHERED = ("gathered", "gather", "multline", "multlined", "lgathered", "rgather
 SINGLE = ("equation", "displaymath", "math", "dmath", "subequations", "empheq", "linenomath")
 WITH_COUNT = ("alignedat", "alignat", "xalignat", "xxalignat", "IEEEeqnarray")
 DISPLAYS = ALIGNED[3:] + ("gather", "multline") + SINGLE
-NO_SPACE = ("\\!", 0)
+# Plain TeX's \\nulldelimiterspace, 1.2pt in scaled points, which is on both sides of a fraction.
+NULL_DELIMITER = 78643
 
 
 @dataclass
@@ -295,12 +296,15 @@ def small(formula, token, name):
 
 
 def stacked(column, place):
-    """Lines one below another, in the middle."""
+    """Lines one below another, in the middle; what is left and right of a fraction is taken back."""
     found = []
+    space = ("\\kern-%dsp " % NULL_DELIMITER, place)
     for line in reversed(column):
         cell = [("{", place), *line, ("}", place)]
-        found = [("{", place), *cell, ("\\atop", place), *found, ("}", place)] if found else cell
-    return [("{", place), ("\\scriptstyle", place), *found, ("}", place)]
+        fraction = [("{", place), *cell, ("\\atop", place), *found, ("}", place)]
+        found = [("{", place), space, *fraction, space, ("}", place)] if found else cell
+    begin, end = ("\\vcenter{\\hbox{$\\scriptstyle", place), ("$}}", place)
+    return [("{", place), begin, *found, end, ("}", place)]
 
 
 def cases(formula, token, name):

@@ -161,8 +161,9 @@ class Formula:
         return [("{", command.place), *self.argument(command), ("}", command.place)]
 
     def sub_formula(self, found, place, has_text_size):
-        """A formula inside of a text."""
+        """A formula inside of a text, in which no family is in force."""
         style = [("\\textstyle", place)] if has_text_size else []
+        style.append(("\\fam16 ", place))
         return [("{", place), *style, *self.sub_list(found, place), ("}", place)]
 
     def text(self, found, place, font="rm", is_fixed=False):
