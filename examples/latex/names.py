@@ -68,11 +68,13 @@ class Names:
         return name in self.arguments
 
 
+def path_of_names():
+    """The file of definitions that converted formulas come after."""
+    path = EXAMPLES / "latex-names.tex"
+    return path if path.exists() else EXAMPLES / "more-names.tex"
+
+
 @functools.lru_cache(maxsize=4)
 def names_of(path=None):
     """The names of mathset and of a file of definitions, by default latex-names.tex."""
-    if path is None:
-        path = EXAMPLES / "latex-names.tex"
-        if not path.exists():
-            path = EXAMPLES / "more-names.tex"
-    return Names(pathlib.Path(path).read_text(encoding="latin-1"))
+    return Names(pathlib.Path(path or path_of_names()).read_text(encoding="latin-1"))
