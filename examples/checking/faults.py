@@ -45,21 +45,26 @@ class Check:
         for unit in self.units:
             for text, offset in unit.tokens:
                 if BAD.fullmatch(text):
-                    end = offset + len(text)
-                    # The text may depend on the byte after it, as for a backslash and a blank.
-                    first[unit] = "$" + text + self.document.text[end : end + 1] + "$\n", offset
+                    first[unit] = self.around(text, offset), offset
                     break
-        answers = self.program.answers((source, source) for source in {source for source, _ in first.values()})
-        for unit, (source, offset) in first.items():
+        answers = self.program.answers((given, "".join(given)) for given in {given for given, _ in first.values()})
+        for unit, (given, offset) in first.items():
             line, column = self.document.line_column(offset)
-            place = answers[source].place
+            place = answers[given].place
             if not place:
                 continue
-            fault = Place(line, column + place.column - 2, place.text)
+            fault = Place(line, column + place.column - 1 - len(given[0]), place.text)
             if unit.kind == "stray" and offset > unit.start:
                 self.bytes_of_strays.append(fault)
             else:
                 unit.fault = fault
+
+    def around(self, text, offset):
+        """A short source with these bytes, and what is in front of them: nothing at the beginning of a file."""
+        before = "" if offset in self.document.file_starts() else "$"
+        # What mathset says may depend on the byte after it, as for a backslash and a blank.
+        end = offset + len(text)
+        return before, text + self.document.text[end : end + 1] + "$\n"
 
     def check_strays(self):
         """The text depends on the first token alone."""

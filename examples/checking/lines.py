@@ -48,13 +48,14 @@ class Lines:
     def shown(self, line, place):
         """What is found behind the line is shown at its beginning."""
         is_in_line = place.line == self.before + line
-        return self.document.shown(place if is_in_line else Place(self.before + line, 1, place.text))
+        shown = self.document.shown(place if is_in_line else Place(self.before + line, 1, place.text))
+        return shown.encode("latin-1").decode(errors="replace")
 
     def find_warnings(self):
         """Pairs of a line and a text as `warnings`, once. Those of formulas at fault are among them."""
         if self.warnings is None:
             found = warnings_of(self.document, self.check.units)
-            self.warnings = [(place.line - self.before, self.document.shown(place)) for place in found]
+            self.warnings = [(place.line - self.before, self.shown(place.line - self.before, place)) for place in found]
 
     def rejected(self, texts):
         """The lines that mathset rejects with these texts in place of their own."""

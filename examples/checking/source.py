@@ -74,6 +74,9 @@ class Document:
             self.text += text.decode("latin-1")
         self.line_starts = [0] + [found.end() for found in re.finditer("\n", self.text)]
 
+    def file_starts(self):
+        return [self.line_starts[line - 1] for line in self.first_lines]
+
     def line_column(self, offset):
         line = bisect.bisect_right(self.line_starts, offset)
         return line, offset - self.line_starts[line - 1] + 1
