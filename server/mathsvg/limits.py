@@ -29,6 +29,9 @@ class Limits:
     together_formulas: int = 1000
     together_seconds: float = 0.5
     together_bytes: int = 12 * MEGABYTE
+    # The process that converts LaTeX: its memory, and seconds for a formula; for one that waits with others, `together`.
+    converter_memory: int = 256 * MEGABYTE
+    conversion_seconds: float = 1.0
     # The server: connections, requests that wait, seconds in which a client sends one or takes an answer, bytes of
     # answers that are kept, and bytes of all requests and answers on their way.
     connections: int = 400

@@ -1,108 +1,40 @@
-"""Many formulas set in one run of the program, also where some of them are refused."""
+"""Formulas in plain TeX or in LaTeX, and what comes of each."""
 
-import bisect
-import concurrent.futures
-import itertools
-import os
-import pathlib
-import re
 import time
 
-from . import latex as latex_syntax
-from .definitions import Definitions
-from .fonts import CannotFind, FontList
-from .formula import WHOLE, Formula, ends_in_comment, fault_at, unbalanced, whole_fault
+from .converter import Converter
+from .engine import Engine
+from .formula import Formula, unbalanced, whole_fault
 from .limits import Limits, Room
-from .outlines import NoOutlines
-from .picture import between_periods, by_extents, pages_of
-from .program import TOO_LATE, TOO_LONG, TOP, CannotRun, Program
+from .program import TOP
+from .sheets import Batch, Sheet
 
-BEFORE = b"\\smash.\\underline{"
-AFTER = b"}\\smash."
-# The width of a line for what is measured: so wide that no display shrinks.
-WIDE = 8000 * 65536
-# 6.5in, the width of a line of the program.
-LINE = 30785863
-# Statuses of limits that all formulas of a run share, so that the one that is named can be innocent; of memory too.
-SHARED = {42, 49, 60, TOO_LONG, TOO_LATE}
-# A byte that is not allowed is refused before the formulas ahead of it are read.
-BYTE = 40
-# Statuses of the setting. Their place is the first $ of the formula, as it is of limits.
-OF_SETTING = range(43, 48)
-OF_THE_WHOLE = range(42, 48)
-# A page before the caller's definitions: if they set something, this page or the count of pages is another one.
-MARK = b"$.$\n"
-ONLY = "definitions can be \\def, \\mathcode and \\delcode alone"
-# As many formulas are looked through in one process; several processes run side by side.
-CHUNK = 48
-STILL_OPEN = re.compile(r"\bat line (\d+), column (\d+)(?= is still open)")
-REDEFINED = re.compile(rb"\\def\s*\\(?:smash|underline)(?![A-Za-z])")
-FONTS = TOP / "examples/cm-ams.fonts"
-NAMES = TOP / "examples/more-names.tex"
-
-
-class Late(Exception):
-    """The time of the request is over, or the room of those that are set together."""
-
-
-class Sheet:
-    """A formula on its way: what the program gets, and what came of it."""
-
-    def __init__(self, formula, text, own_fault):
-        self.formula = formula
-        self.text = text + b"\n" if ends_in_comment(text) else text
-        # Gives the fault in the caller's text at an offset of `text`, with what is said there.
-        self.own_fault = own_fault
-        self.is_bare = bool(WHOLE.search(text))
-        self.result = None
-        # What is left for the pictures of the request.
-        self.room = None
-
-    def page(self, is_bare):
-        """A page with the formula alone, or so that it is measured."""
-        marks = b"$$" if self.formula.display else b"$"
-        inside = (self.text or b" ") if is_bare else BEFORE + self.text + AFTER
-        return marks + inside + marks + b"\n\\eject\n"
-
-
-class Batch:
-    """Sheets that are set with the same definitions, until a time."""
-
-    def __init__(self, sheets, definitions, deadline, room, own_fault=None):
-        self.sheets = sheets
-        self.room = room
-        self.own = definitions
-        self.definitions = MARK + definitions + b"\n\\eject\n" if definitions else b""
-        self.is_redefined = bool(REDEFINED.search(definitions))
-        self.deadline = deadline
-        # Gives the fault in the caller's definitions at an offset of `definitions`, with what is said there.
-        self.own_fault = own_fault
-
-    def left(self):
-        """The sheets without a result."""
-        return without_results(self.sheets)
-
-    def refuse(self, offset, said):
-        """Gives all sheets that are left a fault in the definitions."""
-        fault = self.own_fault(max(0, offset), said)
-        for sheet in self.left():
-            sheet.result = fault
+PLAIN_FONTS = TOP / "examples/cm-ams.fonts"
+PLAIN_NAMES = TOP / "examples/more-names.tex"
+LATEX_FONTS = TOP / "examples/latex.fonts"
+LATEX_NAMES = TOP / "examples/latex-names.tex"
+LATE = "not set, since the time of the request was over"
 
 
 class Setter:
-    """The program with a list of fonts. It has a temporary folder, which `close` or the end of a `with` removes."""
+    """The program with the fonts of plain TeX and with those of LaTeX.
 
-    def __init__(self, fonts=FONTS, names=NAMES, limits=None, program=None):
+    `fonts` is a list of fonts and `names` a file of definitions, both instead of those that there are for each syntax.
+    It has temporary folders, which `close` or the end of a `with` removes.
+    """
+
+    def __init__(self, fonts=None, names=None, limits=None, program=None):
         self.limits = limits or Limits()
+        self.engines, self.converters = {}, []
+        latex_names = LATEX_NAMES if LATEX_NAMES.exists() else PLAIN_NAMES
+        self.latex_names = latex_names if names is None else names
         try:
-            self.fonts = FontList(fonts)
-            self.names = Definitions(pathlib.Path(names).read_bytes() if names else b"")
-        except CannotFind as error:
-            raise CannotRun(str(error)) from error
-        except OSError as error:
-            raise CannotRun(f"{names} cannot be read: {error.strerror}") from error
-        self.program = Program(self.fonts, self.limits, program)
-        self.helpers = concurrent.futures.ThreadPoolExecutor(os.cpu_count() or 1)
+            self.engines[False] = Engine(fonts or PLAIN_FONTS, PLAIN_NAMES if names is None else names, self.limits, program)
+            self.engines[True] = Engine(fonts or LATEX_FONTS, self.latex_names, self.limits, program)
+        except BaseException:
+            self.close()
+            raise
+        self.converter = self.new_converter()
 
     def __enter__(self):
         return self
@@ -111,9 +43,14 @@ class Setter:
         self.close()
 
     def close(self):
-        """Ends the threads and removes the folder."""
-        self.helpers.shutdown()
-        self.program.close()
+        """Ends the processes and threads, and removes the folders."""
+        for part in [*self.converters, *self.engines.values()]:
+            part.close()
+
+    def new_converter(self):
+        """A converter from LaTeX, for one thread; it ends with this setter."""
+        self.converters.append(Converter(self.latex_names, self.limits))
+        return self.converters[-1]
 
     def set(self, formulas, definitions="", latex=False, seconds=None):
         """Sets formulas, each a text or a Formula, and gives a Picture or a Fault for each, in order.
@@ -123,272 +60,55 @@ class Setter:
         formulas that are not set by then have a fault that says so.
         """
         batch = self.batch(formulas, definitions, latex, seconds)
+        self.convert(batch, self.converter)
         self.set_batch(batch)
         return [sheet.result for sheet in batch.sheets]
 
-    def batch(self, formulas, definitions="", latex=False, seconds=None):
-        """The sheets of formulas. Those that need no run have their result."""
+    def batch(self, formulas, definitions="", latex=False, seconds=None, room=None):
+        """The sheets of formulas, and what they have together. `room` is for the bytes of their pictures."""
         formulas = [Formula(each) if isinstance(each, str) else each for each in formulas]
         deadline = time.monotonic() + (self.limits.request_seconds if seconds is None else seconds)
-        if latex:
-            sheets, own, own_fault = latex_syntax.sheets(formulas, definitions)
-        else:
-            sheets, own = [plain_sheet(formula) for formula in formulas], encoded(definitions)
-            own_fault = fault_in(definitions, own, "definitions")
-        room = Room(self.limits.answer_bytes)
+        room = room or Room(float("inf"))
+        sheets = [Sheet(formula, room) for formula in formulas]
         for sheet in sheets:
-            sheet.room = room
-            self.check(sheet)
-        return Batch(sheets, own, deadline, Room(self.limits.answer_bytes), own_fault)
+            if len(sheet.formula.source) > self.limits.formula_characters:
+                said = f"a formula can have at most {self.limits.formula_characters} characters"
+                sheet.result = whole_fault(sheet.formula, said)
+            elif not latex:
+                refuse_unbalanced(sheet)
+        return Batch(sheets, deadline, Room(float("inf")), latex, definitions)
 
-    def check(self, sheet):
-        """Refuses a formula that is too long, or that would not end where it ends."""
-        if sheet.result is None and len(sheet.formula.source) > self.limits.formula_characters:
-            said = f"a formula can have at most {self.limits.formula_characters} characters"
-            sheet.result = whole_fault(sheet.formula, said)
-        if sheet.result is None and (found := unbalanced(sheet.text)):
-            sheet.result = sheet.own_fault(*found)
+    def convert(self, batch, converter, seconds=None):
+        """Makes formulas in LaTeX those of the program. False if that takes more than `seconds`."""
+        if batch.is_latex and any(not sheet.is_converted for sheet in batch.left()):
+            deadline = batch.deadline if seconds is None else min(batch.deadline, time.monotonic() + seconds)
+            is_whole = converter.convert(batch, deadline, seconds is None)
+            for sheet in batch.left():
+                if sheet.is_converted:
+                    refuse_unbalanced(sheet)
+            return is_whole
+        return True
 
     def set_batch(self, batch):
         """Gives each sheet of a batch its result."""
-        try:
-            for part in self.parts(batch.left()):
-                self.settle(batch, part)
-        except Late:
-            pass
+        self.engines[batch.is_latex].set(batch)
         for sheet in batch.left():
-            sheet.result = whole_fault(sheet.formula, "not set, since the time of the request was over")
-
-    def file(self, batch, command):
-        """What a command of the program writes of a batch of which each formula was set before: a page for each."""
-        names = self.names.needed([batch.own, *(sheet.text for sheet in batch.sheets)])
-        pages = [sheet.page(True) for sheet in batch.sheets]
-        run = self.program.run(command, b"".join([names, batch.own, b"\n", *pages]))
-        if run.status:
-            raise CannotRun(reason(run))
-        return run.output
+            sheet.result = whole_fault(sheet.formula, LATE)
 
     def set_together(self, batches):
         """Sets batches without definitions of their own in the same runs. Sheets that are late have no result."""
-        sheets = [sheet for batch in batches for sheet in batch.left()]
-        deadline = time.monotonic() + self.limits.together_seconds
-        shared = Batch(sheets, b"", deadline, Room(self.limits.together_bytes))
-        try:
-            for part in self.parts(shared.sheets):
-                self.settle(shared, part)
-        except Late:
-            pass
+        for is_latex, engine in self.engines.items():
+            sheets = [sheet for batch in batches if batch.is_latex == is_latex for sheet in batch.left()]
+            if sheets:
+                deadline = time.monotonic() + self.limits.together_seconds
+                engine.set(Batch(sheets, deadline, Room(self.limits.together_bytes), is_latex))
 
-    def parts(self, sheets):
-        """The sheets, in parts that one run can take."""
-        part, size = [], 0
-        for sheet in sheets:
-            if part and (len(part) == self.limits.run_formulas or size > self.limits.run_bytes):
-                yield part
-                part, size = [], 0
-            part.append(sheet)
-            size += len(sheet.text)
-        if part:
-            yield part
-
-    def settle(self, batch, sheets):
-        """Sets sheets in one run. Where one is refused, finds all that are, and sets the rest."""
-        if self.attempt(batch, sheets):
-            return
-        self.look_through(batch, without_results(sheets), is_bare=True)
-        if self.attempt(batch, sheets):
-            return
-        # What is refused only where it is measured, as a formula with 150 groups, is set by itself.
-        self.look_through(batch, left_in_form(sheets, False), is_bare=False)
-        if not self.attempt(batch, sheets):
-            for sheet in without_results(sheets):
-                sheet.result = whole_fault(sheet.formula, "not set")
-
-    def attempt(self, batch, sheets):
-        """Sets the sheets without a result, those that are measured in one run and the others in one. False if one is
-        refused."""
-        left = without_results(sheets)
-        bare = [sheet for sheet in left if sheet.is_bare or batch.is_redefined]
-        measured = [sheet for sheet in left if not (sheet.is_bare or batch.is_redefined)]
-        return all([self.attempt_alike(batch, measured, False), self.attempt_alike(batch, bare, True)])
-
-    def attempt_alike(self, batch, sheets, is_bare):
-        """Sets sheets in one run, or in several where they are together beyond a limit. False if one is refused."""
-        if not sheets:
-            return True
-        run, starts = self.run(batch, sheets, is_bare)
-        if run.status == 0:
-            return self.take(batch, sheets, is_bare, pages_of(run.output))
-        if run.status in SHARED and len(sheets) > 1:
-            half = len(sheets) // 2
-            parts = sheets[:half], sheets[half:]
-            return all([self.attempt_alike(batch, part, is_bare) for part in parts])
-        return self.is_of_definitions(batch, run, starts)
-
-    def take(self, batch, sheets, is_bare, pages):
-        """Takes the pages of a run. False where one is not the page of a measured formula."""
-        if batch.definitions:
-            mark = pages.pop(0) if pages else []
-            if len(mark) != 1 or len(pages) != len(sheets):
-                batch.refuse(0, ONLY)
-                return True
-        if len(pages) != len(sheets):
-            for sheet in sheets:
-                sheet.result = whole_fault(sheet.formula, "not set: there are more pages than formulas, or fewer")
-            return True
-        for sheet, places in zip(sheets, pages):
-            self.draw(batch, sheet, places, is_bare)
-        return all(sheet.result for sheet in sheets)
-
-    def draw(self, batch, sheet, places, is_bare):
-        """Gives a sheet its picture, if the page is that of a measured formula or of one by itself."""
-        if len(places) > self.limits.places:
-            said = f"a formula can have at most {self.limits.places} glyphs and rules"
-            sheet.result = whole_fault(sheet.formula, said)
-            return
-        try:
-            if is_bare:
-                picture = by_extents(sheet.formula, self.fonts, places, LINE)
-            else:
-                picture = between_periods(sheet.formula, self.fonts, places)
-        except NoOutlines as error:
-            sheet.result = whole_fault(sheet.formula, str(error))
-            return
-        sheet.is_bare = is_bare or picture is None
-        if picture:
-            sheet.result = self.within_room(batch, sheet, picture)
-
-    def within_room(self, batch, sheet, picture):
-        """The picture, or a fault where the pictures of the request are too long with it."""
-        if not sheet.room.take(picture.size()):
-            said = f"the pictures of a request can have at most {self.limits.answer_bytes} bytes together"
-            return whole_fault(sheet.formula, said)
-        if not batch.room.take(picture.size()):
-            raise Late
-        return picture
-
-    def run(self, batch, sheets, is_bare):
-        """Runs the program on sheets. Gives the run, and the lines at which the definitions and the sheets begin."""
-        seconds = batch.deadline - time.monotonic()
-        if seconds <= 0:
-            raise Late
-        names = self.names.needed([batch.definitions, *(sheet.text for sheet in sheets)])
-        texts = [names, batch.definitions, *(sheet.page(is_bare) for sheet in sheets)]
-        starts = list(itertools.accumulate((text.count(b"\n") for text in texts), initial=1))
-        run = self.program.run("places", b"".join(texts), seconds, LINE if is_bare else WIDE)
-        if run.status == TOO_LATE and time.monotonic() >= batch.deadline:
-            raise Late
-        return run, starts[1:-1]
-
-    def is_of_definitions(self, batch, run, starts):
-        """Refuses all sheets where the fault of a run is in the definitions."""
-        place = run.place()
-        if not batch.definitions or not place or place[0] >= starts[1]:
-            return False
-        line, column, said = place
-        batch.refuse(offset_of(batch.definitions, line - starts[0] + 1, column) - len(MARK), said)
-        return True
-
-    def look_through(self, batch, sheets, is_bare):
-        """Finds all sheets that are refused, several processes side by side."""
-        chunks = [sheets[at : at + CHUNK] for at in range(0, len(sheets), CHUNK)]
-        if len(chunks) == 1:
-            self.look_through_chunk(batch, sheets, is_bare)
-            return
-        for found in [self.helpers.submit(self.look_through_chunk, batch, chunk, is_bare) for chunk in chunks]:
-            found.result()
-
-    def look_through_chunk(self, batch, sheets, is_bare):
-        """Finds all sheets that are refused. A run reads all formulas before it sets one."""
-        if self.refuse_all(batch, sheets, is_bare, is_reading=True):
-            self.refuse_all(batch, left_in_form(sheets, is_bare), is_bare, is_reading=False)
-
-    def refuse_all(self, batch, left, is_bare, is_reading):
-        """Refuses sheets: the first one, then the first one behind it, and so on. Says whether there may be others."""
-        while left:
-            run, starts = self.run(batch, left, is_bare)
-            if run.status == 0 or self.is_of_definitions(batch, run, starts):
-                break
-            if run.status in SHARED and len(left) > 1:
-                half = len(left) // 2
-                self.look_through_chunk(batch, left[:half], is_bare)
-                left = left[half:]
-                continue
-            if is_reading and run.status in OF_SETTING:
-                return True
-            place = run.place()
-            at = bisect.bisect_right(starts, place[0]) - 2 if place else 0
-            self.refuse(left[at], run, starts[at + 1], is_bare)
-            left = left[:at] * (run.status == BYTE) + left[at + 1 :]
-        return is_reading
-
-    def refuse(self, sheet, run, first, is_bare):
-        """Gives a sheet its fault, or has it set by itself where it is refused only as it is measured."""
-        if not is_bare:
-            sheet.is_bare = True
-            return
-        place = run.place()
-        if not place or run.status in OF_THE_WHOLE:
-            sheet.result = whole_fault(sheet.formula, place[2] if place else reason(run))
-            return
-        line, column, said = place
-        page = sheet.page(is_bare)
-        marks = 2 if sheet.formula.display else 1
-
-        def offset(line, column):
-            return min(max(0, offset_of(page, line - first + 1, column) - marks), len(sheet.text))
-
-        def moved(found):
-            place = sheet.own_fault(offset(int(found[1]), int(found[2])), "")
-            return f"at line {place.line}, column {place.column}"
-
-        sheet.result = sheet.own_fault(offset(line, column), STILL_OPEN.sub(moved, said))
+    def file(self, batch, command):
+        """What a command of the program writes of a batch of which each formula was set before: a page for each."""
+        return self.engines[batch.is_latex].file(batch, command)
 
 
-def without_results(sheets):
-    """The sheets that are left."""
-    return [sheet for sheet in sheets if sheet.result is None]
-
-
-def left_in_form(sheets, is_bare):
-    """The sheets that are left to be looked through: as they are, or as they are measured."""
-    return [sheet for sheet in without_results(sheets) if is_bare or not sheet.is_bare]
-
-
-def reason(run):
-    """What there is to say of a run whose fault has no place."""
-    texts = {
-        TOO_LATE: "this takes too much time",
-        TOO_LONG: "this takes too much memory, time or output",
-        60: "this takes too much memory",
-    }
-    return texts.get(run.status) or run.said.strip().split("\n")[-1] or "not set"
-
-
-def offset_of(text, line, column):
-    """The offset in a text of bytes of a line and a column, which count from 1."""
-    at = 0
-    for _ in range(line - 1):
-        at = text.index(b"\n", at) + 1
-    return at + column - 1
-
-
-def encoded(text):
-    """The bytes of a text. The program reports those that are not ASCII."""
-    return text.encode("utf-8", "surrogatepass")
-
-
-def fault_in(text, data, where="formula"):
-    """Gives faults at offsets of the bytes of a text."""
-
-    def found(offset, said):
-        offset = len(data[:offset].decode("utf-8", "surrogatepass" if text.isascii() else "ignore"))
-        return fault_at(text, offset, said, where=where)
-
-    return found
-
-
-def plain_sheet(formula):
-    """The sheet of a formula that is in plain TeX already."""
-    text = encoded(formula.source)
-    return Sheet(formula, text, fault_in(formula.source, text))
+def refuse_unbalanced(sheet):
+    """Refuses a formula that would not end where it ends."""
+    if found := unbalanced(sheet.text):
+        sheet.result = sheet.own_fault(*found)

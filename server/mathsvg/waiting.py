@@ -4,6 +4,8 @@ import collections
 import concurrent.futures
 import threading
 
+from .limits import Room
+
 class Busy(Exception):
     """As many requests wait as may."""
 
@@ -75,23 +77,28 @@ class Lane(threading.Thread):
 
 
 class Queue:
-    """Two lanes before a setter."""
+    """Two lanes before a setter, each with a converter from LaTeX."""
 
     def __init__(self, setter):
         self.setter = setter
-        limits = setter.limits
+        self.limits = limits = setter.limits
+        self.together_converter, self.alone_converter = setter.new_converter(), setter.new_converter()
         self.together = Lane(self.set_together, limits.together_formulas, limits.waiting)
         self.alone = Lane(self.set_alone, 0, limits.waiting)
 
-    def put(self, formulas, definitions, latex):
-        """Lets formulas wait to be set, and gives the promise of their results."""
-        job = Job(self.setter.batch(formulas, definitions, latex))
-        (self.alone if job.batch.definitions else self.together).put(job)
+    def put(self, asked, formulas, command=None):
+        """Lets formulas of a request wait, and gives the promise of their results, or of what a command writes."""
+        room = Room(self.limits.answer_bytes)
+        job = Job(self.setter.batch(formulas, asked.definitions, asked.latex, room=room), command)
+        is_alone = job.batch.definitions or command
+        (self.alone if is_alone else self.together).put(job)
         return job.promise
 
     def set_together(self, jobs):
         """Sets jobs in the same runs. Those that are late go to the other lane."""
-        self.setter.set_together([job.batch for job in jobs])
+        seconds = self.limits.together_seconds
+        ready = [job.batch for job in jobs if self.setter.convert(job.batch, self.together_converter, seconds)]
+        self.setter.set_together(ready)
         for job in jobs:
             if not job.batch.left():
                 job.finish()
@@ -104,17 +111,12 @@ class Queue:
     def set_alone(self, jobs):
         """Sets a job by itself."""
         for job in jobs:
+            self.setter.convert(job.batch, self.alone_converter)
             if job.command:
                 job.promise.set_result(self.setter.file(job.batch, job.command))
             else:
                 self.setter.set_batch(job.batch)
                 job.finish()
-
-    def file(self, command, formulas, definitions, latex):
-        """The promise of what a command of the program writes of formulas."""
-        job = Job(self.setter.batch(formulas, definitions, latex), command)
-        self.alone.put(job)
-        return job.promise
 
     def close(self):
         """Ends both lanes."""

@@ -10,7 +10,6 @@ from . import api
 from .connections import Guard
 from .formula import Fault
 from .kept import Kept
-from .latex import NoLatex
 from .limits import Room
 from .picture import Picture
 from .waiting import Busy, Queue
@@ -109,26 +108,16 @@ class Service:
 
     async def results(self, asked):
         """The results of the formulas of a request: those that are kept, and the others when they are set."""
-        if asked.definitions:
-            return await self.set(asked.formulas, asked)
-        keys = [(formula, asked.latex) for formula in asked.formulas]
+        keys = [(formula, asked.latex, asked.definitions) for formula in asked.formulas]
         found = [self.kept.get(key) for key in keys]
         missing = [at for at, result in enumerate(found) if result is None]
         if missing:
-            results = await self.set([asked.formulas[at] for at in missing], asked)
-            for at, result in zip(missing, results):
+            promise = self.queue.put(asked, [asked.formulas[at] for at in missing])
+            for at, result in zip(missing, await asyncio.wrap_future(promise)):
                 found[at] = result
-                if isinstance(result, Picture):
+                if isinstance(result, Picture) and not asked.definitions:
                     self.kept.put(keys[at], result)
         return found
-
-    async def set(self, formulas, asked):
-        """The results of formulas, when they are set."""
-        try:
-            promise = self.queue.put(formulas, asked.definitions, asked.latex)
-        except NoLatex as error:
-            raise api.Refused(501, str(error)) from None
-        return await asyncio.wrap_future(promise)
 
     async def pictures(self, request):
         """POST /svg"""
@@ -153,7 +142,7 @@ class Service:
         if faults:
             at, fault = faults[0]
             raise api.Refused(422, f"formula {at}: line {fault.line}, column {fault.column}: {fault.text}")
-        return await asyncio.wrap_future(self.queue.file(command, asked.formulas, asked.definitions, asked.latex))
+        return await asyncio.wrap_future(self.queue.put(asked, asked.formulas, command))
 
     async def health(self, _):
         """GET /health"""

@@ -1,0 +1,123 @@
+"""LaTeX made what the program takes, by a process of its own with limits of time and memory."""
+
+import bisect
+import json
+import os
+import pathlib
+import resource
+import select
+import subprocess
+import sys
+import time
+
+from .formula import fault_at, whole_fault
+from .program import TOP, CannotRun
+
+PROCESS = pathlib.Path(__file__).resolve().parent / "converting.py"
+PACKAGE = TOP / "examples"
+HEAVY = "the macros of this formula take too much time or memory"
+
+
+class Ended(Exception):
+    """The process has ended, or did not answer in time."""
+
+
+class Converter:
+    """A process that is started when it is first needed, and again after it had to be ended. It is for one thread."""
+
+    def __init__(self, names, limits):
+        if not (PACKAGE / "latex/__init__.py").exists():
+            raise CannotRun(f"there is no package latex in {PACKAGE}")
+        self.names, self.limits = names, limits
+        self.process = None
+        self.unread = b""
+
+    def close(self):
+        """Ends the process."""
+        if self.process is not None:
+            self.process.kill()
+            self.process.stdin.close()
+            self.process.stdout.close()
+            self.process.wait()
+            self.process = None
+
+    def start(self):
+        """Starts the process."""
+        words = [sys.executable, str(PROCESS), str(PACKAGE), str(self.names or os.devnull)]
+        self.process = subprocess.Popen(words, stdin=subprocess.PIPE, stdout=subprocess.PIPE, stderr=subprocess.DEVNULL)
+        self.unread = b""
+        most = self.limits.converter_memory
+        resource.prlimit(self.process.pid, resource.RLIMIT_AS, (most, most))
+
+    def convert(self, batch, deadline, is_last=True):
+        """Converts the sheets that are left of a batch. False if there is no time for all of them.
+
+        If this is the last attempt, a formula is at fault whose conversion the process does not survive.
+        """
+        left = [sheet for sheet in batch.left() if not sheet.is_converted]
+        while left:
+            try:
+                self.convert_all(batch, left, deadline)
+            except Ended:
+                self.close()
+                if not is_last or time.monotonic() >= batch.deadline:
+                    return False
+                sheet = left.pop(0)
+                sheet.result = whole_fault(sheet.formula, HEAVY)
+        return True
+
+    def convert_all(self, batch, left, deadline):
+        """Converts sheets, and takes each from the list as it is converted."""
+        if self.process is None:
+            self.start()
+        formulas = [(sheet.formula.source, sheet.formula.display) for sheet in left]
+        request = json.dumps({"definitions": batch.asked_definitions, "formulas": formulas})
+        try:
+            self.process.stdin.write(request.encode() + b"\n")
+            self.process.stdin.flush()
+        except BrokenPipeError:
+            raise Ended from None
+        fault = self.answer(deadline)["fault"]
+        if fault:
+            batch.refuse(fault[0], fault[2], fault[1])
+            left.clear()
+        while left:
+            take(left[0], self.answer(deadline))
+            left.pop(0)
+
+    def answer(self, deadline):
+        """The next line of the process."""
+        end = min(deadline, time.monotonic() + self.limits.conversion_seconds)
+        poll = select.poll()
+        poll.register(self.process.stdout, select.POLLIN)
+        while b"\n" not in self.unread:
+            seconds = end - time.monotonic()
+            if seconds <= 0 or not poll.poll(1000 * seconds):
+                raise Ended
+            data = os.read(self.process.stdout.fileno(), 1 << 16)
+            if not data:
+                raise Ended
+            self.unread += data
+        line, _, self.unread = self.unread.partition(b"\n")
+        return json.loads(line)
+
+
+def take(sheet, answer):
+    """Gives a sheet its text, or its fault."""
+    source = sheet.formula.source
+    sheet.is_converted = True
+    if "fault" in answer:
+        place, length, text = answer["fault"]
+        sheet.result = fault_at(source, place, text, length)
+        return
+    text = answer["text"]
+    offsets = [offset for offset, _ in answer["places"]]
+
+    def own_fault(offset, said):
+        if offset >= len(text):
+            return fault_at(source, len(source), said)
+        number = bisect.bisect_right(offsets, offset) - 1
+        place = answer["places"][number][1] if number >= 0 else 0
+        return fault_at(source, min(len(source), place), said)
+
+    sheet.take(text.encode(), own_fault)
