@@ -40,7 +40,7 @@ class Late(Exception):
 class Engine:
     """The program with a list of fonts and a file of definitions that all formulas may use."""
 
-    def __init__(self, fonts, names, limits, program=None):
+    def __init__(self, fonts, names, limits, program):
         self.limits = limits
         try:
             self.fonts = FontList(fonts)

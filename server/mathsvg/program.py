@@ -56,8 +56,8 @@ def find_program():
 class Program:
     """The program with a list of fonts, in a temporary folder that has links to their TFM files."""
 
-    def __init__(self, fonts, limits, path=None):
-        self.path = os.path.abspath(path or find_program())
+    def __init__(self, fonts, limits, path):
+        self.path = os.path.abspath(path)
         self.limits = limits
         self.room = tempfile.TemporaryDirectory(prefix="mathset-server-")
         room = pathlib.Path(self.room.name)

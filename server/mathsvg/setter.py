@@ -6,7 +6,7 @@ from .converter import Converter
 from .engine import Engine
 from .formula import Formula, unbalanced, whole_fault
 from .limits import Limits, Room
-from .program import TOP
+from .program import TOP, find_program
 from .sheets import Batch, Sheet
 
 PLAIN_FONTS = TOP / "examples/cm-ams.fonts"
@@ -28,6 +28,7 @@ class Setter:
         self.engines, self.converters = {}, []
         latex_names = LATEX_NAMES if LATEX_NAMES.exists() else PLAIN_NAMES
         self.latex_names = latex_names if names is None else names
+        program = program or find_program()
         try:
             self.engines[False] = Engine(fonts or PLAIN_FONTS, PLAIN_NAMES if names is None else names, self.limits, program)
             self.engines[True] = Engine(fonts or LATEX_FONTS, self.latex_names, self.limits, program)

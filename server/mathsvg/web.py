@@ -53,13 +53,11 @@ class Service:
         if guard:
             guard.begin()
         try:
-            response = await self.response(request, handler)
-            await self.send(request, response)
+            return await self.send(request, await self.response(request, handler))
         finally:
             self.way.give_back(request.get("bytes", 0))
             if guard:
                 guard.end()
-        return response
 
     async def response(self, request, handler):
         """The answer of a request, or why there is none."""
@@ -73,18 +71,21 @@ class Service:
             return refusal(503, f"{self.limits.waiting} requests wait already; try again in a second")
 
     async def send(self, request, response):
-        """Sends an answer, if not too many bytes are on their way."""
-        size = len(response.body or b"") if isinstance(response, web.Response) else 0
+        """Sends an answer, if not too many bytes are on their way. aiohttp itself sends files."""
+        is_file = isinstance(response, web.FileResponse)
+        size = 0 if is_file else len(response.body or b"")
         if not self.way.take(size):
             response, size = refusal(503, TOO_MANY), 0
         response.headers.update(HEADERS)
         if response.status in (408, 413, 503):
             response.force_close()
         try:
-            await response.prepare(request)
-            await response.write_eof()
+            if not is_file:
+                await response.prepare(request)
+                await response.write_eof()
         finally:
             self.way.give_back(size)
+        return response
 
     async def body(self, request):
         """The bytes of a request, which are on their way until it is answered."""
