@@ -521,7 +521,7 @@ def left(formula, token):
     found = [("\\left", token.place), *delimiter_pieces(formula, token)]
     formula.reader.meanings.open()
     while True:
-        found += formula.list(lambda part: part.is_name("right", "middle") or part.kind in (tokens.END, tokens.TAB))
+        found += formula.list(lambda part: part.is_name("right", "middle") or part.kind in (tokens.END, tokens.TAB, tokens.MATH))
         closing = formula.reader.next()
         if closing is None or closing.kind != tokens.NAME:
             raise Refused(token.place, "\\left without \\right", token.length())

@@ -135,8 +135,10 @@ class Document:
                 self.skip_table_head(token, name)
             return None
         inner = self.collect_environment(token, name)
-        kind = INLINE if name == "math" else DISPLAY
-        return Found(kind, token, name, inner)
+        if name == "math":
+            end = max(at for at, part in enumerate(inner) if part.is_name("end"))
+            return Found(INLINE, token, None, inner[:end])
+        return Found(DISPLAY, token, name, inner)
 
     def skip_table_head(self, token, name):
         """Skips the arguments of a table."""

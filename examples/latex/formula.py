@@ -91,18 +91,11 @@ class Formula:
         if written is None:
             code = f"{token.text} (U+{ord(token.text):04X})"
             raise Refused(token.place, f"the character {code} cannot be had; write a command for it")
-        self.reader.put_back(Token(STOP, "", token.place))
-        self.reader.put_back_all(tokens_of(written, token.place))
-        found = self.list()
-        self.reader.next()
-        if written[:5] == "\\sqrt" and self.reader.peek() is not None:
-            found = self.root_sign(written, token)
-        return found
-
-    def root_sign(self, written, token):
-        """The sign of a root with the field that follows it."""
-        self.reader.put_back_all(tokens_of(written, token.place))
-        return self.item(self.reader.next())
+        if written.startswith("\\sqrt"):
+            # The field of the root follows it.
+            self.reader.put_back_all(tokens_of(written, token.place))
+            return self.item(self.reader.next())
+        return self.sub_list(tokens_of(written, token.place), token.place)
 
     def group(self, opening):
         """A group."""
