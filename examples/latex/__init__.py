@@ -25,8 +25,8 @@ __all__ = ["convert", "Conversion", "Converted", "Fault", "decoded"]
 
 
 class Converted(NamedTuple):
-    """A formula: its source for mathset in one line (None where it is at fault), whether it is a display, where it begins
-    and ends in the author's text, and its faults and warnings. `marks` has pairs, of an offset in the source and of the
+    """A formula: its source for mathset in one line (None where it is at fault), whether it is a display, the places of its
+    opening mark and of its last token before the closing mark, and its faults and warnings. `marks` has pairs, of an offset in the source and of the
     author's place that it comes from, in the order of the source."""
 
     source: object
@@ -122,5 +122,4 @@ def one(found, outer, known):
         outer.meanings.close()
     if any(not fault.is_warning for fault in faults):
         source = None
-    end = max([found.opening.place] + [token.place for token in found.inner])
-    return Converted(source, is_display, found.opening.place, end, faults, marks)
+    return Converted(source, is_display, found.opening.place, found.last_place(), faults, marks)

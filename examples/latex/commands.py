@@ -50,6 +50,8 @@ INSTEAD = {
     "vb": "write \\mathbf, or define it by \\newcommand",
 }
 
+# How far \\moved can raise and lower, in points.
+HIGHEST, LOWEST = 60, -4.25
 # Arguments
 
 
@@ -733,11 +735,35 @@ def raise_box(formula, token):
         if following is not None and following.is_name("hbox", "mbox", "copy"):
             formula.reader.next()
     inner = box(formula, token)
-    if "raise" in formula.names and formula.names.arguments["raise"] == 2:
-        amount = amount if token.text != "lower" else amount[1:] if amount[0] == "-" else "-" + amount
-        return [("\\raise{" + amount + "}", token.place), *inner]
-    formula.warn(token, f"what {token.source()} moves is set on the line")
-    return inner
+    up = in_points(amount) * (-1 if token.text == "lower" else 1)
+    if "moved" not in formula.names or not LOWEST <= up <= HIGHEST:
+        formula.warn(token, f"what {token.source()} moves is set on the line")
+        return inner
+    above, below = (round(65536 * thickness) for thickness in thicknesses(up))
+    return [("\\moved{%d}{%d}" % (above, below), token.place), *inner]
+
+
+def thicknesses(up):
+    """The thicknesses by which \\moved raises, in points.
+
+    It puts the middle one of three rows, 12pt apart, at the axis. By a rule of thickness t the first row is 1.5t + 2.5 high and
+    the last 1.5t - 2.5 deep. A last row that is more than 12pt high is 1pt below the middle one.
+    """
+    if up < 0:
+        return 4 - up / 0.75, 4
+    if up <= 1.75:
+        return 4, 4 + up / 0.75
+    below = max(6.4, (2 * (up - 2.5) + 19.5) / 3)
+    return (3 * below - 11 - 2 * (up - 2.5) - 2.5) / 1.5, below
+
+
+def in_points(amount):
+    """A length as points."""
+    units = {"pt": 1, "mm": 2.84528, "cm": 28.4528, "in": 72.27, "em": 10.00002, "ex": 4.30554, "pc": 12, "bp": 1.00375,
+             "sp": 1 / 65536, "dd": 1.07, "cc": 12.84, "mu": 0.55556}  # fmt: skip
+    found = re.match(r"([-+]?)([\d.,]+)(\w\w)", amount)
+    value = float(found[2].replace(",", ".").strip() or 0) if found and found[2] not in (".", ",") else 0
+    return -value * units[found[3]] if found and found[1] == "-" else value * units[found[3]] if found else 0
 
 
 def rule(formula, token):
@@ -790,5 +816,7 @@ COMMANDS = {
 }  # fmt: skip
 COMMANDS.update(dict.fromkeys(ARROWS, extensible))
 COMMANDS.update(dict.fromkeys([size + side for size in ("big", "Big", "bigg", "Bigg") for side in ("", "l", "m", "r")], big))
+for _name in ("Hat", "Check", "Tilde", "Acute", "Grave", "Dot", "Ddot", "Breve", "Bar", "Vec"):
+    COMMANDS[_name] = to_name("\\" + _name.lower())
 for _name in ("mathrm", "mathit", "mathbf", "mathtt", "mathsf", "mathcal", "mathbb", "mathfrak", "mathscr", "mathnormal"):
     COMMANDS[_name] = math_font

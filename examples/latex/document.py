@@ -32,6 +32,13 @@ class Found:
         self.name = name
         self.inner = inner
 
+    def last_place(self):
+        """The place of the last token before the mark that ends the formula."""
+        inner = self.inner
+        if self.name is not None:
+            inner = inner[: max((at for at, part in enumerate(inner) if part.is_name("end")), default=0)]
+        return max([self.opening.place] + [token.place for token in inner])
+
 
 class Document:
     """Gives the formulas of a text, in order."""

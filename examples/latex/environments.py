@@ -21,6 +21,8 @@ WITH_COUNT = ("alignedat", "alignat", "xalignat", "xxalignat", "IEEEeqnarray")
 DISPLAYS = ALIGNED[3:] + ("gather", "multline") + SINGLE
 # Plain TeX's \\nulldelimiterspace, 1.2pt in scaled points, which is on both sides of a fraction.
 NULL_DELIMITER = 78643
+# Plain TeX's \\quad, 1em of cmr10, is 1sp more than twice LaTeX's \\arraycolsep.
+TO_LATEX = ("\\kern-1sp ", 0)
 
 
 @dataclass
@@ -189,7 +191,9 @@ def lines(rows, place):
 
 
 def table(word, rows, place):
-    """A table, with no space round it."""
+    """A table, with no space round it; the columns of \\matrix are 10pt apart, as LaTeX's, and its rows have a strut."""
+    if word == "matrix":
+        rows = [[[("\\mathstrut", place), *cells[0]]] + [[TO_LATEX, *cell] for cell in cells[1:]] if cells else [] for cells in rows]
     return [("\\!", place), ("\\" + word, place), ("{", place), *lines(rows, place), ("}", place), ("\\!", place)]
 
 
