@@ -8,6 +8,8 @@ BEFORE = b"\\smash.\\underline{"
 AFTER = b"}\\smash."
 # A page before the caller's definitions: if they set something, this page or the count of pages is another one.
 MARK = b"$.$\n"
+# What has no tokens: between two dollars these would be the beginning of a display.
+BLANK = re.compile(rb"(?:\s|%[^\n]*(?:\n|\Z))*")
 REDEFINED = re.compile(rb"\\def\s*\\(?:smash|underline)(?![A-Za-z])")
 
 
@@ -32,7 +34,8 @@ class Sheet:
     def page(self, is_bare):
         """A page with the formula alone, or so that it is measured."""
         marks = b"$$" if self.formula.display else b"$"
-        inside = (self.text or b" ") if is_bare else BEFORE + self.text + AFTER
+        bare = b" " if BLANK.fullmatch(self.text) else self.text
+        inside = bare if is_bare else BEFORE + self.text + AFTER
         return marks + inside + marks + b"\n\\eject\n"
 
 
