@@ -2,6 +2,7 @@
 
 import re
 
+from . import bold as bold_symbols
 from . import environments, tokens
 from .places import Refused
 from .text import ROMAN
@@ -51,7 +52,7 @@ INSTEAD = {
 }
 
 # How far \\moved can raise and lower, in points.
-HIGHEST, LOWEST = 60, -4.25
+HIGHEST, LOWEST = 60, -60
 # Arguments
 
 
@@ -610,7 +611,8 @@ def tag(formula, token):
     inner = formula.reader.argument(token)
     if not star:
         place = token.place
-        inner = [Token(tokens.OTHER, "(", place), *inner, Token(tokens.OTHER, ")", place)]
+        correction = Token(tokens.NAME, "/", place)
+        inner = [Token(tokens.OTHER, "(", place), *inner, correction, Token(tokens.OTHER, ")", place)]
     written_tag = formula.text(inner, token.place, "rm", True)
     if not formula.is_display:
         raise Refused(token.place, "\\tag outside of a display", token.length())
@@ -686,9 +688,15 @@ def bare_relation(formula, token):
 
 
 def bold(formula, token):
-    """\\boldsymbol, \\bm and \\pmb."""
-    name = token.text if token.text in formula.names else "boldsymbol"
-    return [("\\" + name, token.place), *formula.in_braces(token)]
+    """\\boldsymbol makes a box of its argument, \\bm makes its symbols bold; both keep the class of one symbol."""
+    place = token.place
+    inner = formula.argument(token)
+    found = bold_symbols.bold(inner)
+    if token.text == "bm":
+        return found if len(found) == 1 else [("{", place), *found, ("}", place)]
+    wrapped = {"Bin": "\\mathbin", "Rel": "\\mathrel"}.get(class_of(formula, inner))
+    begin = [(wrapped, place)] if wrapped else []
+    return [*begin, ("{", place), ("\\kern0pt ", place), *found, ("}", place)]
 
 
 def math_font(formula, token):
@@ -747,8 +755,12 @@ def thicknesses(up):
     """The thicknesses by which \\moved raises, in points.
 
     It puts the middle one of three rows, 12pt apart, at the axis. By a rule of thickness t the first row is 1.5t + 2.5 high and
-    the last 1.5t - 2.5 deep. A last row that is more than 12pt high is 1pt below the middle one.
+    the last 1.5t - 2.5 deep. A row whose height or depth towards the middle one is more than 12pt is 1pt from it.
     """
+    if up <= -4.75:
+        return (14.5 - 2 * (up - 2.5)) / 3, 4
+    if up <= -4.25:
+        return 9.7, (2 * (up - 2.5) + 20.6) / 1.5
     if up < 0:
         return 4 - up / 0.75, 4
     if up <= 1.75:

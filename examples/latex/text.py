@@ -39,7 +39,7 @@ SWITCHES = {
     "mdseries": "rm", "sc": None, "scshape": None,
 }  # fmt: skip
 IGNORED = """relax displaystyle textstyle scriptstyle small footnotesize scriptsize tiny normalsize large Large LARGE huge
-Huge strut centering raggedright noindent null protect nonumber notag leavevmode boldmath unboldmath / - par singlespacing
+Huge strut centering raggedright noindent null protect nonumber notag leavevmode boldmath unboldmath - par singlespacing
 selectfont ignorespaces unskip allowbreak nobreak linebreak newline""".split()
 SYMBOLS = {
     "%": 0x25, "&": 0x26, "#": 0x23, "$": 0x24, "ss": 0x19, "ae": 0x1A, "oe": 0x1B, "o": 0x1C, "AE": 0x1D, "OE": 0x1E,
@@ -64,7 +64,7 @@ SPACES = {
 UNICODE = {
     "\u2013": "--", "\u2014": "---", "\u2018": "`", "\u2019": "'", "\u201c": "``", "\u201d": "''", "\u00a0": "~", "\u2026": None,
     "\u00df": "\\ss ", "\u00f8": "\\o ", "\u00d8": "\\O ", "\u00e6": "\\ae ", "\u00c6": "\\AE ", "\u0153": "\\oe ", "\u0152": "\\OE ",
-    "\u2212": "-", "\u2010": "-",
+    "\u2212": "-", "\u2010": "-", "\u0131": "\\i ", "\u0237": "\\j ",
 }  # fmt: skip
 DOUBLES = {"d": "\\u", "\u030b": "ddot"}
 ACCENT_MARKS = {
@@ -223,6 +223,9 @@ class Text:
                 self.formula.warn(token, f"{token.source()} is left out; write its text")
         elif name == "\\":
             self.blank(token.place)
+        elif name == "/":
+            self.add("\\kern0pt ", token.place)
+            self.last = ""
         elif name in IGNORED:
             return
         elif name in ("hspace", "hskip", "kern", "raisebox", "raise", "phantom", "hphantom", "vphantom", "rule", "_", "char"):
