@@ -127,8 +127,11 @@ class Check:
                 unit.fault = self.unless_rejected(self.in_document(unit, place))
 
     def places(self, keys):
-        """The place of the first fault within each formula that has one. A key is its text, the definitions that it needs
-        and whether it is whole. To be read, it is run once for all formulas that differ only in letters and digits."""
+        """The place of the first fault within each formula that has one.
+
+        A key is its text, the definitions that it needs and whether it is whole. To be read, it is run once for all
+        formulas that differ only in letters and digits.
+        """
         alike = collections.defaultdict(list)
         for key in keys:
             alike[self.with_letters_alike(key)].append(key)

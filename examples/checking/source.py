@@ -126,8 +126,8 @@ def blanks(text):
 class Cutter:
     """Cuts a source where mathset does.
 
-    A formula without its closing $ is cut where mathset does not cut: before an empty line, or before the next line that
-    begins with a formula, or with a definition or another word that is outside of formulas.
+    A formula without its closing $ is cut where mathset does not cut: before an empty line, or before the next line
+    that begins with a formula, or with a definition or another word that is outside of formulas.
     """
 
     def __init__(self, text):

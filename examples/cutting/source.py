@@ -12,7 +12,7 @@ class Stop(Exception):
 
 
 class Source:
-    """The bytes of a source, which may be a map of its file, and its definitions outside of formulas as far as it is cut."""
+    """The bytes of a source, which may be a map of its file, and the definitions of the parts that are cut."""
 
     def __init__(self, text):
         self.text = text
