@@ -10,9 +10,9 @@ from .program import TOP, find_program
 from .sheets import Batch, Sheet
 
 PLAIN_FONTS = TOP / "examples/cm-ams.fonts"
+PLAIN_NAMES = TOP / "examples/more-names.tex"
 LATEX_FONTS = TOP / "examples/latex.fonts"
 LATEX_NAMES = TOP / "examples/latex-names.tex"
-OTHER_NAMES = TOP / "examples/more-names.tex"
 LATE = "not set, since the time of the request was over"
 
 
@@ -26,11 +26,11 @@ class Setter:
     def __init__(self, fonts=None, names=None, limits=None, program=None):
         self.limits = limits or Limits()
         self.engines, self.converters = {}, []
-        latex_names = LATEX_NAMES if LATEX_NAMES.exists() else OTHER_NAMES
+        latex_names = LATEX_NAMES if LATEX_NAMES.exists() else PLAIN_NAMES
         self.latex_names = latex_names if names is None else names
         program = program or find_program()
         try:
-            self.engines[False] = Engine(fonts or PLAIN_FONTS, names, self.limits, program)
+            self.engines[False] = Engine(fonts or PLAIN_FONTS, PLAIN_NAMES if names is None else names, self.limits, program)
             self.engines[True] = Engine(fonts or LATEX_FONTS, self.latex_names, self.limits, program)
         except BaseException:
             self.close()
