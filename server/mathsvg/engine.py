@@ -49,6 +49,8 @@ class Engine:
             raise CannotRun(str(error)) from error
         except OSError as error:
             raise CannotRun(f"{names} cannot be read: {error.strerror}") from error
+        # Then nothing can be measured.
+        self.is_redefined = any(name in self.names.texts for name in (b"\\smash", b"\\underline"))
         self.program = Program(self.fonts, limits, program)
         self.helpers = concurrent.futures.ThreadPoolExecutor(os.cpu_count() or 1)
 
@@ -104,8 +106,9 @@ class Engine:
         """Sets the sheets without a result, those that are measured in one run and the others in one. False if one is
         refused."""
         left = without_results(sheets)
-        bare = [sheet for sheet in left if sheet.is_bare or batch.is_redefined]
-        measured = [sheet for sheet in left if not (sheet.is_bare or batch.is_redefined)]
+        all_bare = self.is_redefined or batch.is_redefined
+        bare = [sheet for sheet in left if sheet.is_bare or all_bare]
+        measured = [sheet for sheet in left if not (sheet.is_bare or all_bare)]
         return all([self.attempt_alike(batch, measured, False), self.attempt_alike(batch, bare, True)])
 
     def attempt_alike(self, batch, sheets, is_bare):
