@@ -1,6 +1,7 @@
 """LaTeX made what the program takes, by a process of its own with limits of time and memory."""
 
 import bisect
+import concurrent.futures
 import json
 import os
 import pathlib
@@ -15,6 +16,8 @@ from .program import TOP, CannotRun
 
 PROCESS = pathlib.Path(__file__).resolve().parent / "converting.py"
 PACKAGE = TOP / "examples"
+# A process is used for at least so many formulas.
+SHARE = 32
 HEAVY = "the macros of this formula take too much time or memory"
 
 
@@ -49,12 +52,11 @@ class Converter:
         most = self.limits.converter_memory
         resource.prlimit(self.process.pid, resource.RLIMIT_AS, (most, most))
 
-    def convert(self, batch, deadline, is_last=True):
-        """Converts the sheets that are left of a batch. False if there is no time for all of them.
+    def convert(self, batch, left, deadline, is_last):
+        """Converts sheets of a batch. False if there is no time for all of them.
 
         If this is the last attempt, a formula is at fault whose conversion the process does not survive.
         """
-        left = [sheet for sheet in batch.left() if not sheet.is_converted]
         while left:
             try:
                 self.convert_all(batch, left, deadline)
@@ -100,6 +102,33 @@ class Converter:
             self.unread += data
         line, _, self.unread = self.unread.partition(b"\n")
         return json.loads(line)
+
+
+class Converters:
+    """Several processes, among which many formulas are shared out. They are for one thread."""
+
+    def __init__(self, names, limits, count):
+        self.members = [Converter(names, limits) for _ in range(count)]
+        self.threads = concurrent.futures.ThreadPoolExecutor(count)
+
+    def convert(self, batch, deadline, is_last=True):
+        """Converts the sheets that are left of a batch. False if there is no time for all of them."""
+        left = [sheet for sheet in batch.left() if not sheet.is_converted]
+        count = max(1, min(len(self.members), len(left) // SHARE))
+        if count == 1:
+            return self.members[0].convert(batch, left, deadline, is_last)
+        shares = [left[at::count] for at in range(count)]
+        done = [
+            self.threads.submit(member.convert, batch, share, deadline, is_last)
+            for member, share in zip(self.members, shares)
+        ]
+        return all([each.result() for each in done])
+
+    def close(self):
+        """Ends the processes and threads."""
+        self.threads.shutdown()
+        for member in self.members:
+            member.close()
 
 
 def take(sheet, answer):

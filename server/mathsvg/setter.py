@@ -1,8 +1,9 @@
 """Formulas in plain TeX or in LaTeX, and what comes of each."""
 
+import os
 import time
 
-from .converter import Converter
+from .converter import Converters
 from .engine import Engine
 from .formula import Formula, unbalanced, whole_fault
 from .limits import Limits, Room
@@ -48,9 +49,9 @@ class Setter:
         for part in [*self.converters, *self.engines.values()]:
             part.close()
 
-    def new_converter(self):
-        """A converter from LaTeX, for one thread; it ends with this setter."""
-        self.converters.append(Converter(self.latex_names, self.limits))
+    def new_converter(self, count=None):
+        """A converter from LaTeX, of some processes, for one thread; it ends with this setter."""
+        self.converters.append(Converters(self.latex_names, self.limits, count or os.cpu_count() or 1))
         return self.converters[-1]
 
     def set(self, formulas, definitions="", latex=False, seconds=None):

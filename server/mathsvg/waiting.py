@@ -82,7 +82,7 @@ class Queue:
     def __init__(self, setter):
         self.setter = setter
         self.limits = limits = setter.limits
-        self.together_converter, self.alone_converter = setter.new_converter(), setter.new_converter()
+        self.together_converter, self.alone_converter = setter.new_converter(), setter.new_converter(1)
         self.together = Lane(self.set_together, limits.together_formulas, limits.waiting)
         self.alone = Lane(self.set_alone, 0, limits.waiting)
 
