@@ -83,6 +83,8 @@ class Queue:
         self.setter = setter
         self.limits = limits = setter.limits
         self.together_converter, self.alone_converter = setter.new_converter(), setter.new_converter(1)
+        for converter in (self.together_converter, self.alone_converter):
+            converter.members[0].start()
         self.together = Lane(self.set_together, limits.together_formulas, limits.waiting)
         self.alone = Lane(self.set_alone, 0, limits.waiting)
 
