@@ -141,7 +141,8 @@ def number(formula, command):
         text = formula.reader.next().text
     elif token is not None and token.is_character("`"):
         formula.reader.next()
-        return "%d " % ord(formula.reader.next().text[:1] or " ")
+        character = formula.reader.next()
+        return "%d " % ord((character.text if character else "")[:1] or " ")
     token = formula.reader.next_expanded()
     while token is not None and token.kind in (tokens.LETTER, tokens.OTHER) and token.text in digits:
         text += token.text
@@ -706,7 +707,11 @@ def math_font(formula, token):
 
 def skew(formula, token):
     """\\skew."""
-    amount = number(formula, token).strip() if formula.reader.peek_past_spaces().kind != tokens.BEGIN else word(formula, token)
+    following = formula.reader.peek_past_spaces()
+    is_group = following is not None and following.kind == tokens.BEGIN
+    amount = word(formula, token).strip() if is_group else number(formula, token).strip()
+    if not re.fullmatch(r"-?\d+", amount):
+        raise Refused(token.place, "\\skew takes a number", token.length())
     return [("\\skew{" + amount + "}", token.place), *formula.in_braces(token), *formula.in_braces(token)]
 
 
@@ -779,13 +784,24 @@ def in_points(amount):
 
 
 def rule(formula, token):
-    """\\rule: a strut where it is 0 wide."""
-    formula.reader.optional()
-    width = word(formula, token)
-    word(formula, token)
-    if re.search("[1-9]", width):
-        raise Refused(token.place, "\\rule cannot be had", token.length())
-    return []
+    """\\rule, by the rule of a fraction of nothing, which \\moved puts where it belongs."""
+    lift = formula.reader.optional()
+    up = in_points(length(formula, written(formula, lift, token), token)) if lift else 0
+    width, height = (length(formula, word(formula, token), token) for _ in range(2))
+    if in_points(width) <= 0 or in_points(height) <= 0:
+        return []
+    # The rule of a fraction is in the middle of the axis, which is 2.5pt high.
+    up -= 2.5 - in_points(height) / 2
+    if "moved" not in formula.names or not LOWEST <= up <= HIGHEST:
+        raise Refused(token.place, "\\rule of this size cannot be had", token.length())
+    above, below = (round(65536 * thickness) for thickness in thicknesses(up))
+    fraction = "{{\\hskip%s\\relax \\above%s }}" % (width, height)
+    return [("\\kern-1.2pt \\moved{%d}{%d}%s\\kern-1.2pt " % (above, below, fraction), token.place)]
+
+
+def shove(formula, token):
+    """\\shoveleft and \\shoveright: the line is put in the middle as the others."""
+    return formula.argument(token)
 
 
 COMMANDS = {
@@ -814,7 +830,7 @@ COMMANDS = {
     "normalfont": nothing, "displaybreak": lambda f, t: f.reader.optional() and [] or [], "penalty": lambda f, t: number(f, t) and [],
     "limits": lambda f, t: [("\\limits", t.place)], "nolimits": lambda f, t: [("\\nolimits", t.place)],
     "mathllap": lap, "mathrlap": lap, "mathclap": lap, "llap": lap, "rlap": lap, "raise": raise_box, "lower": raise_box,
-    "raisebox": raise_box, "rule": rule, "centering": nothing, "strut": lambda f, t: [("\\strut", t.place)],
+    "raisebox": raise_box, "rule": rule, "shoveleft": shove, "shoveright": shove, "centering": nothing, "strut": lambda f, t: [("\\strut", t.place)],
     "-": nothing, "/": nothing, "lvert": lambda f, t: [("\\lvert", t.place)], "m@th": nothing, "mathsurround": nothing,
     "above": lambda f, t: [("\\above" + dimension(f, t) + " ", t.place)],
     "overwithdelims": lambda f, t: [("\\overwithdelims", t.place), *delimiter_pieces(f, t), *delimiter_pieces(f, t)],

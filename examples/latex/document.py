@@ -12,7 +12,7 @@ LTXexample example""".split()
 # Commands of texts with the arguments that are no formulas: o is one in brackets, m one in braces.
 SKIPPED = {
     "label": "m", "ref": "m", "eqref": "m", "cite": "oom", "citep": "oom", "citet": "oom", "url": "m", "href": "m", "path": "m",
-    "includegraphics": "om", "usepackage": "om", "RequirePackage": "om", "documentclass": "om", "bibliography": "m",
+    "includegraphics": "om", "documentclass": "om", "bibliography": "m",
     "bibliographystyle": "m", "pagestyle": "m", "index": "m", "hypersetup": "m", "usetikzlibrary": "m", "pgfplotsset": "m",
     "lstset": "m", "hyphenation": "m", "vspace": "m", "hspace": "m", "setlength": "mm", "addtolength": "mm", "setcounter": "mm",
     "addtocounter": "mm", "newcounter": "mo", "newlength": "m", "color": "om", "definecolor": "mmm", "pageref": "m",
@@ -102,13 +102,21 @@ class Document:
             self.verbatim_word(token)
         elif name in ("input", "include"):
             self.reader.input(token, self.reader.text_of(self.reader.argument(token)).replace(" ", ""))
-        elif name in ("bye", "endinput") and not self.reader.waiting:
+        elif name in ("usepackage", "RequirePackage"):
+            self.packages(token)
+        elif name in ("bye", "endinput") and not self.reader.waiting and self.reader.lexers:
             self.reader.lexers.pop()
         elif name == "end":
             return self.end(token)
         elif name in SKIPPED:
             self.skip_arguments(token, SKIPPED[name])
         return None
+
+    def packages(self, token):
+        """Reads the packages that are files beside the text, as those of the author are."""
+        self.reader.optional()
+        for name in self.reader.text_of(self.reader.argument(token)).split(","):
+            self.reader.input(token, name.strip() + ".sty")
 
     def skip_arguments(self, token, pattern):
         """Skips the arguments of a command."""

@@ -38,8 +38,8 @@ SWITCHES = {
     "bfseries": "bf", "tt": "tt", "ttfamily": "tt", "sf": "sf", "sffamily": "sf", "normalfont": "rm", "upshape": "rm",
     "mdseries": "rm", "sc": None, "scshape": None,
 }  # fmt: skip
-IGNORED = """relax displaystyle textstyle scriptstyle small footnotesize scriptsize tiny normalsize large Large LARGE huge
-Huge strut centering raggedright noindent null protect nonumber notag leavevmode boldmath unboldmath - par singlespacing
+SIZES = "small footnotesize scriptsize tiny large Large LARGE huge Huge".split()
+IGNORED = """relax displaystyle textstyle scriptstyle normalsize strut centering raggedright noindent null protect nonumber notag leavevmode boldmath unboldmath - par singlespacing
 selectfont ignorespaces unskip allowbreak nobreak linebreak newline""".split()
 SYMBOLS = {
     "%": 0x25, "&": 0x26, "#": 0x23, "$": 0x24, "ss": 0x19, "ae": 0x1A, "oe": 0x1B, "o": 0x1C, "AE": 0x1D, "OE": 0x1E,
@@ -186,7 +186,8 @@ class Text:
             self.reader.put_back_all(tokens.tokens_of("\\%s{%s}" % (ACCENT_MARKS[parts[1]], parts[0]), token.place))
             return
         self.correct(token.place)
-        self.found += self.formula.unicode_character(token)
+        place = token.place
+        self.found += [("{", place), ("{}", place), *self.formula.unicode_character(token), ("}", place)]
 
     def name(self, token):
         """A command in a text."""
@@ -226,6 +227,8 @@ class Text:
         elif name == "/":
             self.add("\\kern0pt ", token.place)
             self.last = ""
+        elif name in SIZES:
+            self.formula.warn(token, "the size of the text is left out")
         elif name in IGNORED:
             return
         elif name in ("hspace", "hskip", "kern", "raisebox", "raise", "phantom", "hphantom", "vphantom", "rule", "_", "char"):
