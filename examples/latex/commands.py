@@ -512,8 +512,9 @@ def delimiter_pieces(formula, command, found=None):
     if token is None or token.kind != tokens.NAME:
         formula.reader.put_back(token)
         raise Refused(command.place, f"a delimiter is missing after {command.source()}", command.length())
-    if token.text in COMMANDS and token.text not in ("lbrack", "rbrack"):
-        return COMMANDS[token.text](formula, token)
+    if token.text in COMMANDS and token.text != "lvert":
+        text = f"{token.source()} is no delimiter; one is missing after {command.source()}"
+        raise Refused(token.place, text, token.length())
     if token.text not in formula.names:
         formula.unknown(token)
         return [(".", token.place)]
