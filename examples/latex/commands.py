@@ -734,7 +734,38 @@ def lap(formula, token):
         known = token.text if token.text in formula.names else name
         inner = formula.in_braces(token) if token.text.startswith("math") else box(formula, token)
         return [("\\" + known, token.place), *inner]
-    raise Refused(token.place, f"{token.source()} cannot be had; write what is in it", token.length())
+    formula.warn(token, f"what is in {token.source()} takes room here")
+    return formula.in_braces(token) if token.text.startswith("math") else box(formula, token)
+
+
+def first_of_two(formula, token):
+    """\\texorpdfstring: its first argument."""
+    found = formula.argument(token)
+    formula.reader.argument(token)
+    return found
+
+
+def raised_text(formula, token):
+    """\\textsuperscript and \\textsubscript."""
+    mark = "^" if token.text == "textsuperscript" else "_"
+    return [("{}", token.place), (mark, token.place), *text(formula, token)]
+
+
+def centred(formula, token):
+    """\\vcenter with boxes of text."""
+    place, rows = token.place, []
+    found = formula.reader.argument(token)
+    formula.reader.put_back(Token("stop", "", place))
+    formula.reader.put_back_all(found)
+    part = formula.reader.next_expanded()
+    while part is not None and part.kind != "stop":
+        if part.is_name("hbox", "mbox"):
+            inner = formula.text(formula.reader.argument(part), part.place, "rm", True)
+            rows += [("\\hbox{$", place), *inner, ("$}", place)]
+        elif part.kind != tokens.SPACE:
+            raise Refused(part.place, f"{part.source()} in \\vcenter; only \\hbox can be there", part.length())
+        part = formula.reader.next_expanded()
+    return [("\\vcenter{", place), *rows, ("}", place)]
 
 
 def raise_box(formula, token):
@@ -832,6 +863,9 @@ COMMANDS = {
     "limits": lambda f, t: [("\\limits", t.place)], "nolimits": lambda f, t: [("\\nolimits", t.place)],
     "mathllap": lap, "mathrlap": lap, "mathclap": lap, "llap": lap, "rlap": lap, "raise": raise_box, "lower": raise_box,
     "raisebox": raise_box, "rule": rule, "shoveleft": shove, "shoveright": shove, "centering": nothing, "strut": lambda f, t: [("\\strut", t.place)],
+    "qedhere": nothing, "xspace": nothing, "allowdisplaybreaks": lambda f, t: f.reader.optional() and [] or [],
+    "texorpdfstring": first_of_two, "textsuperscript": raised_text, "textsubscript": raised_text, "vcenter": centred,
+    "em": lambda f, t: [("\\it", t.place)], "nolinebreak": nothing, "linebreak": nothing, "nopagebreak": nothing,
     "-": nothing, "/": nothing, "lvert": lambda f, t: [("\\lvert", t.place)], "m@th": nothing, "mathsurround": nothing,
     "above": lambda f, t: [("\\above" + dimension(f, t) + " ", t.place)],
     "overwithdelims": lambda f, t: [("\\overwithdelims", t.place), *delimiter_pieces(f, t), *delimiter_pieces(f, t)],

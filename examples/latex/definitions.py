@@ -112,6 +112,39 @@ def paired(reader, command):
     reader.meanings.define(name, Pair(tuple(left), tuple(right)))
 
 
+def paired_with_body(reader, command):
+    """\\DeclarePairedDelimiterX and its like: the delimiters round a body."""
+    name = reader.name_argument(command)
+    count = number_of(reader.optional(), command)
+    has_sides = command.text.endswith("XPP")
+    before = reader.argument(command) if has_sides else []
+    left, right = reader.argument(command), reader.argument(command)
+    behind = reader.argument(command) if has_sides else []
+    body = [*before, *left, *reader.argument(command), *right, *behind]
+    reader.meanings.define(name, Macro(((),) * (count + 1), None, tuple(body), command.place))
+
+
+def document_command(reader, command):
+    """\\NewDocumentCommand and its like, with arguments m, and o or O{..} for the first."""
+    name = reader.name_argument(command)
+    pattern = [part for part in reader.argument(command) if part.kind != tokens.SPACE]
+    body = reader.argument(command)
+    default, kinds = None, []
+    while pattern:
+        part = pattern.pop(0)
+        if part.is_character("O") and pattern and pattern[0].kind == tokens.BEGIN:
+            end = next(at for at, one in enumerate(pattern) if one.kind == tokens.END)
+            default, pattern = tuple(pattern[1:end]), pattern[end + 1 :]
+        elif part.is_character("o"):
+            default = ()
+        elif not part.is_character("m"):
+            raise Refused(command.place, f"an argument {part.text} of {command.source()} cannot be had", command.length())
+        kinds.append(part.text)
+    if any(kind != "m" for kind in kinds[1:]):
+        raise Refused(command.place, "only the first argument can be optional", command.length())
+    reader.meanings.define(name, Macro(((),) * (len(kinds) + 1), default, tuple(body), command.place))
+
+
 def environment(reader, command):
     """\\newenvironment and \\renewenvironment."""
     reader.star()
@@ -275,6 +308,9 @@ COMMANDS = {
     "DeclareRobustCommand": robust, "newrobustcmd": robust, "renewrobustcmd": robust,
     "def": primitive_definition, "gdef": primitive_definition, "edef": primitive_definition,
     "xdef": primitive_definition, "let": let, "DeclareMathOperator": operator,
+    "DeclarePairedDelimiterX": paired_with_body, "DeclarePairedDelimiterXPP": paired_with_body,
+    "NewDocumentCommand": document_command, "RenewDocumentCommand": document_command,
+    "ProvideDocumentCommand": document_command, "DeclareDocumentCommand": document_command,
     "DeclarePairedDelimiter": paired, "newenvironment": environment, "renewenvironment": environment,
     "newtheorem": theorem, "mathchardef": math_character,
     "iffalse": if_false, "iftrue": if_true, "ifmmode": if_math, "ifx": same, "if": same, "else": or_else,
