@@ -1,7 +1,7 @@
 """A program of its own, which the server starts: it turns formulas in LaTeX into what mathset takes.
 
-It reads requests from standard input, a line of JSON each, and writes a line for the definitions and one for each formula.
-It is a process by itself because a few macros can take any time and any memory.
+It reads requests from standard input, a line of JSON each, and writes a line for the definitions and one for each
+formula. It is a process by itself because a few macros can take any time and any memory.
 
 Its words are the folder of the package `latex` and the path of the file of names.
 """

@@ -29,7 +29,7 @@ OF_SETTING = range(43, 48)
 OF_THE_WHOLE = range(42, 48)
 ONLY = "definitions can be \\def, \\mathcode and \\delcode alone"
 # As many formulas are looked through in one process; several processes run side by side.
-CHUNK = 48
+CHUNK = 128
 STILL_OPEN = re.compile(r"\bat line (\d+), column (\d+)(?= is still open)")
 
 
@@ -93,14 +93,13 @@ class Engine:
         """Sets sheets in one run. Where one is refused, finds all that are, and sets the rest."""
         if self.attempt(batch, sheets):
             return
-        self.look_through(batch, without_results(sheets), is_bare=True)
-        if self.attempt(batch, sheets):
-            return
-        # What is refused only where it is measured, as a formula with 150 groups, is set by itself.
-        self.look_through(batch, left_in_form(sheets, False), is_bare=False)
-        if not self.attempt(batch, sheets):
-            for sheet in without_results(sheets):
-                sheet.result = whole_fault(sheet.formula, "not set")
+        # What is refused only where it is measured, as a formula with 150 groups, is then set by itself.
+        for is_bare, is_reading in itertools.product((True, False), (True, False)):
+            self.look_through(batch, left_in_form(sheets, is_bare), is_bare, is_reading)
+            if self.attempt(batch, sheets):
+                return
+        for sheet in without_results(sheets):
+            sheet.result = whole_fault(sheet.formula, "not set")
 
     def attempt(self, batch, sheets):
         """Sets the sheets without a result, those that are measured in one run and the others in one. False if one is
@@ -188,38 +187,33 @@ class Engine:
         batch.refuse(offset_of(batch.definitions, line - starts[0] + 1, column) - len(MARK), said)
         return True
 
-    def look_through(self, batch, sheets, is_bare):
-        """Finds all sheets that are refused, several processes side by side."""
+    def look_through(self, batch, sheets, is_bare, is_reading):
+        """Refuses all sheets with a fault of reading, or all with another fault; several processes side by side."""
         chunks = [sheets[at : at + CHUNK] for at in range(0, len(sheets), CHUNK)]
         if len(chunks) == 1:
-            self.look_through_chunk(batch, sheets, is_bare)
+            self.refuse_all(batch, sheets, is_bare, is_reading)
             return
-        for found in [self.helpers.submit(self.look_through_chunk, batch, chunk, is_bare) for chunk in chunks]:
-            found.result()
-
-    def look_through_chunk(self, batch, sheets, is_bare):
-        """Finds all sheets that are refused. A run reads all formulas before it sets one."""
-        if self.refuse_all(batch, sheets, is_bare, is_reading=True):
-            self.refuse_all(batch, left_in_form(sheets, is_bare), is_bare, is_reading=False)
+        done = [self.helpers.submit(self.refuse_all, batch, chunk, is_bare, is_reading) for chunk in chunks]
+        for each in done:
+            each.result()
 
     def refuse_all(self, batch, left, is_bare, is_reading):
-        """Refuses sheets: the first one, then the first one behind it, and so on. Says whether there may be others."""
+        """Refuses the first sheet, then the first one behind it, and so on. A run reads all before it sets one."""
         while left:
             run, starts = self.run(batch, left, is_bare)
             if run.status == 0 or self.is_of_definitions(batch, run, starts):
-                break
+                return
             if run.status in SHARED and len(left) > 1:
                 half = len(left) // 2
-                self.look_through_chunk(batch, left[:half], is_bare)
+                self.refuse_all(batch, left[:half], is_bare, is_reading)
                 left = left[half:]
                 continue
             if is_reading and run.status in OF_SETTING:
-                return True
+                return
             place = run.place()
             at = bisect.bisect_right(starts, place[0]) - 2 if place else 0
             self.refuse(left[at], run, starts[at + 1], is_bare)
             left = left[:at] * (run.status == BYTE) + left[at + 1 :]
-        return is_reading
 
     def refuse(self, sheet, run, first, is_bare):
         """Gives a sheet its fault, or has it set by itself where it is refused only as it is measured."""

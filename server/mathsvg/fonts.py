@@ -60,9 +60,9 @@ class Font:
         """The outline of a character; a font without outlines is named."""
         if self.outlines is None:
             raise NoOutlines(
-                f"the font {self.name} has no outlines: pdftex.map names no Type 1 font with the codes of {self.name}.tfm; "
-                "install the package that has it (on Debian texlive-fonts-recommended or texlive-fonts-extra), or take "
-                "another font in the list"
+                f"the font {self.name} has no outlines: pdftex.map names no Type 1 font with the codes of "
+                f"{self.name}.tfm; install the package that has it (on Debian texlive-fonts-recommended or "
+                "texlive-fonts-extra), or take another font in the list"
             )
         try:
             return self.outlines[code]

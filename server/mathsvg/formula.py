@@ -3,8 +3,8 @@
 import dataclasses
 import re
 
-# What a formula must not have: a brace without its counterpart, a $ outside of braces, a backslash at the end. A comment
-# hides what is behind it. These are the tokens of docs/RULES.md, "Source: tokens".
+# What a formula must not have: a brace without its counterpart, a $ outside of braces, a backslash at the end. A
+# comment hides what is behind it. These are the tokens of docs/RULES.md, "Source: tokens".
 MARK = re.compile(rb"\\(?:[A-Za-z]+|.|\Z)|%[^\n]*|[{}$]", re.DOTALL)
 TOKEN = re.compile(r"\\(?:[A-Za-z]+|.)|.", re.DOTALL)
 # Displays that cannot be a part of a formula, and so are set by themselves.

@@ -29,7 +29,7 @@ class Limits:
     together_formulas: int = 1000
     together_seconds: float = 0.5
     together_bytes: int = 12 * MEGABYTE
-    # The process that converts LaTeX: its memory, and seconds for a formula; for one that waits with others, `together`.
+    # A process that converts LaTeX: its memory, and seconds for a formula.
     converter_memory: int = 256 * MEGABYTE
     conversion_seconds: float = 1.0
     # The server: connections, requests that wait, seconds in which a client sends one or takes an answer, bytes of

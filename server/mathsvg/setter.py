@@ -30,8 +30,9 @@ class Setter:
         latex_names = LATEX_NAMES if LATEX_NAMES.exists() else PLAIN_NAMES
         self.latex_names = latex_names if names is None else names
         program = program or find_program()
+        plain_names = PLAIN_NAMES if names is None else names
         try:
-            self.engines[False] = Engine(fonts or PLAIN_FONTS, PLAIN_NAMES if names is None else names, self.limits, program)
+            self.engines[False] = Engine(fonts or PLAIN_FONTS, plain_names, self.limits, program)
             self.engines[True] = Engine(fonts or LATEX_FONTS, self.latex_names, self.limits, program)
         except BaseException:
             self.close()

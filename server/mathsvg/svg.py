@@ -94,8 +94,8 @@ def on_baseline(box, title, inside):
     )
     # The scale is that of the width.
     picture = element(
-        f'width="{width / EX:.4f}ex" height="{FLAT:g}ex" {view(0, -flat, width, flat)} preserveAspectRatio="xMinYMax slice" '
-        'overflow="visible" style="vertical-align:baseline"',
+        f'width="{width / EX:.4f}ex" height="{FLAT:g}ex" {view(0, -flat, width, flat)} '
+        'preserveAspectRatio="xMinYMax slice" overflow="visible" style="vertical-align:baseline"',
         title,
         inside,
     )
