@@ -4,27 +4,12 @@ import re
 
 from . import bold as bold_symbols
 from . import environments, tokens
+from .boxes import box, centred, framed, lap, make_box, raise_box, rule
+from .dots import dots
+from .lengths import dimension, length, number, skip_stretch, word
 from .places import Refused
 from .text import ROMAN
 from .tokens import Token, tokens_of
-
-LENGTH = re.compile(
-    r"\s*([+-]?)\s*(\d*[.,]?\d*)\s*(pt|mm|cm|in|em|ex|mu|pc|bp|sp|dd|cc)\s*"
-    r"(?:plus\s*[-\d.]*\s*(?:[a-z]+)\s*)?(?:minus\s*[-\d.]*\s*(?:[a-z]+)\s*)?$"
-)
-UNITS = ("pt", "mm", "cm", "in", "em", "ex", "mu", "pc", "bp", "sp", "dd", "cc")
-LENGTHS = {
-    "arraycolsep": "5pt", "tabcolsep": "6pt", "thinmuskip": "3mu", "medmuskip": "4mu", "thickmuskip": "5mu",
-    "jot": "3pt", "baselineskip": "12pt", "fboxsep": "3pt", "fboxrule": ".4pt", "parindent": "15pt", "p@": "1pt",
-    "z@": "0pt", "z@skip": "0pt",
-}  # fmt: skip
-
-# amsmath's \dots looks at the token behind it (amsmath.sty, \mdots@@, \extra@).
-RIGHT = ["rbrack", "}", "rbrace", "rangle", "rceil", "rfloor", "rgroup", "rmoustache", "right", "bigr", "biggr", "Bigr", "Biggr"]
-BINARY_DOTS = """coprod bigvee bigwedge biguplus bigcap bigcup prod sum bigotimes bigoplus bigodot bigsqcup implies impliedby
-longrightarrow Longrightarrow longleftarrow Longleftarrow longleftrightarrow Longleftrightarrow mapsto longmapsto
-hookrightarrow hookleftarrow iff doteq And not ne neq mathbin mathrel""".split()
-INTEGRALS = "int oint iint iiint iiiint idotsint".split()
 
 
 def advice(name):
@@ -51,111 +36,8 @@ INSTEAD = {
     "vb": "write \\mathbf, or define it by \\newcommand",
 }
 
-# How far \\moved can raise and lower, in points.
-HIGHEST, LOWEST = 60, -60
-# Arguments
-
-
-def word(formula, command):
-    """An argument as it is written, with macros expanded."""
-    found = formula.reader.argument(command)
-    return written(formula, found, command)
-
-
-def written(formula, found, command):
-    """Tokens as text, with macros expanded."""
-    formula.reader.put_back(Token("stop", "", command.place))
-    formula.reader.put_back_all(found)
-    text, token = "", formula.reader.next_expanded()
-    while token is not None and token.kind != "stop":
-        text += LENGTHS.get(token.text, token.source()) if token.kind == tokens.NAME else token.text
-        token = formula.reader.next_expanded()
-    return text
-
-
-def length(formula, text, command):
-    """A length as mathset reads it."""
-    found = LENGTH.match(text)
-    if not found or not re.search(r"\d", found[2]):
-        text = text.strip()
-        raise Refused(command.place, f"the length {text} cannot be had; write a number and a unit", command.length())
-    return found[1] + found[2] + found[3]
-
-
-def dimension(formula, command):
-    """A dimension of TeX's that follows."""
-    text, token = "", formula.reader.next_expanded()
-    while token is not None:
-        if token.kind == tokens.NAME and token.text in LENGTHS:
-            text = text.strip() or "1"
-            return scaled(text, LENGTHS[token.text], command)
-        if token.kind == tokens.SPACE and text.strip()[-2:] not in UNITS:
-            text += " "
-        elif token.kind in (tokens.LETTER, tokens.OTHER) and (token.text in "+-.,0123456789=" or token.text.isalpha()):
-            text += "" if token.text == "=" else token.text
-            text = re.sub(r"true$", "", text)
-        else:
-            break
-        if text.strip()[-2:] in UNITS and re.search(r"\d", text):
-            return length(formula, text, command)
-        token = formula.reader.next_expanded()
-    formula.reader.put_back(token)
-    raise Refused(command.place, f"the length after {command.source()} cannot be had; write a number and a unit", command.length())
-
-
-def scaled(factor, amount, command):
-    """A multiple of a length of LaTeX's."""
-    found = re.match(r"([\d.]+)(\w+)", amount)
-    try:
-        sign = -1 if factor.strip().startswith("-") and len(factor.strip()) == 1 else float(factor)
-    except ValueError as error:
-        raise Refused(command.place, f"the length after {command.source()} cannot be had", command.length()) from error
-    return f"{sign * float(found[1]):g}{found[2]}"
-
-
-def skip_stretch(formula):
-    """Skips plus and minus after a glue."""
-    for key in ("plus", "minus"):
-        formula.reader.skip_spaces()
-        taken = []
-        for letter in key:
-            token = formula.reader.next()
-            taken.append(token)
-            if token is None or not token.is_character(letter):
-                break
-        else:
-            dimension(formula, taken[0])
-            continue
-        formula.reader.put_back_all([part for part in taken if part is not None])
-
-
-def number(formula, command):
-    """A number that follows, as text that ends with a space."""
-    token = formula.reader.peek_past_spaces()
-    text, digits = "", "0123456789"
-    if token is not None and token.is_character("="):
-        formula.reader.next()
-        token = formula.reader.peek_past_spaces()
-    if token is not None and token.is_character('"', "'"):
-        digits = "0123456789ABCDEF" if token.text == '"' else "01234567"
-        text = formula.reader.next().text
-    elif token is not None and token.is_character("`"):
-        formula.reader.next()
-        character = formula.reader.next()
-        return "%d " % ord((character.text if character else "")[:1] or " ")
-    token = formula.reader.next_expanded()
-    while token is not None and token.kind in (tokens.LETTER, tokens.OTHER) and token.text in digits:
-        text += token.text
-        token = formula.reader.next_expanded()
-    if token is not None and token.kind != tokens.SPACE and not token.is_name("relax"):
-        formula.reader.put_back(token)
-    if text in ("", '"', "'"):
-        raise Refused(command.place, f"the number after {command.source()} is missing", command.length())
-    return text + " "
-
 
 # Spaces and texts
-
 
 def blank(formula, token):
     """\\ and ~: a blank of the text font."""
@@ -199,32 +81,6 @@ def text(formula, token):
     return formula.text(formula.reader.argument(token), token.place, FONTS.get(token.text) or "rm")
 
 
-def box(formula, token):
-    """\\mbox and its like: always in text size."""
-    found = formula.reader.argument(token)
-    inner = formula.text(found, token.place, "rm", True)
-    return [("{", token.place), ("\\textstyle", token.place), *inner[1:]]
-
-
-def make_box(formula, token):
-    """\\makebox and \\framebox, whose widths are left out."""
-    while formula.reader.optional() is not None:
-        pass
-    return box(formula, token)
-
-
-def framed(formula, token):
-    """\\boxed and \\fbox."""
-    if token.text not in formula.names:
-        formula.warn(token, "the frame is left out")
-        if token.text == "fbox":
-            return box(formula, token)
-        return [("{", token.place), ("\\displaystyle", token.place), *formula.argument(token), ("}", token.place)]
-    if token.text == "fbox":
-        return [("\\fbox", token.place), *box(formula, token)]
-    return [("\\boxed", token.place), *formula.in_braces(token)]
-
-
 def operator_name(formula, token):
     """\\operatorname and \\operatorname*, in whose names - and * are characters of text."""
     has_limits = formula.reader.star() or token.text == "operatornamewithlimits"
@@ -245,73 +101,7 @@ def operator_name(formula, token):
     return [("\\" + name, token.place), ("{", token.place), *inner, ("}", token.place)]
 
 
-# Dots
-
-
-def behind(formula):
-    """The token behind dots, without expansion; a macro of the author's by what begins its body."""
-    token = formula.reader.peek()
-    if token is None or token.kind != tokens.NAME:
-        return token
-    meaning = formula.reader.meanings.get(token.text)
-    body = getattr(meaning, "body", None)
-    if body:
-        first = body[0]
-        return first if first.is_name("mathbin", "mathrel", "not", *BINARY_DOTS, *INTEGRALS) else Token("macro", "", 0)
-    return getattr(meaning, "token", token)
-
-
-def is_before_right(token):
-    """Whether amsmath puts a thin space before this token."""
-    return token is not None and (
-        token.is_character(")", "]") or token.is_name(*RIGHT) or token.kind == tokens.MATH
-    )
-
-
-def dots(formula, token):
-    """\\dots, by the token behind it."""
-    name = token.text
-    next_token = behind(formula)
-    if name in ("dots",):
-        name = kind_of_dots(formula, next_token)
-    sign = "\\ldots" if name in ("dotso", "dotsc", "other") else "\\cdots"
-    if name == "binary":
-        return [("\\cdots", token.place)]
-    if name == "dotsi":
-        return [("\\!", token.place), ("\\cdots", token.place)]
-    has_space = is_before_right(next_token)
-    if next_token is not None and name != "other":
-        has_space |= next_token.is_character(";", ".") or next_token.is_character(",") and name != "dotsc"
-    return [(sign, token.place)] + ([("\\,", token.place)] if has_space else [])
-
-
-def kind_of_dots(formula, token):
-    """Which dots \\dots is before a token."""
-    if token is None:
-        return "other"
-    if token.is_character(","):
-        return "dotsc"
-    if token.is_character("+", "=", "<", ">", "-", "*", ":"):
-        return "binary"
-    if token.kind == tokens.NAME:
-        if token.text in INTEGRALS:
-            return "dotsi"
-        if token.text in BINARY_DOTS or formula.names.classes.get(token.text) in ("Bin", "Rel"):
-            return "binary"
-    if not (token.text or " ").isascii():
-        return "binary" if class_of_character(formula, token.text) in ("Bin", "Rel") else "other"
-    return "other"
-
-
-def class_of_character(formula, char):
-    """The class of a character of Unicode."""
-    from .unicode import NAMES
-
-    return formula.names.classes.get(NAMES.get(char, ""))
-
-
 # Roots, fractions, scripts
-
 
 def root(formula, token):
     """\\sqrt with a degree."""
@@ -491,7 +281,6 @@ def sideset(formula, token):
 
 # Delimiters
 
-
 def delimiter_pieces(formula, command, found=None):
     """The pieces of a delimiter."""
     if found is not None:
@@ -547,7 +336,6 @@ def big(formula, token):
 
 
 # The rest
-
 
 def numbered(formula, token):
     """A command with a number."""
@@ -727,17 +515,6 @@ def to_name(name):
     return renamed
 
 
-def lap(formula, token):
-    """\\mathllap, \\llap and their like."""
-    name = token.text.removeprefix("math")
-    if token.text in formula.names or name in formula.names:
-        known = token.text if token.text in formula.names else name
-        inner = formula.in_braces(token) if token.text.startswith("math") else box(formula, token)
-        return [("\\" + known, token.place), *inner]
-    formula.warn(token, f"what is in {token.source()} takes room here")
-    return formula.in_braces(token) if token.text.startswith("math") else box(formula, token)
-
-
 def first_of_two(formula, token):
     """\\texorpdfstring: its first argument."""
     found = formula.argument(token)
@@ -749,86 +526,6 @@ def raised_text(formula, token):
     """\\textsuperscript and \\textsubscript."""
     mark = "^" if token.text == "textsuperscript" else "_"
     return [("{}", token.place), (mark, token.place), *text(formula, token)]
-
-
-def centred(formula, token):
-    """\\vcenter with boxes of text."""
-    place, rows = token.place, []
-    found = formula.reader.argument(token)
-    formula.reader.put_back(Token("stop", "", place))
-    formula.reader.put_back_all(found)
-    part = formula.reader.next_expanded()
-    while part is not None and part.kind != "stop":
-        if part.is_name("hbox", "mbox"):
-            inner = formula.text(formula.reader.argument(part), part.place, "rm", True)
-            rows += [("\\hbox{$", place), *inner, ("$}", place)]
-        elif part.kind != tokens.SPACE:
-            raise Refused(part.place, f"{part.source()} in \\vcenter; only \\hbox can be there", part.length())
-        part = formula.reader.next_expanded()
-    return [("\\vcenter{", place), *rows, ("}", place)]
-
-
-def raise_box(formula, token):
-    """\\raise, \\lower and \\raisebox: set on the line where the names have no command."""
-    if token.text == "raisebox":
-        amount = length(formula, word(formula, token), token)
-        formula.reader.optional()
-        formula.reader.optional()
-    else:
-        amount = dimension(formula, token)
-        following = formula.reader.peek_past_spaces()
-        if following is not None and following.is_name("hbox", "mbox", "copy"):
-            formula.reader.next()
-    inner = box(formula, token)
-    up = in_points(amount) * (-1 if token.text == "lower" else 1)
-    if "moved" not in formula.names or not LOWEST <= up <= HIGHEST:
-        formula.warn(token, f"what {token.source()} moves is set on the line")
-        return inner
-    above, below = (round(65536 * thickness) for thickness in thicknesses(up))
-    return [("\\moved{%d}{%d}" % (above, below), token.place), *inner]
-
-
-def thicknesses(up):
-    """The thicknesses by which \\moved raises, in points.
-
-    It puts the middle one of three rows, 12pt apart, at the axis. By a rule of thickness t the first row is 1.5t + 2.5 high and
-    the last 1.5t - 2.5 deep. A row whose height or depth towards the middle one is more than 12pt is 1pt from it.
-    """
-    if up <= -4.75:
-        return (14.5 - 2 * (up - 2.5)) / 3, 4
-    if up <= -4.25:
-        return 9.7, (2 * (up - 2.5) + 20.6) / 1.5
-    if up < 0:
-        return 4 - up / 0.75, 4
-    if up <= 1.75:
-        return 4, 4 + up / 0.75
-    below = max(6.4, (2 * (up - 2.5) + 19.5) / 3)
-    return (3 * below - 11 - 2 * (up - 2.5) - 2.5) / 1.5, below
-
-
-def in_points(amount):
-    """A length as points."""
-    units = {"pt": 1, "mm": 2.84528, "cm": 28.4528, "in": 72.27, "em": 10.00002, "ex": 4.30554, "pc": 12, "bp": 1.00375,
-             "sp": 1 / 65536, "dd": 1.07, "cc": 12.84, "mu": 0.55556}  # fmt: skip
-    found = re.match(r"([-+]?)([\d.,]+)(\w\w)", amount)
-    value = float(found[2].replace(",", ".").strip() or 0) if found and found[2] not in (".", ",") else 0
-    return -value * units[found[3]] if found and found[1] == "-" else value * units[found[3]] if found else 0
-
-
-def rule(formula, token):
-    """\\rule, by the rule of a fraction of nothing, which \\moved puts where it belongs."""
-    lift = formula.reader.optional()
-    up = in_points(length(formula, written(formula, lift, token), token)) if lift else 0
-    width, height = (length(formula, word(formula, token), token) for _ in range(2))
-    if in_points(width) <= 0 or in_points(height) <= 0:
-        return []
-    # The rule of a fraction is in the middle of the axis, which is 2.5pt high.
-    up -= 2.5 - in_points(height) / 2
-    if "moved" not in formula.names or not LOWEST <= up <= HIGHEST:
-        raise Refused(token.place, "\\rule of this size cannot be had", token.length())
-    above, below = (round(65536 * thickness) for thickness in thicknesses(up))
-    fraction = "{{\\hskip%s\\relax \\above%s }}" % (width, height)
-    return [("\\kern-1.2pt \\moved{%d}{%d}%s\\kern-1.2pt " % (above, below, fraction), token.place)]
 
 
 def shove(formula, token):
