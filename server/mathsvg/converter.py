@@ -16,6 +16,8 @@ from .program import TOP, CannotRun
 
 PROCESS = pathlib.Path(__file__).resolve().parent / "converting.py"
 PACKAGE = TOP / "examples"
+# Seconds in which a process has to be ready.
+STARTING = 20.0
 # A process is used for at least so many formulas.
 SHARE = 32
 HEAVY = "the macros of this formula take too much time or memory"
@@ -33,6 +35,7 @@ class Converter:
             raise CannotRun(f"there is no package latex in {PACKAGE}")
         self.names, self.limits = names, limits
         self.process = None
+        self.is_ready = False
         self.unread = b""
 
     def close(self):
@@ -49,6 +52,7 @@ class Converter:
         words = [sys.executable, str(PROCESS), str(PACKAGE), str(self.names or os.devnull)]
         self.process = subprocess.Popen(words, stdin=subprocess.PIPE, stdout=subprocess.PIPE, stderr=subprocess.DEVNULL)
         self.unread = b""
+        self.is_ready = False
         most = self.limits.converter_memory
         resource.prlimit(self.process.pid, resource.RLIMIT_AS, (most, most))
 
@@ -61,7 +65,9 @@ class Converter:
             try:
                 self.convert_all(batch, left, deadline)
             except Ended:
-                self.close()
+                # One that is still being started is waited for by the next request.
+                if self.is_ready or self.process.poll() is not None:
+                    self.close()
                 if not is_last or time.monotonic() >= batch.deadline:
                     return False
                 sheet = left.pop(0)
@@ -72,6 +78,9 @@ class Converter:
         """Converts sheets, and takes each from the list as it is converted."""
         if self.process is None:
             self.start()
+        if not self.is_ready:
+            self.answer(deadline, STARTING)
+            self.is_ready = True
         formulas = [(sheet.formula.source, sheet.formula.display) for sheet in left]
         request = json.dumps({"definitions": batch.asked_definitions, "formulas": formulas})
         try:
@@ -79,29 +88,29 @@ class Converter:
             self.process.stdin.flush()
         except BrokenPipeError:
             raise Ended from None
-        fault = self.answer(deadline)["fault"]
+        fault = json.loads(self.answer(deadline, self.limits.conversion_seconds))["fault"]
         if fault:
             batch.refuse(fault[0], fault[2], fault[1])
             left.clear()
         while left:
-            take(left[0], self.answer(deadline))
+            take(left[0], self.answer(deadline, self.limits.conversion_seconds))
             left.pop(0)
 
-    def answer(self, deadline):
-        """The next line of the process."""
-        end = min(deadline, time.monotonic() + self.limits.conversion_seconds)
+    def answer(self, deadline, seconds):
+        """The next line of the process, as bytes."""
+        end = min(deadline, time.monotonic() + seconds)
         poll = select.poll()
         poll.register(self.process.stdout, select.POLLIN)
         while b"\n" not in self.unread:
-            seconds = end - time.monotonic()
-            if seconds <= 0 or not poll.poll(1000 * seconds):
+            left = end - time.monotonic()
+            if left <= 0 or not poll.poll(1000 * left):
                 raise Ended
             data = os.read(self.process.stdout.fileno(), 1 << 16)
             if not data:
                 raise Ended
             self.unread += data
         line, _, self.unread = self.unread.partition(b"\n")
-        return json.loads(line)
+        return line
 
 
 class Converters:
@@ -131,22 +140,22 @@ class Converters:
             member.close()
 
 
-def take(sheet, answer):
+def take(sheet, line):
     """Gives a sheet its text, or its fault."""
     source = sheet.formula.source
     sheet.is_converted = True
+    answer, _, places = line.partition(b"\t")
+    answer = json.loads(answer)
     if "fault" in answer:
         place, length, text = answer["fault"]
         sheet.result = fault_at(source, place, text, length)
         return
     text = answer["text"]
-    offsets = [offset for offset, _ in answer["places"]]
 
     def own_fault(offset, said):
-        if offset >= len(text):
-            return fault_at(source, len(source), said)
-        number = bisect.bisect_right(offsets, offset) - 1
-        place = answer["places"][number][1] if number >= 0 else 0
-        return fault_at(source, min(len(source), place), said)
+        found = json.loads(places)
+        number = bisect.bisect_right([offset for offset, _ in found], offset) - 1
+        place = found[number][1] if number >= 0 else 0
+        return fault_at(source, len(source) if offset >= len(text) else min(len(source), place), said)
 
     sheet.take(text.encode(), own_fault)

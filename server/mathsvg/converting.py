@@ -60,23 +60,23 @@ class Converter:
         return copy
 
     def formula(self, source, is_display, meanings):
-        """What comes of a formula: its text and marks, or its fault."""
+        """What comes of a formula: its text or its fault; and the places that pieces of the text come from."""
         texts = self.texts()
         reader = self.new_reader(self.copied(meanings), texts, source)
         try:
             found = self.found(reader, source, is_display)
             converted = self.latex.one(found, reader, self.names)
         except self.refused as refused:
-            return {"fault": placed(refused.fault, source)}
+            return {"fault": placed(refused.fault, source)}, []
         except RecursionError:
-            return {"fault": (0, len(source), "the formula is nested too deeply")}
+            return {"fault": (0, len(source), "the formula is nested too deeply")}, []
         if converted.source is None:
             fault = next(fault for fault in converted.faults if not fault.is_warning)
-            return {"fault": placed(fault, source)}
+            return {"fault": placed(fault, source)}, []
         marks = 2 if found.kind == self.document.DISPLAY else 1
         inner = converted.source[marks:-marks]
         places = [(offset - marks, place) for offset, place in converted.marks if 0 <= offset - marks <= len(inner)]
-        return {"text": inner, "places": places}
+        return {"text": inner}, places
 
     def found(self, reader, source, is_display):
         """The formula in a source, which is without marks; or it is an environment that is a display."""
@@ -129,18 +129,19 @@ def placed(fault, source):
 def main():
     """Answers requests."""
     converter = Converter(*sys.argv[1:3])
+    write("ready")
     for line in sys.stdin.buffer:
         request = json.loads(line)
         meanings, fault = converter.definitions(request["definitions"])
         write({"fault": fault})
         if fault is None:
             for source, is_display in request["formulas"]:
-                write(converter.formula(source, is_display, meanings))
+                write(*converter.formula(source, is_display, meanings))
 
 
-def write(value):
-    """Writes a line."""
-    sys.stdout.write(json.dumps(value, separators=(",", ":")) + "\n")
+def write(*values):
+    """Writes a line, with tabs between values, so that the reader need not read all of them."""
+    sys.stdout.write("\t".join(json.dumps(value, separators=(",", ":")) for value in values) + "\n")
     sys.stdout.flush()
 
 
