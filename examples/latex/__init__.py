@@ -1,12 +1,12 @@
 """LaTeX's formulas as those of mathset.
 
-`convert` reads a text as authors write it in LaTeX, a document or formulas alone, and gives its formulas in order, each as
-a source for mathset that comes after the definitions of examples/latex-names.tex. What cannot be had is a fault with its
-place in the author's text. Python's standard library is all that it needs.
+`convert` reads a text as authors write it in LaTeX, a document or formulas alone, and gives its formulas in order,
+each as a source for mathset that comes after the definitions of examples/latex-names.tex. What cannot be had is a fault
+with its place in the author's text. Python's standard library is all that it needs.
 
     from latex import convert
     result = convert("Let $x \\\\le \\\\text{a half}$.")
-    result.formulas[0].source        # the source, between $ and $, or $$ and $$ for a display; None where it is at fault
+    result.formulas[0].source        # between $ and $, or $$ and $$ for a display; None where it is at fault
     result.formulas[0].is_display
     result.formulas[0].author_offset(7)   # the place in the author's text of a character of the source
     result.faults                    # faults and warnings of all formulas, in order
@@ -25,9 +25,9 @@ __all__ = ["convert", "Conversion", "Converted", "Fault", "decoded"]
 
 
 class Converted(NamedTuple):
-    """A formula: its source for mathset in one line (None where it is at fault), whether it is a display, the places of its
-    opening mark and of its last token before the closing mark, and its faults and warnings. `marks` has pairs, of an offset in the source and of the
-    author's place that it comes from, in the order of the source."""
+    """A formula: its source for mathset in one line (None where it is at fault), whether it is a display, the places of
+    its opening mark and of its last token before the closing mark, and its faults and warnings. `marks` has pairs, of
+    an offset in the source and of the author's place that it comes from, in the order of the source."""
 
     source: object
     is_display: bool
@@ -43,8 +43,8 @@ class Converted(NamedTuple):
 
 
 class Conversion(NamedTuple):
-    """What `convert` gives: the formulas, all faults in order, and the texts that places are in. A place below `own` is in
-    the definitions; the author's text begins at `own`, so an offset in it is the place less `own`."""
+    """What `convert` gives: the formulas, all faults in order, and the texts that places are in. A place below `own` is
+    in the definitions; the author's text begins at `own`, so an offset in it is the place less `own`."""
 
     formulas: list
     faults: list
@@ -63,9 +63,9 @@ class Conversion(NamedTuple):
 def convert(text, definitions="", name="formula", definitions_name="definitions", names=None, most=None):
     """Converts a text of LaTeX's.
 
-    `text` is the author's text and `definitions` what is read before it, as \\newcommand; formulas in the definitions are
-    not given. `name` and `definitions_name` are shown for places in them; files that \\input names are looked for beside
-    `name`. `names` is the path of the file of definitions for mathset that the output comes after, by default
+    `text` is the author's text and `definitions` what is read before it, as \\newcommand; formulas in the definitions
+    are not given. `name` and `definitions_name` are shown for places in them; files that \\input names are looked for
+    beside `name`. `names` is the path of the file of definitions for mathset that the output comes after, by default
     examples/latex-names.tex. After `most` formulas the rest is not read. Nothing is raised for what a text may contain.
     """
     texts = Texts()
