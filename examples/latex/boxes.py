@@ -88,8 +88,8 @@ def raise_box(formula, token):
 def thicknesses(up):
     """The thicknesses by which \\moved raises, in points.
 
-    It puts the middle one of three rows, 12pt apart, at the axis. By a rule of thickness t the first row is 1.5t + 2.5 high and
-    the last 1.5t - 2.5 deep. A row whose height or depth towards the middle one is more than 12pt is 1pt from it.
+    It puts the middle one of three rows, 12pt apart, at the axis. By a rule of thickness t the first row is 1.5t + 2.5
+    high and the last 1.5t - 2.5 deep. A row whose height or depth towards the middle one is more than 12pt is 1pt from it.
     """
     if up <= -4.75:
         return (14.5 - 2 * (up - 2.5)) / 3, 4

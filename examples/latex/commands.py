@@ -117,7 +117,8 @@ def root(formula, token):
         return found
     # The mu of text style is 10.00002pt / 18; the degree is in the smallest size.
     points = left * 0.55556
-    return [(f"\\mkern{-left}mu ", place), *found[:2], *inner, (f"\\kern{points:g}pt ", place), *found[2 + len(inner) + 0 :]]
+    return [(f"\\mkern{-left}mu ", place), *found[:2], *inner, (f"\\kern{points:g}pt ", place),
+        *found[2 + len(inner) + 0 :]]
 
 
 def moved_degree(formula, degree, token):
@@ -152,7 +153,8 @@ def root_of(formula, token):
     inner = formula.list(lambda part: part.is_name("of"))
     if formula.reader.next() is None:
         raise Refused(token.place, "\\root without \\of", token.length())
-    return [("\\root", token.place), ("{", token.place), *inner, ("}", token.place), ("\\of", token.place), *formula.field(token)]
+    return [("\\root", token.place), ("{", token.place), *inner, ("}", token.place), ("\\of", token.place),
+        *formula.field(token)]
 
 
 def genfrac(formula, token):
@@ -175,7 +177,8 @@ def genfrac(formula, token):
     if amount and not is_zero:
         bar.append((amount + " ", place))
     begin = [("{", place)] + ([(styles[style], place)] if style in styles else [])
-    return begin + [("{", place), *formula.in_braces(token), *bar, *formula.in_braces(token), ("}", place), ("}", place)]
+    return begin + [("{", place), *formula.in_braces(token), *bar, *formula.in_braces(token), ("}", place),
+        ("}", place)]
 
 
 def cfrac(formula, token):
@@ -198,7 +201,8 @@ def integral(formula, token):
     following = formula.reader.peek_past_spaces()
     sign = [("\\" + token.text, token.place)]
     if following is not None and following.is_name("limits"):
-        before, inside = "\\mkern-7mu \\mathchoice{\\mkern-2mu }{}{}{}\\mathop", "\\mkern7mu \\mathchoice{\\mkern2mu }{}{}{}"
+        before = "\\mkern-7mu \\mathchoice{\\mkern-2mu }{}{}{}\\mathop"
+        inside = "\\mkern7mu \\mathchoice{\\mkern2mu }{}{}{}"
         return [(before, token.place), ("{", token.place), (inside, token.place), *sign, ("}", token.place)]
     return sign
 
@@ -211,7 +215,8 @@ def over_class(formula, token):
     kind = class_of(formula, base)
     wrapped = {"Bin": "\\mathbin", "Rel": "\\mathrel"}.get(kind, "")
     mark = "^" if token.text == "overset" else "_"
-    inner = [("\\mathop", place), ("{", place), ("\\kern0pt ", place), *base[1:-1], ("}", place), ("\\limits" + mark, place), *script]
+    inner = [("\\mathop", place), ("{", place), ("\\kern0pt ", place), *base[1:-1], ("}", place),
+        ("\\limits" + mark, place), *script]
     return [(wrapped, place), ("{", place), *inner, ("}", place)] if wrapped else [("{", place), *inner, ("}", place)]
 
 
@@ -272,7 +277,8 @@ def sideset(formula, token):
     left, right = formula.argument(token), formula.argument(token)
     base = formula.field(token)
     place = token.place
-    scripts = formula.list(lambda part: part.kind not in (tokens.UP, tokens.DOWN, tokens.SPACE) and not part.is_character("'"))
+    scripts = formula.list(lambda part: part.kind not in (tokens.UP, tokens.DOWN,
+        tokens.SPACE) and not part.is_character("'"))
     strut = [("\\vphantom", place), ("{\\displaystyle", place), *base, ("}", place)]
     front = [("{", place), *strut, ("}", place), *left] if left else []
     core = [*base, ("\\nolimits", place), *right]
@@ -315,7 +321,8 @@ def left(formula, token):
     found = [("\\left", token.place), *delimiter_pieces(formula, token)]
     formula.reader.meanings.open()
     while True:
-        found += formula.list(lambda part: part.is_name("right", "middle") or part.kind in (tokens.END, tokens.TAB, tokens.MATH))
+        found += formula.list(lambda part: part.is_name("right", "middle") or part.kind in (tokens.END, tokens.TAB,
+            tokens.MATH))
         closing = formula.reader.next()
         if closing is None or closing.kind != tokens.NAME:
             raise Refused(token.place, "\\left without \\right", token.length())
@@ -449,7 +456,8 @@ def buildrel(formula, token):
     if formula.reader.next() is None:
         raise Refused(token.place, "\\buildrel without \\over", token.length())
     place = token.place
-    return [("\\mathrel{\\mathop{\\kern0pt ", place), *formula.field(token), ("}\\limits^{", place), *above, ("}}", place)]
+    return [("\\mathrel{\\mathop{\\kern0pt ", place), *formula.field(token), ("}\\limits^{", place), *above,
+        ("}}", place)]
 
 
 def begin(formula, token):
@@ -464,7 +472,8 @@ def stray_end(formula, token):
 
 def new_row(formula, token):
     """A \\\\ outside of rows: LaTeX leaves it out there."""
-    raise Refused(token.place, f"{token.source()} outside of an environment with rows; write aligned or gathered", token.length())
+    raise Refused(token.place, f"{token.source()} outside of an environment with rows; write aligned or gathered",
+        token.length())
 
 
 def plain_table(formula, token):
@@ -534,17 +543,21 @@ def shove(formula, token):
 
 
 COMMANDS = {
-    " ": blank, "nobreakspace": blank, "space": blank, "\t": blank, "\n": blank, "hspace": hspace, "mspace": mspace, "hskip": glue,
+    " ": blank, "nobreakspace": blank, "space": blank, "\t": blank, "\n": blank, "hspace": hspace, "mspace": mspace,
+    "hskip": glue,
     "mskip": glue, "kern": kern, "mkern": kern, "text": text, "textrm": text, "textup": text, "textnormal": text,
-    "textit": text, "textsl": text, "textbf": text, "texttt": text, "textsf": text, "emph": text, "textsc": text, "textmd": text,
+    "textit": text, "textsl": text, "textbf": text, "texttt": text, "textsf": text, "emph": text, "textsc": text,
+    "textmd": text,
     "mbox": box, "hbox": box, "makebox": make_box, "framebox": make_box, "boxed": framed, "fbox": framed,
     "operatorname": operator_name, "operatornamewithlimits": operator_name,
     "dots": dots, "dotso": dots, "dotsc": dots, "dotsb": dots, "dotsm": dots, "dotsi": dots, "cdots": dots,
     "sqrt": root, "root": root_of, "genfrac": genfrac, "cfrac": cfrac, "substack": substack, "overset": over_class,
-    "underset": over_class, "overunderset": over_under, "smash": smash, "sideset": sideset, "left": left, "right": stray_right,
+    "underset": over_class, "overunderset": over_under, "smash": smash, "sideset": sideset, "left": left,
+    "right": stray_right,
     "middle": stray_right, "mathchar": numbered, "delimiter": numbered, "fam": numbered, "radical": accent_number,
     "mathaccent": accent_number, "char": char, "symbol": char, "label": drop_argument, "index": drop_argument,
-    "nonumber": nothing, "notag": nothing, "protect": nothing, "displaylimits": lambda f, t: [("\\displaylimits", t.place)],
+    "nonumber": nothing, "notag": nothing, "protect": nothing, "displaylimits": lambda f,
+    t: [("\\displaylimits", t.place)],
     "footnote": drop_warned, "footnotemark": nothing, "cite": drop_warned, "ref": drop_warned, "eqref": drop_warned,
     "marginpar": drop_warned, "color": color, "textcolor": colored, "colorbox": colored, "ensuremath": inner_formula,
     "tag": tag, "eqno": equation_number, "leqno": equation_number, "bgroup": begin_group, "begingroup": begin_group,
@@ -553,13 +566,17 @@ COMMANDS = {
     "cases": plain_table, "eqalign": plain_table, "eqalignno": plain_table, "leqalignno": plain_table,
     "displaylines": plain_table, "bordermatrix": plain_table, "bm": bold, "boldsymbol": bold, "pmb": bold,
     "skew": skew, "hfill": nothing, "hfil": nothing, "hss": nothing, "vspace": drop_argument, "smallskip": nothing,
-    "medskip": nothing, "bigskip": nothing, "par": nothing, "noindent": nothing, "allowbreak": nothing, "nobreak": nothing,
-    "small": nothing, "footnotesize": nothing, "scriptsize": nothing, "tiny": nothing, "normalsize": nothing, "large": nothing,
+    "medskip": nothing, "bigskip": nothing, "par": nothing, "noindent": nothing, "allowbreak": nothing,
+    "nobreak": nothing,
+    "small": nothing, "footnotesize": nothing, "scriptsize": nothing, "tiny": nothing, "normalsize": nothing,
+    "large": nothing,
     "Large": nothing, "LARGE": nothing, "huge": nothing, "Huge": nothing, "boldmath": nothing, "unboldmath": nothing,
-    "normalfont": nothing, "displaybreak": lambda f, t: f.reader.optional() and [] or [], "penalty": lambda f, t: number(f, t) and [],
+    "normalfont": nothing, "displaybreak": lambda f, t: f.reader.optional() and [] or [], "penalty": lambda f,
+    t: number(f, t) and [],
     "limits": lambda f, t: [("\\limits", t.place)], "nolimits": lambda f, t: [("\\nolimits", t.place)],
     "mathllap": lap, "mathrlap": lap, "mathclap": lap, "llap": lap, "rlap": lap, "raise": raise_box, "lower": raise_box,
-    "raisebox": raise_box, "rule": rule, "shoveleft": shove, "shoveright": shove, "centering": nothing, "strut": lambda f, t: [("\\strut", t.place)],
+    "raisebox": raise_box, "rule": rule, "shoveleft": shove, "shoveright": shove, "centering": nothing,
+    "strut": lambda f, t: [("\\strut", t.place)],
     "qedhere": nothing, "xspace": nothing, "allowdisplaybreaks": lambda f, t: f.reader.optional() and [] or [],
     "texorpdfstring": first_of_two, "textsuperscript": raised_text, "textsubscript": raised_text, "vcenter": centred,
     "em": lambda f, t: [("\\it", t.place)], "nolinebreak": nothing, "linebreak": nothing, "nopagebreak": nothing,
@@ -568,15 +585,18 @@ COMMANDS = {
     "overwithdelims": lambda f, t: [("\\overwithdelims", t.place), *delimiter_pieces(f, t), *delimiter_pieces(f, t)],
     "atopwithdelims": lambda f, t: [("\\atopwithdelims", t.place), *delimiter_pieces(f, t), *delimiter_pieces(f, t)],
     "abovewithdelims": lambda f, t: [
-        ("\\abovewithdelims", t.place), *delimiter_pieces(f, t), *delimiter_pieces(f, t), (dimension(f, t) + " ", t.place),
+        ("\\abovewithdelims", t.place), *delimiter_pieces(f, t), *delimiter_pieces(f, t),
+        (dimension(f, t) + " ", t.place),
     ],
     "iint": integral, "iiint": integral, "iiiint": integral, "idotsint": integral,
     "thinspace": lambda f, t: [("\\,", t.place)], "negthinspace": lambda f, t: [("\\!", t.place)],
     "medspace": lambda f, t: [("\\>", t.place)], "thickspace": lambda f, t: [("\\;", t.place)],
 }  # fmt: skip
 COMMANDS.update(dict.fromkeys(ARROWS, extensible))
-COMMANDS.update(dict.fromkeys([size + side for size in ("big", "Big", "bigg", "Bigg") for side in ("", "l", "m", "r")], big))
+COMMANDS.update(dict.fromkeys([size + side for size in ("big", "Big", "bigg", "Bigg") for side in ("", "l", "m",
+"r")], big))
 for _name in ("Hat", "Check", "Tilde", "Acute", "Grave", "Dot", "Ddot", "Breve", "Bar", "Vec"):
     COMMANDS[_name] = to_name("\\" + _name.lower())
-for _name in ("mathrm", "mathit", "mathbf", "mathtt", "mathsf", "mathcal", "mathbb", "mathfrak", "mathscr", "mathnormal"):
+for _name in ("mathrm", "mathit", "mathbf", "mathtt", "mathsf", "mathcal", "mathbb", "mathfrak", "mathscr",
+    "mathnormal"):
     COMMANDS[_name] = math_font

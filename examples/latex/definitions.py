@@ -138,7 +138,8 @@ def document_command(reader, command):
         elif part.is_character("o"):
             default = ()
         elif not part.is_character("m"):
-            raise Refused(command.place, f"an argument {part.text} of {command.source()} cannot be had", command.length())
+            raise Refused(command.place, f"an argument {part.text} of {command.source()} cannot be had",
+                command.length())
         kinds.append(part.text)
     if any(kind != "m" for kind in kinds[1:]):
         raise Refused(command.place, "only the first argument can be optional", command.length())
@@ -235,7 +236,8 @@ def same(reader, command):
     if meanings[0] is None and meanings[1] is None:
         choose(reader, command, (first.kind, first.text) == (second.kind, second.text))
         return
-    bodies = [[(part.kind, part.text) for part in meaning.body] if isinstance(meaning, Macro) else meaning for meaning in meanings]
+    bodies = [[(part.kind, part.text) for part in meaning.body] if isinstance(meaning,
+        Macro) else meaning for meaning in meanings]
     choose(reader, command, bodies[0] == bodies[1])
 
 

@@ -11,12 +11,16 @@ VERBATIM = """verbatim verbatim* Verbatim lstlisting comment minted filecontents
 LTXexample example""".split()
 # Commands of texts with the arguments that are no formulas: o is one in brackets, m one in braces.
 SKIPPED = {
-    "label": "m", "ref": "m", "eqref": "m", "cite": "oom", "citep": "oom", "citet": "oom", "url": "m", "href": "m", "path": "m",
+    "label": "m", "ref": "m", "eqref": "m", "cite": "oom", "citep": "oom", "citet": "oom", "url": "m", "href": "m",
+    "path": "m",
     "includegraphics": "om", "documentclass": "om", "bibliography": "m",
-    "bibliographystyle": "m", "pagestyle": "m", "index": "m", "hypersetup": "m", "usetikzlibrary": "m", "pgfplotsset": "m",
-    "lstset": "m", "hyphenation": "m", "vspace": "m", "hspace": "m", "setlength": "mm", "addtolength": "mm", "setcounter": "mm",
+    "bibliographystyle": "m", "pagestyle": "m", "index": "m", "hypersetup": "m", "usetikzlibrary": "m",
+    "pgfplotsset": "m",
+    "lstset": "m", "hyphenation": "m", "vspace": "m", "hspace": "m", "setlength": "mm", "addtolength": "mm",
+    "setcounter": "mm",
     "addtocounter": "mm", "newcounter": "mo", "newlength": "m", "color": "om", "definecolor": "mmm", "pageref": "m",
-    "numberwithin": "mm", "DeclareFontFamily": "mmm", "DeclareSymbolFont": "mmmmm", "fontfamily": "m", "inputencoding": "m",
+    "numberwithin": "mm", "DeclareFontFamily": "mmm", "DeclareSymbolFont": "mmmmm", "fontfamily": "m",
+    "inputencoding": "m",
     "lstinputlisting": "om", "newsavebox": "m", "newfont": "mm", "DeclareUnicodeCharacter": "mm", "catcode": "",
 }  # fmt: skip
 WITH_MARKS = ("verb", "lstinline", "mintinline")
@@ -200,7 +204,8 @@ class Document:
             depth += (token.kind == tokens.BEGIN) - (token.kind == tokens.END)
             if depth < 0:
                 self.reader.put_back(token)
-                raise Refused(opening.place, "the formula that begins here does not end before the group round it", opening.length())
+                raise Refused(opening.place, "the formula that begins here does not end before the group round it",
+                    opening.length())
             found.append(token)
 
     def next_of_formula(self, opening):
@@ -208,7 +213,8 @@ class Document:
         while True:
             token = self.reader.next()
             if token is None or token.is_name("par"):
-                raise Refused(opening.place, "the formula that begins here does not end in its paragraph", opening.length())
+                raise Refused(opening.place, "the formula that begins here does not end in its paragraph",
+                    opening.length())
             if token.kind != tokens.NAME:
                 return token
             meaning = self.reader.meanings.get(token.text)

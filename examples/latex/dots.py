@@ -5,7 +5,8 @@ from .tokens import Token
 from .unicode import NAMES
 
 # What amsmath puts a thin space before.
-RIGHT = ["rbrack", "}", "rbrace", "rangle", "rceil", "rfloor", "rgroup", "rmoustache", "right", "bigr", "biggr", "Bigr", "Biggr"]
+RIGHT = ["rbrack", "}", "rbrace", "rangle", "rceil", "rfloor", "rgroup", "rmoustache", "right", "bigr", "biggr",
+    "Bigr", "Biggr"]
 BINARY_DOTS = """coprod bigvee bigwedge biguplus bigcap bigcup prod sum bigotimes bigoplus bigodot bigsqcup implies impliedby
 longrightarrow Longrightarrow longleftarrow Longleftarrow longleftrightarrow Longleftrightarrow mapsto longmapsto
 hookrightarrow hookleftarrow iff doteq And not ne neq mathbin mathrel""".split()

@@ -14,7 +14,8 @@ MATRICES = {
     "Vmatrix": ("\\|", "\\|"), "dmatrix": ("", ""),
 }  # fmt: skip
 CASES = {"cases": ("\\{", "."), "dcases": ("\\{", "."), "rcases": (".", "\\}"), "drcases": (".", "\\}")}
-ALIGNED = ("aligned", "split", "alignedat", "align", "alignat", "flalign", "eqnarray", "xalignat", "xxalignat", "IEEEeqnarray")
+ALIGNED = ("aligned", "split", "alignedat", "align", "alignat", "flalign", "eqnarray", "xalignat", "xxalignat",
+    "IEEEeqnarray")
 GATHERED = ("gathered", "gather", "multline", "multlined", "lgathered", "rgathered")
 SINGLE = ("equation", "displaymath", "math", "dmath", "subequations", "empheq", "linenomath")
 WITH_COUNT = ("alignedat", "alignat", "xalignat", "xxalignat", "IEEEeqnarray")
@@ -191,9 +192,10 @@ def lines(rows, place):
 
 
 def table(word, rows, place):
-    """A table, with no space round it; the columns of \\matrix are 10pt apart, as LaTeX's, and its rows have a strut."""
+    """A table, with no space round it. The columns of \\matrix are 10pt apart as LaTeX's, and its rows have a strut."""
     if word == "matrix":
-        rows = [[[("\\mathstrut", place), *cells[0]]] + [[TO_LATEX, *cell] for cell in cells[1:]] if cells else [] for cells in rows]
+        rows = [[[("\\mathstrut", place), *cells[0]]] + [[TO_LATEX,
+            *cell] for cell in cells[1:]] if cells else [] for cells in rows]
     return [("\\!", place), ("\\" + word, place), ("{", place), *lines(rows, place), ("}", place), ("\\!", place)]
 
 
@@ -229,7 +231,8 @@ def split_columns(rows, groups, style, place):
         for cells in rows:
             own = cells[first : first + count]
             others = cells[:first] + cells[first + count :]
-            part.append([level(own[0] if own else [], others, style, place), *(styled(cell, style, place) for cell in own[1:])])
+            part.append([level(own[0] if own else [], others, style, place),
+            *(styled(cell, style, place) for cell in own[1:])])
         found.append(part)
     return found
 
@@ -356,7 +359,8 @@ def array(formula, token, name):
     elif "c" not in aligns:
         inner = eqalign_columns(whole, aligns, place)
     else:
-        inner = table("matrix", [[pad(cell, whole, at, aligns, place) for at, cell in enumerate(row)] for row in whole], place)
+        inner = table("matrix", [[pad(cell, whole, at, aligns, place) for at,
+            cell in enumerate(row)] for row in whole], place)
     return [("{", place), *outer[0], *inner, *outer[1], ("}", place)]
 
 

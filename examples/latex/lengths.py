@@ -62,7 +62,8 @@ def dimension(formula, command):
             return length(formula, text, command)
         token = formula.reader.next_expanded()
     formula.reader.put_back(token)
-    raise Refused(command.place, f"the length after {command.source()} cannot be had; write a number and a unit", command.length())
+    raise Refused(command.place, f"the length after {command.source()} cannot be had; write a number and a unit",
+        command.length())
 
 
 def scaled(factor, amount, command):

@@ -162,7 +162,7 @@ class Reader:
         return self.until_bracket(token)
 
     def optional_at_once(self):
-        """The argument in brackets that follows directly, or after spaces in the same line; None where there is none."""
+        """The argument in brackets that follows directly; None where there is none."""
         token = self.next()
         if token is not None and token.is_character("["):
             return self.until_bracket(token)
@@ -274,7 +274,8 @@ class Reader:
         if has_star:
             left, right = [Token(tokens.NAME, "left", 0), *left], [Token(tokens.NAME, "right", 0), *right]
         elif size:
-            left, right = [size[0]._replace(text=size[0].text + "l"), *left], [size[0]._replace(text=size[0].text + "r"), *right]
+            left, right = [size[0]._replace(text=size[0].text + "l"),
+                *left], [size[0]._replace(text=size[0].text + "r"), *right]
         found = [part._replace(place=token.place) for part in left]
         return found + inner + [part._replace(place=token.place) for part in right]
 

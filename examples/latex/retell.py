@@ -1,7 +1,7 @@
 """python3 -m latex.retell MAP BEFORE <LOG: what mathset says of a source that from-latex wrote, by the author's lines.
 
-MAP is the map of from-latex, and BEFORE the number of lines that were put before its output. The lines of the log without a
-place in that output are printed as they are.
+MAP is the map of from-latex, and BEFORE the number of lines that were put before its output. The lines of the log
+without a place in that output are printed as they are.
 """
 
 import bisect

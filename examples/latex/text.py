@@ -31,7 +31,8 @@ COMMANDS = {
     "textrm": "rm", "textup": None, "textnormal": "rm", "textmd": None, "text": None, "mbox": None, "hbox": None,
     "textit": "it", "emph": "it", "textsl": "sl", "textbf": "bf", "texttt": "tt", "textsf": "sf", "mathrm": "rm",
     "textsc": None, "mathit": "it", "mathbf": "bf", "mathsf": "sf", "mathtt": "tt", "ensuremath": "math",
-    "uppercase": None, "MakeUppercase": None, "textsuperscript": None, "fbox": None, "underline": None, "textcolor": None,
+    "uppercase": None, "MakeUppercase": None, "textsuperscript": None, "fbox": None, "underline": None,
+    "textcolor": None,
 }  # fmt: skip
 SWITCHES = {
     "rm": "rm", "rmfamily": "rm", "it": "it", "itshape": "it", "em": "it", "sl": "sl", "slshape": "sl", "bf": "bf",
@@ -39,8 +40,9 @@ SWITCHES = {
     "mdseries": "rm", "sc": None, "scshape": None,
 }  # fmt: skip
 SIZES = "small footnotesize scriptsize tiny large Large LARGE huge Huge".split()
-IGNORED = """relax displaystyle textstyle scriptstyle normalsize strut centering raggedright noindent null protect nonumber notag leavevmode boldmath unboldmath - par singlespacing
-selectfont ignorespaces unskip allowbreak nobreak linebreak newline""".split()
+IGNORED = """relax displaystyle textstyle scriptstyle normalsize strut centering raggedright noindent null protect
+nonumber notag leavevmode boldmath unboldmath - par singlespacing selectfont ignorespaces unskip
+allowbreak nobreak linebreak newline""".split()
 SYMBOLS = {
     "%": 0x25, "&": 0x26, "#": 0x23, "$": 0x24, "ss": 0x19, "ae": 0x1A, "oe": 0x1B, "o": 0x1C, "AE": 0x1D, "OE": 0x1E,
     "O": 0x1F, "i": 0x10, "j": 0x11, "textendash": 0x7B, "textemdash": 0x7C, "lq": 0x60, "rq": 0x27, "colon": 0x3A,
@@ -53,7 +55,8 @@ MATH_SYMBOLS = {
     "textdegree": "020E", "texttimes": "0202", "textpm": "0206",
 }  # fmt: skip
 ACCENTS = {
-    "'": "acute", "`": "grave", "^": "hat", '"': "ddot", "~": "tilde", "=": "bar", ".": "dot", "v": "check", "u": "breve",
+    "'": "acute", "`": "grave", "^": "hat", '"': "ddot", "~": "tilde", "=": "bar", ".": "dot", "v": "check",
+    "u": "breve",
     "r": "mathring", "H": "ddot", "c": None, "k": None, "d": None, "b": None, "t": None,
 }  # fmt: skip
 SPACES = {
@@ -62,13 +65,16 @@ SPACES = {
     "enspace": "\\kern.5em ", "enskip": "\\hskip.5em\\relax ", "negthinspace": "\\kern-.16667em ",
 }  # fmt: skip
 UNICODE = {
-    "\u2013": "--", "\u2014": "---", "\u2018": "`", "\u2019": "'", "\u201c": "``", "\u201d": "''", "\u00a0": "~", "\u2026": None,
-    "\u00df": "\\ss ", "\u00f8": "\\o ", "\u00d8": "\\O ", "\u00e6": "\\ae ", "\u00c6": "\\AE ", "\u0153": "\\oe ", "\u0152": "\\OE ",
+    "\u2013": "--", "\u2014": "---", "\u2018": "`", "\u2019": "'", "\u201c": "``", "\u201d": "''", "\u00a0": "~",
+    "\u2026": None,
+    "\u00df": "\\ss ", "\u00f8": "\\o ", "\u00d8": "\\O ", "\u00e6": "\\ae ", "\u00c6": "\\AE ", "\u0153": "\\oe ",
+    "\u0152": "\\OE ",
     "\u2212": "-", "\u2010": "-", "\u0131": "\\i ", "\u0237": "\\j ",
 }  # fmt: skip
 DOUBLES = {"d": "\\u", "\u030b": "ddot"}
 ACCENT_MARKS = {
-    "\u0300": "`", "\u0301": "'", "\u0302": "^", "\u0303": "~", "\u0304": "=", "\u0306": "u", "\u0307": ".", "\u0308": '"',
+    "\u0300": "`", "\u0301": "'", "\u0302": "^", "\u0303": "~", "\u0304": "=", "\u0306": "u", "\u0307": ".",
+    "\u0308": '"',
     "\u030a": "r", "\u030b": "H", "\u030c": "v",
 }  # fmt: skip
 DOT_KERN = (109226, 84651, 68268)
@@ -169,7 +175,8 @@ class Text:
         """How long the next blank is, in thousandths (The TeXbook, chapter 12)."""
         if char in ")'\"]":
             return
-        factor = {".": 3000, "?": 3000, "!": 3000, ":": 2000, ";": 1500, ",": 1250}.get(char, 999 if char.isupper() else 1000)
+        factor = {".": 3000, "?": 3000, "!": 3000, ":": 2000, ";": 1500, ",": 1250}.get(char,
+            999 if char.isupper() else 1000)
         self.factor = 1000 if self.factor < 1000 < factor else factor
 
     def unicode(self, token):
@@ -231,7 +238,8 @@ class Text:
             self.formula.warn(token, "the size of the text is left out")
         elif name in IGNORED:
             return
-        elif name in ("hspace", "hskip", "kern", "raisebox", "raise", "phantom", "hphantom", "vphantom", "rule", "_", "char"):
+        elif name in ("hspace", "hskip", "kern", "raisebox", "raise", "phantom", "hphantom", "vphantom", "rule", "_",
+        "char"):
             self.correct(token.place)
             self.found += self.formula.command(token)
         elif self.formula.is_of_formulas(token):

@@ -22,7 +22,10 @@ CATEGORIES = {
 }  # fmt: skip
 
 # A comment with its line end and the blanks of the next line; an empty line; blanks; a control sequence; a character.
-PATTERN = r"%%[^\n]*(?:\n[ \t]*)?|[ \t\r]*\n[ \t\r]*(?:\n[ \t\r]*)+|[ \t\r]+(?:\n[ \t\r]*)?|\n[ \t\r]*|\\[%s]+|\\[\s\S]|[\s\S]"
+PATTERN = (
+    r"%%[^\n]*(?:\n[ \t]*)?|[ \t\r]*\n[ \t\r]*(?:\n[ \t\r]*)+|[ \t\r]+(?:\n[ \t\r]*)?|\n[ \t\r]*"
+    r"|\\[%s]+|\\[\s\S]|[\s\S]"
+)
 OUTSIDE = re.compile(PATTERN % "A-Za-z")
 INSIDE = re.compile(PATTERN % "A-Za-z@")
 EMPTY_LINE = re.compile(r"[ \t\r]*\n[ \t\r]*\n")
