@@ -3,7 +3,7 @@
 import re
 import unicodedata
 
-from . import tokens
+from . import italic, tokens
 from .places import Refused
 from .tokens import Token
 
@@ -13,11 +13,12 @@ ROMAN = ((218453, 72818, 72818), (176584, 56434, 56434), (154740, 45511, 45511))
 BOLD = ((251220, 83740, 83740), (199156, 65172, 65172), (169298, 52791, 52791))
 ITALIC = ((234471, 66991, 66991), (195881, 53886, 53886), (195881, 53886, 53886))
 SANS = ((218453, 72818, 72818), (162477, 54159, 54159), (116055, 38685, 38685))
+SMALL_CAPITALS = ((247578, 76458, 76458), (173304, 53520, 53520), (123789, 38229, 38229))
 TYPEWRITER = ((344061, 0, 344061), (243715, 0, 243715), (243715, 0, 243715))
 # A font of text: the command of mathset, its family, and its blanks.
 FONTS = {
     "rm": ("\\rm", 0, ROMAN), "it": ("\\it", 4, ITALIC), "sl": ("\\sl", 5, ROMAN), "bf": ("\\bf", 6, BOLD),
-    "tt": ("\\tt", 7, TYPEWRITER), "sf": ("\\fam11 ", 11, SANS),
+    "tt": ("\\tt", 7, TYPEWRITER), "sf": ("\\fam11 ", 11, SANS), "sc": ("\\fam15 ", 15, SMALL_CAPITALS),
 }  # fmt: skip
 # The italic corrections of the last letters of words, which text leaves out, in the three sizes.
 CORRECTIONS = {
@@ -30,14 +31,14 @@ LIKE_V = {"rm": "VWgvwy", "bf": "VWgvwy", "sf": "VWgrvwy"}
 COMMANDS = {
     "textrm": "rm", "textup": None, "textnormal": "rm", "textmd": None, "text": None, "mbox": None, "hbox": None,
     "textit": "it", "emph": "it", "textsl": "sl", "textbf": "bf", "texttt": "tt", "textsf": "sf", "mathrm": "rm",
-    "textsc": None, "mathit": "it", "mathbf": "bf", "mathsf": "sf", "mathtt": "tt", "ensuremath": "math",
+    "textsc": "sc", "mathit": "it", "mathbf": "bf", "mathsf": "sf", "mathtt": "tt", "ensuremath": "math",
     "uppercase": None, "MakeUppercase": None, "textsuperscript": None, "fbox": None, "underline": None,
     "textcolor": None,
 }  # fmt: skip
 SWITCHES = {
     "rm": "rm", "rmfamily": "rm", "it": "it", "itshape": "it", "em": "it", "sl": "sl", "slshape": "sl", "bf": "bf",
     "bfseries": "bf", "tt": "tt", "ttfamily": "tt", "sf": "sf", "sffamily": "sf", "normalfont": "rm", "upshape": "rm",
-    "mdseries": "rm", "sc": None, "scshape": None,
+    "mdseries": "rm", "sc": "sc", "scshape": "sc",
 }  # fmt: skip
 SIZES = "small footnotesize scriptsize tiny large Large LARGE huge Huge".split()
 IGNORED = """relax displaystyle textstyle scriptstyle normalsize strut centering raggedright noindent null protect
@@ -267,8 +268,6 @@ class Text:
             self.add(command, token.place)
             self.found += Text(self.formula, self.font, self.is_fixed).of(inner, token.place)
             return
-        if name == "textsc":
-            self.formula.warn(token, "small capitals cannot be had; the text is set in roman")
         if name in ("uppercase", "MakeUppercase"):
             inner = [part._replace(text=part.text.upper()) if part.kind == tokens.LETTER else part for part in inner]
         self.group(inner, COMMANDS[name] or self.font)
@@ -277,9 +276,6 @@ class Text:
     def switch(self, token):
         """A change of the font up to the end of the group."""
         font = SWITCHES[token.text]
-        if font is None:
-            self.formula.warn(token, "small capitals cannot be had; the text is set in roman")
-            return
         self.correct(token.place)
         self.font = font
         self.add(FONTS[font][0], token.place)
@@ -323,9 +319,9 @@ class Text:
 
     def correct(self, place):
         """Takes back the italic correction of the letter before, which text does not have."""
-        table = CORRECTIONS.get(self.font)
+        table = CORRECTIONS.get(self.font) or italic.CORRECTIONS.get(self.font)
         if table and self.last:
-            key = "V" if self.last in LIKE_V[self.font] else self.last
+            key = "V" if self.last in LIKE_V.get(self.font, "") else self.last
             if key in table:
                 self.add(by_size(table[key], lambda amount: f"\\kern-{amount}sp ", self.is_fixed), place)
         self.last = ""
