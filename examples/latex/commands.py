@@ -471,9 +471,13 @@ def stray_end(formula, token):
 
 
 def new_row(formula, token):
-    """A \\\\ outside of rows: LaTeX leaves it out there."""
-    raise Refused(token.place, f"{token.source()} outside of an environment with rows; write aligned or gathered",
-        token.length())
+    """A \\\\ outside of rows, which breaks no line in a formula of LaTeX's either."""
+    if token.text in ("cr", "tabularnewline"):
+        raise Refused(token.place, f"{token.source()} outside of an environment with rows", token.length())
+    formula.reader.star()
+    formula.reader.optional()
+    formula.warn(token, f"{token.source()} outside of an environment with rows is left out; write aligned or gathered")
+    return []
 
 
 def plain_table(formula, token):
